@@ -1,7 +1,7 @@
 -- What the instructions of a program's blocks name has an address: block by block, and whatever selects stand among them.
-use Rattle.std.proofs.Common.{◌≡◌, ℕ, zero, suc, ◌+◌, ◌<◌, ◌≤◌, Bool, true, false, not, if◌then◌else◌, List, [], ◌∷◌, map, length, get_or, Some, None, refl, sym, ap, ◌∙◌, subst, arith}
+use Rattle.std.proofs.Common.{◌≡◌, ℕ, zero, suc, ◌+◌, ◌-◌, ◌<◌, ◌≤◌, Bool, true, false, not, if◌then◌else◌, List, [], ◌∷◌, map, length, get_or, Option, Some, None, refl, sym, ap, ◌∙◌, subst, true≢false, arith}
 use Rattle.std.specs.List.{AllZip}
-use Rattle.std.specs.Prelude.{slice_get}
+use Rattle.std.specs.Prelude.{nat_lt, slice_get, IsSome}
 use Rattle.std.proofs.lemmas.Option.{slice_get_within, slice_get-get_or}
 use Rattle.c_typed.specs.Roots.{broken_root}
 use Rattle.c_typed.specs.Sound.{is_sound}
@@ -15,17 +15,20 @@ use Rattle.call_graph.specs.Copies.{IsOne}
 use Rattle.call_graph.specs.Numbers.{handler_at}
 use Rattle.call_graph.specs.declared.types.FnCopy.{FnCopy}
 use Rattle.core_code.specs.View.{trees_in}
+use Rattle.core_code.specs.declared.code.Byte.TheVariants as bytes
 use Rattle.core_code.specs.declared.code.CoreProgram.{CoreProgram}
+use Rattle.code_place.specs.Addresses.{frame_byte, file_address}
 use Rattle.code_place.specs.Layouts.{layout_of}
 use Rattle.isr_save.specs.Start.{start_code}
 use Rattle.lean_blocks.specs.Leaner.{IsLeaner}
 use Rattle.lean_blocks.proofs.Whole.{blocks_are_leaner}
-use Rattle.lean_code.specs.Rows.{Keeps, Drops, Puts, Narrows, narrowed, Row, At, olds, puts}
+use Rattle.lean_code.specs.Rows.{Keeps, Drops, Puts, Narrows, narrowed, Clears, cleared, Reads, operand_before, reads_before, Row, At, olds, puts}
 use Rattle.lower_stmt.specs.Bodies.{body_code, code_of as lowered_of, body_of, bodies_of, first_bytes}
 use Rattle.lower_stmt.specs.FirstBytes.{items_of}
 use Rattle.lower_stmt.specs.Frames.{ground_for}
 use Rattle.lower_stmt.specs.Programs.{body_for, body_in, core_of}
 use Rattle.pic_map.specs.MapView.{object_of, frame_of}
+use Rattle.pic_map.specs.declared.FrameLine.{FrameLine}
 use Rattle.pic_map.specs.declared.Placed.{Placed}
 use Rattle.pic_world.specs.declared.Root.{Root}
 use Rattle.program_code.specs.Joined.{IsJoined}
@@ -37,6 +40,8 @@ use Rattle.src_rules.proofs.Starts.{sound_runs}
 use Rattle.src_rules.specs.Numbers.{ProgramHasNumbers}
 use Rattle.sym_code.specs.Selects.{is_select, bare}
 use Rattle.sym_code.specs.declared.code.BlockName.{BlockName}
+use Rattle.sym_code.specs.declared.code.Operand.{Operand}
+use Rattle.sym_code.specs.declared.code.Operand.TheVariants as operands
 use Rattle.sym_code.specs.declared.code.Sym.{Sym}
 use Rattle.sym_code.specs.declared.code.Sym.TheVariants as syms
 use Rattle.sym_code.specs.declared.code.SymBlock.{SymBlock}
@@ -126,6 +131,53 @@ module _ (placed : Placed) where
   narrowed_has (syms.SelectBank bit on) h = h
   narrowed_has (syms.SelectPage bit target) h = h
 
+  cleared_has : (s : Sym) → HasOperand placed s → HasOperand placed (cleared s)
+  cleared_has (syms.File op file into) h = h
+  cleared_has (syms.Movwf file) h = h
+  cleared_has (syms.Clrf file) h = h
+  cleared_has (syms.Bit op file bit) h = h
+  cleared_has (syms.Literal op value) h = h
+  cleared_has (syms.Plain op) h = h
+  cleared_has (syms.Call target) h = h
+  cleared_has (syms.Goto target) h = h
+  cleared_has (syms.Label label) h = h
+  cleared_has (syms.SelectBank bit on) h = h
+  cleared_has (syms.SelectPage bit target) h = h
+
+  -- a byte before one of a frame that has an address has one, too
+  within : (b c : Bool) (x y : ℕ) → (b ≡ true → c ≡ true) → IsSome (if b then Some x else None) → IsSome (if c then Some y else None)
+  within true true x y e h = refl
+  within true false x y e h = absurd (true≢false (sym (e refl)))
+  within false c x y e h = absurd (true≢false (sym h))
+
+  lower : (a o n : ℕ) → nat_lt (a + o) 512 ≡ true → nat_lt (a + (o - n)) 512 ≡ true
+  lower a o n e = grind arith
+
+  frame_has : (line : Option FrameLine) (o n : ℕ) → IsSome (frame_byte line o) → IsSome (frame_byte line (o - n))
+  frame_has None o n h = h
+  frame_has (Some line) o n h = within (nat_lt (line.address + o) 512) (nat_lt (line.address + (o - n)) 512) (line.address + o) (line.address + (o - n)) (lower line.address o n) h
+
+  operand_has : (n : ℕ) (operand : Operand) → IsSome (file_address placed operand) → IsSome (file_address placed (operand_before n operand))
+  operand_has n (operands.Byte (bytes.Frame copy offset)) h = frame_has (slice_get placed.frames.items copy) offset n h
+  operand_has n (operands.Byte (bytes.Static object offset)) h = h
+  operand_has n (operands.Byte (bytes.Result root k)) h = h
+  operand_has n (operands.Byte (bytes.Device address)) h = h
+  operand_has n (operands.Register register) h = h
+  operand_has n (operands.Saved cell) h = h
+
+  read_has : (n : ℕ) (s : Sym) → HasOperand placed s → HasOperand placed (reads_before n s)
+  read_has n (syms.File op file into) h = operand_has n file h
+  read_has n (syms.Movwf file) h = h
+  read_has n (syms.Clrf file) h = h
+  read_has n (syms.Bit op file bit) h = operand_has n file h
+  read_has n (syms.Literal op value) h = h
+  read_has n (syms.Plain op) h = h
+  read_has n (syms.Call target) h = h
+  read_has n (syms.Goto target) h = h
+  read_has n (syms.Label label) h = h
+  read_has n (syms.SelectBank bit on) h = h
+  read_has n (syms.SelectPage bit target) h = h
+
   rows_have : (rows : List Row) → HaveOperands placed (olds rows) → HaveOperands placed (puts rows)
   rows_have [] h = tt
   rows_have (At (syms.Label label) act said ∷ rows) h = (tt, rows_have rows h.1)
@@ -133,6 +185,8 @@ module _ (placed : Placed) where
   rows_have (At s Drops said ∷ rows) h = rows_have rows h.1
   rows_have (At s (Puts op n) said ∷ rows) h = (tt, rows_have rows h.1)
   rows_have (At s Narrows said ∷ rows) h = (narrowed_has s h.0, rows_have rows h.1)
+  rows_have (At s Clears said ∷ rows) h = (cleared_has s h.0, rows_have rows h.1)
+  rows_have (At s (Reads n) said ∷ rows) h = (read_has n s h.0, rows_have rows h.1)
 
   lean_have : (given lean : List SymBlock) → AllZip IsLeaner given lean → BlocksHaveOperands placed given → BlocksHaveOperands placed lean
   lean_have [] [] z all k block is = absurd (cc)

@@ -14,7 +14,7 @@ use Rattle.isr_save.specs.Start.{start_code}
 use Rattle.lean_blocks.specs.Leaner.{IsLeaner}
 use Rattle.lean_blocks.proofs.Whole.{blocks_are_leaner}
 use Rattle.lean_code.specs.Admissible.{is_byte_act, puts_bytes, ends_by_word}
-use Rattle.lean_code.specs.Rows.{Keeps, Drops, Puts, Narrows, narrowed, Row, At, olds, puts}
+use Rattle.lean_code.specs.Rows.{Keeps, Drops, Puts, Narrows, narrowed, Clears, cleared, Reads, reads_before, Row, At, olds, puts}
 use Rattle.lower_stmt.specs.Programs.{core_of}
 use Rattle.pic_map.specs.declared.Placed.{Placed}
 use Rattle.pic_world.specs.declared.Root.{Root}
@@ -104,6 +104,32 @@ narrowed_plain (syms.Label label) e = e
 narrowed_plain (syms.SelectBank bit on) e = e
 narrowed_plain (syms.SelectPage bit target) e = e
 
+cleared_plain : (s : Sym) → is_plain s ≡ true → is_plain (cleared s) ≡ true
+cleared_plain (syms.File op file into) e = e
+cleared_plain (syms.Movwf file) e = e
+cleared_plain (syms.Clrf file) e = e
+cleared_plain (syms.Bit op file bit) e = e
+cleared_plain (syms.Literal op value) e = e
+cleared_plain (syms.Plain op) e = e
+cleared_plain (syms.Call target) e = e
+cleared_plain (syms.Goto target) e = e
+cleared_plain (syms.Label label) e = e
+cleared_plain (syms.SelectBank bit on) e = e
+cleared_plain (syms.SelectPage bit target) e = e
+
+read_plain : (n : ℕ) (s : Sym) → is_plain s ≡ true → is_plain (reads_before n s) ≡ true
+read_plain n (syms.File op file into) e = e
+read_plain n (syms.Movwf file) e = e
+read_plain n (syms.Clrf file) e = e
+read_plain n (syms.Bit op file bit) e = e
+read_plain n (syms.Literal op value) e = e
+read_plain n (syms.Plain op) e = e
+read_plain n (syms.Call target) e = e
+read_plain n (syms.Goto target) e = e
+read_plain n (syms.Label label) e = e
+read_plain n (syms.SelectBank bit on) e = e
+read_plain n (syms.SelectPage bit target) e = e
+
 front_of : (a b : Bool) → (a && b) ≡ true → a ≡ true
 front_of true b e = refl
 front_of false b e = e
@@ -129,6 +155,8 @@ rows_plain (At s (Puts op n) said ∷ rows) small e =
     both (nat_lt n 256 && (true && true)) (all_plain (puts rows)) (both (nat_lt n 256) (true && true) (front_of (nat_lt n 256) (puts_bytes rows) small) refl)
     (rows_plain rows (rest_of (nat_lt n 256) (puts_bytes rows) small) (rest_of (is_plain s) (all_plain (olds rows)) e))
 rows_plain (At s Narrows said ∷ rows) small e = stays s (narrowed s) (olds rows) (puts rows) (narrowed_plain s) (rows_plain rows small) e
+rows_plain (At s Clears said ∷ rows) small e = stays s (cleared s) (olds rows) (puts rows) (cleared_plain s) (rows_plain rows small) e
+rows_plain (At s (Reads n) said ∷ rows) small e = stays s (reads_before n s) (olds rows) (puts rows) (read_plain n s) (rows_plain rows small) e
 
 leaner_plain : (g b : SymBlock) → IsLeaner g b → Plain g.list.items → Plain b.list.items
 leaner_plain g b is e = ap all_plain is.after ∙ rows_plain is.rows is.numbers (ap all_plain (sym is.before) ∙ e)

@@ -1,6 +1,6 @@
 -- What operations make of registers that are alike, on both machines or on one.
-use Rattle.std.proofs.Common.{◌≡◌, ℕ, Bool, true, false, not, Some, refl, sym, ap, ◌∙◌, arith}
-use Rattle.std.specs.Prelude.{◌≤◌, ◌+◌, ◌&&◌, ◌||◌, nat_eq, if◌then◌else◌, bit_and, bit_or}
+use Rattle.std.proofs.Common.{◌≡◌, ℕ, true, false, Some, refl, sym, ap, ◌∙◌, arith}
+use Rattle.std.specs.Prelude.{nat_eq, bit_and, bit_or}
 use Rattle.std.proofs.lemmas.Nat.{and_comm, or_comm, xor_comm, and_le_r, or_disjoint}
 use Rattle.pic_isa.specs.declared.Ins.TheVariants as ins
 use Rattle.pic_world.specs.Bits.{truth}
@@ -9,7 +9,7 @@ use Rattle.sym_code.specs.declared.code.FileOperation.{FileOperation}
 use Rattle.sym_code.specs.declared.code.FileOperation.TheVariants as files
 use Rattle.sym_code.specs.declared.code.LiteralOperation.{LiteralOperation}
 use Rattle.sym_code.specs.declared.code.LiteralOperation.TheVariants as literals
-use Rattle.lean_code.specs.Rows.{Facts, Apart}
+use Rattle.lean_code.specs.Rows.{Apart}
 use Rattle.lean_code.specs.Changes.{Alike, flags_in, uses_w, uses_c, may_skip, literal_flags, literal_uses, is_retlw, literal_for, both_set, one_sets, same_w, other_w}
 use Rattle.lean_code.proofs.Lists.{never}
 
@@ -167,17 +167,8 @@ flags_w r files.Decfsz v = refl
 flags_w r files.Incfsz v = refl
 flags_w r files.Swapf v = refl
 
--- W and Z behind a byte that W is joined with
-pub or_is : (r : Registers) (v : ℕ) → record (flags_with r files.Iorwf v) { w = result_with r files.Iorwf v } ≡ record r { w = bit_or r.w v; z = truth (nat_eq (bit_or r.w v) 0) }
-unfolding flags_with result_with
-or_is r v = refl
-
-or_none : (a : ℕ) → bit_or a 0 ≡ a
+pub or_none : (a : ℕ) → bit_or a 0 ≡ a
 or_none a = let l = and_le_r a 0 in let z : bit_and a 0 ≡ 0 = omega arith in let e = or_disjoint a 0 z in omega arith
-
--- 0 leaves W
-pub or_zero : (r : Registers) (v : ℕ) → v ≡ 0 → record (flags_with r files.Iorwf v) { w = result_with r files.Iorwf v } ≡ record r { w = r.w; z = truth (nat_eq r.w 0) }
-or_zero r v e = or_is r v ∙ ap (λ (n : ℕ). record r { w = n; z = truth (nat_eq n 0) }) (ap (bit_or r.w) e ∙ or_none r.w)
 
 pub no_skip : (r : Registers) (op : FileOperation) (v : ℕ) → may_skip op ≡ false → skips_with r op v ≡ false
 unfolding skips_with

@@ -27,259 +27,16 @@ use Rattle.sym_code.specs.declared.code.Sym.{Sym}
 use Rattle.sym_code.specs.declared.code.Sym.TheVariants as syms
 use Rattle.sym_code.specs.declared.code.Target.{Target}
 use Rattle.sym_code.specs.declared.code.Target.TheVariants as targets
+use Rattle.lean_code.specs.Computed.{computed, file_for, way_of, way_of_bit}
 use Rattle.lean_code.specs.Rows as rows_of
-use Rattle.lean_code.specs.Rows.{Facts, Apart, Note, nothing_known, Act, Keeps, Drops, Puts, Narrows, Row, At, olds, is_label, place_in, note_ahead, Lean}
-use Rattle.lean_code.specs.Changes.{Weaker, CoversFlags, Aim, ToByte, Through, aim, is_own, is_near, lost, without_zero, moved, after_to_w, learned, stored, flags_in, uses_w, uses_c, may_skip, literal_flags, literal_uses, is_retlw, literal_for, both_set, one_sets, same_w, other_w, same_byte, other_byte, one_moves, one_stores, is_number, one_ors, one_clears, z_alone}
+use Rattle.lean_code.specs.Rows.{Facts, Apart, Note, nothing_known, Act, Keeps, Drops, Puts, Narrows, Clears, Reads, may_clear, operand_before, Row, At, olds, place_in, note_ahead, Lean}
+use Rattle.lean_code.specs.Changes.{Aim, ToByte, aim, is_own, is_near, lost, without_zero, moved, after_to_w, learned, stored, flags_in, uses_w, uses_c, may_skip, literal_flags, literal_uses, is_retlw, both_set, one_sets, same_w, other_w, same_byte, other_byte, one_moves, one_stores, is_number, same_known, stays, number_at, after_to_file, literal_for, one_works, one_writes, one_clears}
 use Rattle.lean_code.specs.Right as right
-use Rattle.lean_code.specs.Right.{Claims, Expects, ExpectsBy, Leads, Passes, Same, Comes, Enters, flag_apart, with_flag, after_literal, dropped_literal, literal_apart, KeepsFile, KeepsBit, KeepsPlain, KeepsGoto, KeepsCall, IsKept, DropsToW, DropsToFile, DropsBit, IsDropped, PutsFor, IsPut, IsRight, IsNote, IsRightAt, Begins, BeginsAt, IsSound}
-use Rattle.lean_code.specs.Checked.{among, all_of, KnownByte, number_in, ListedFacts, ListedApart, ListedNote, ListedRow, Listed, ListedBlock, Sketch, facts_in, apart_in, note_in, row_in, rows_in, block_in, lean_of, gives_number, gives_known, gives, covers_flags, covers_bytes, same_number, expects_by, expects, drops_carried, drops_move, narrows_for, is_narrowed, carries_near, ahead, past, leads, passes, comes, enters, same, noted, same_side, same_operation, is_operation, is_here, keeps_file, keeps_bit, keeps_plain, keeps_goto, keeps_call, is_kept, drops_to_w, drops_to_file, drops_store, drops_clear, drops_change, drops_test, drops_bit, drops_plain, drops_goto, is_left_out, puts_for, is_put, is_right_row, all_known, is_note, is_right_at, are_right, is_right_block, are_right_blocks, begins, begins_at, TestIsRight}
+use Rattle.lean_code.specs.Right.{Expects, ExpectsBy, Leads, Same, Comes, Enters, flag_apart, with_flag, after_literal, dropped_literal, literal_apart, KeepsFile, KeepsBit, KeepsPlain, KeepsGoto, KeepsCall, IsKept, DropsToW, DropsToFile, DropsBit, IsDropped, PutsFor, IsPut, IsRight, IsNote, IsRightAt, Begins, BeginsAt}
+use Rattle.lean_code.specs.Checked.{among, all_of, ListedNote, ListedRow, Listed, ListedBlock, Sketch, facts_in, apart_in, note_in, row_in, rows_in, block_in, lean_of, is_twin, gives, covers_flags, covers_bytes, same_number, expects_by, expects, runs_on, puts_same, puts_number, puts_byte, drops_carried, drops_move, narrows_for, is_narrowed, clears_for, is_cleared, reads_for, reads_to, tests_for, reads_bit, is_read, carries_near, ahead, leads, comes, enters, same, noted, same_side, is_operation, is_here, keeps_file, keeps_bit, keeps_plain, keeps_goto, keeps_call, is_kept, drops_to_w, drops_to_file, drops_store, drops_clear, drops_change, drops_test, drops_bit, drops_plain, drops_goto, is_left_out, puts_for, is_put, is_right_row, all_known, all_twins, is_note, is_right_at, are_right, is_right_block, are_right_blocks, begins, begins_at, TestIsRight}
 use Rattle.lean_code.proofs.Lists.{never}
 use Rattle.lean_code.proofs.Facts.{not_false, some_is}
-use Rattle.lean_code.proofs.KeptRows.{flag_bytes}
-
--- ---- Bool
-and_l : (a b : Bool) → (a && b) ≡ true → a ≡ true
-and_l true b e = refl
-and_l false b e = e
-
-and_r : (a b : Bool) → (a && b) ≡ true → b ≡ true
-and_r true b e = e
-and_r false b e = never e
-
-is_not : (a : Bool) → not a ≡ true → a ≡ false
-is_not true e = never e
-is_not false e = refl
-
-not_both : (a b : Bool) → not (a && b) ≡ true → a ≡ true → b ≡ false
-not_both true b e k = is_not b e
-not_both false b e k = never k
-
-or_not : (a b : Bool) → (a || not b) ≡ true → a ≡ false → b ≡ false
-or_not true b e k = never (sym k)
-or_not false b e k = is_not b e
-
-not_or : (a b : Bool) → (not a || b) ≡ true → a ≡ true → b ≡ true
-not_or true b e k = e
-not_or false b e k = never k
-
-sides : (a b : Bool) → same_side a b ≡ true → a ≡ b
-sides true b e = sym e
-sides false b e = sym (is_not b e)
-
--- ---- lists
-all_is : (test : ℕ → Bool) (bs : List ℕ) → all_of test bs ≡ true → (a : ℕ) → among a bs ≡ true → test a ≡ true
-all_is test [] e a k = never k
-all_is test (b ∷ bs) e a k = by_case (nat_eq a b) refl (all_is test bs (and_r (test b) (all_of test bs) e) a) k
-  where
-    by_case : (c : Bool) → nat_eq a b ≡ c → (among a bs ≡ true → test a ≡ true) → (c || among a bs) ≡ true → test a ≡ true
-    by_case true is more k = ap test (eqb-true a b is) ∙ and_l (test b) (all_of test bs) e
-    by_case false is more k = more k
-
--- what isn't so of a byte that is listed isn't listed
-all_not : (test : ℕ → Bool) (bs : List ℕ) → all_of test bs ≡ true → (a : ℕ) → test a ≡ false → among a bs ≡ false
-all_not test bs e a k = not_false (among a bs) (λ h. sym k ∙ all_is test bs e a h)
-
-number_is : (o : Option ℕ) (n : ℕ) → is_number o n ≡ true → o ≡ Some n
-number_is None n e = never e
-number_is (Some k) n e = ap Some (eqb-true k n e)
-
-known_is : (has : ℕ → Option ℕ) (bs : List KnownByte) → gives_known has bs ≡ true → (a n : ℕ) → number_in a bs ≡ Some n → has a ≡ Some n
-known_is has [] e a n k = absurd (none-some n k)
-known_is has (b ∷ bs) e a n k = by_case (nat_eq a b.byte) refl (known_is has bs (and_r (is_number (has b.byte) b.number) (gives_known has bs) e) a n) k
-  where
-    by_case : (c : Bool) → nat_eq a b.byte ≡ c → (number_in a bs ≡ Some n → has a ≡ Some n) → (if c then Some b.number else number_in a bs) ≡ Some n → has a ≡ Some n
-    by_case true is more k = ap has (eqb-true a b.byte is) ∙ number_is (has b.byte) b.number (and_l (is_number (has b.byte) b.number) (gives_known has bs) e) ∙ k
-    by_case false is more k = more k
-
-known_all : (test : ℕ → Bool) (bs : List KnownByte) → all_known test bs ≡ true → (a n : ℕ) → number_in a bs ≡ Some n → test a ≡ true
-known_all test [] e a n k = absurd (none-some n k)
-known_all test (b ∷ bs) e a n k = by_case (nat_eq a b.byte) refl (known_all test bs (and_r (test b.byte) (all_known test bs) e) a n) k
-  where
-    by_case : (c : Bool) → nat_eq a b.byte ≡ c → (number_in a bs ≡ Some n → test a ≡ true) → (if c then Some b.number else number_in a bs) ≡ Some n → test a ≡ true
-    by_case true is more k = ap test (eqb-true a b.byte is) ∙ and_l (test b.byte) (all_known test bs) e
-    by_case false is more k = more k
-
--- ---- notes
-gives_is : (f : Facts) (n : ListedFacts) → gives f n ≡ true → Weaker (facts_in n) f
-gives_is f n e =
-    let one = and_r (gives_number f.number n.number) (all_of f.held n.held && ((not n.zero || f.zero) && gives_known f.known n.known)) e in
-    let two = and_r (all_of f.held n.held) ((not n.zero || f.zero) && gives_known f.known n.known) one in
-    record {
-      number = number_of n.number (and_l (gives_number f.number n.number) (all_of f.held n.held && ((not n.zero || f.zero) && gives_known f.known n.known)) e);
-      held = λ a k. all_is f.held n.held (and_l (all_of f.held n.held) ((not n.zero || f.zero) && gives_known f.known n.known) one) a k;
-      zero = λ k. not_or n.zero f.zero (and_l (not n.zero || f.zero) (gives_known f.known n.known) two) k;
-      known = λ a i k. known_is f.known n.known (and_r (not n.zero || f.zero) (gives_known f.known n.known) two) a i k;
-    }
-  where
-    number_of : (o : Option ℕ) → gives_number f.number o ≡ true → (i : ℕ) → o ≡ Some i → f.number ≡ Some i
-    number_of None e i k = absurd (none-some i k)
-    number_of (Some j) e i k = number_is f.number j e ∙ k
-
-flags_are : (b : ListedApart) (d : Apart) → covers_flags b d ≡ true → CoversFlags (apart_in b) d
-flags_are b d e =
-    let one = and_r (b.w || not d.w) ((b.z || not d.z) && ((b.dc || not d.dc) && (b.c || not d.c))) e in
-    let two = and_r (b.z || not d.z) ((b.dc || not d.dc) && (b.c || not d.c)) one in
-    record {
-      w = or_not b.w d.w (and_l (b.w || not d.w) ((b.z || not d.z) && ((b.dc || not d.dc) && (b.c || not d.c))) e);
-      z = or_not b.z d.z (and_l (b.z || not d.z) ((b.dc || not d.dc) && (b.c || not d.c)) one);
-      dc = or_not b.dc d.dc (and_l (b.dc || not d.dc) (b.c || not d.c) two);
-      c = or_not b.c d.c (and_r (b.dc || not d.dc) (b.c || not d.c) two);
-    }
-
--- all that may differ is among the candidates
-abbrev Within : Apart → List ℕ → Type 0
-Within d candidates = (a : ℕ) → d.bytes a ≡ true → among a candidates ≡ true
-
-bytes_are : (b : List ℕ) (d : Apart) (candidates : List ℕ) → Within d candidates → covers_bytes b d.bytes candidates ≡ true → (a : ℕ) → among a b ≡ false → d.bytes a ≡ false
-bytes_are b d candidates within e a k =
-    not_false (d.bytes a) (λ h. sym k ∙ not_or (d.bytes a) (among a b) (all_is (λ j. not (d.bytes j) || among j b) candidates e a (within a h)) h)
-
-numbers_are : (a b : Option ℕ) → same_number a b ≡ true → Claims a b
-numbers_are None b e = λ j h. absurd (none-some j h)
-numbers_are (Some a) b e = λ j h. number_is b a e ∙ h
-
-expects_by_is : (carry : Option ℕ) (q : Option (Option ListedNote)) (f : Facts) (d : Apart) (candidates : List ℕ) → Within d candidates → expects_by carry q f d candidates ≡ true → ExpectsBy carry (option_map (option_map note_in) q) f d
-expects_by_is carry None f d candidates within e = tt
-expects_by_is carry (Some None) f d candidates within e = never e
-expects_by_is carry (Some (Some n)) f d candidates within e =
-    let one = gives f n.facts in
-    let two = covers_flags n.apart d in
-    let three = covers_bytes n.apart.bytes d.bytes candidates in
-    let four = same_number n.carry carry in
-    let more = and_r one (two && (three && four)) e in
-    let last = and_r two (three && four) more in (
-      gives_is f n.facts (and_l one (two && (three && four)) e),
-      record { flags = flags_are n.apart d (and_l two (three && four) more); bytes = bytes_are n.apart.bytes d candidates within (and_l three four last) },
-      numbers_are n.carry carry (and_r three four last),
-    )
-
-expects_is : (q : Option (Option ListedNote)) (f : Facts) (d : Apart) (candidates : List ℕ) → Within d candidates → expects q f d candidates ≡ true → Expects (option_map (option_map note_in) q) f d
-expects_is q f d candidates within e = expects_by_is None q f d candidates within e
-
-ahead_is : (rows : List ListedRow) → note_ahead (rows_in rows) ≡ option_map (option_map note_in) (ahead rows)
-ahead_is [] = refl
-ahead_is (Listed s act n ∷ rows) = by_case (is_label s) (ahead_is rows)
-  where
-    by_case : (c : Bool) → note_ahead (rows_in rows) ≡ option_map (option_map note_in) (ahead rows) → (if c then note_ahead (rows_in rows) else Some (option_map note_in n)) ≡ option_map (option_map note_in) (if c then ahead rows else Some n)
-    by_case true e = e
-    by_case false e = refl
-
-past_is : (rows : List ListedRow) → rows_of.past (rows_in rows) ≡ rows_in (past rows)
-past_is [] = refl
-past_is (Listed s act n ∷ rows) = by_case (is_label s) (past_is rows)
-  where
-    by_case : (c : Bool) → rows_of.past (rows_in rows) ≡ rows_in (past rows) → (if c then rows_of.past (rows_in rows) else rows_in rows) ≡ rows_in (if c then past rows else rows)
-    by_case true e = e
-    by_case false e = refl
-
-drop_is : (i : ℕ) (rows : List ListedRow) → drop i (rows_in rows) ≡ rows_in (drop i rows)
-drop_is zero rows = refl
-drop_is (suc i) [] = refl
-drop_is (suc i) (row ∷ rows) = drop_is i rows
-
-expects_at : (rows : List ListedRow) (f : Facts) (d : Apart) (candidates : List ℕ) → Within d candidates → expects (ahead rows) f d candidates ≡ true → Expects (note_ahead (rows_in rows)) f d
-expects_at rows f d candidates within e = subst (λ (q : Option (Option Note)). Expects q f d) (sym (ahead_is rows)) (expects_is (ahead rows) f d candidates within e)
-
-expects_by_at : (carry : Option ℕ) (rows : List ListedRow) (f : Facts) (d : Apart) (candidates : List ℕ) → Within d candidates → expects_by carry (ahead rows) f d candidates ≡ true → ExpectsBy carry (note_ahead (rows_in rows)) f d
-expects_by_at carry rows f d candidates within e = subst (λ (q : Option (Option Note)). ExpectsBy carry q f d) (sym (ahead_is rows)) (expects_by_is carry (ahead rows) f d candidates within e)
-
-expects_past : (rows : List ListedRow) (f : Facts) (d : Apart) (candidates : List ℕ) → Within d candidates → expects (ahead (past rows)) f d candidates ≡ true → Expects (note_ahead (rows_of.past (rows_in rows))) f d
-expects_past rows f d candidates within e = subst (λ (l : List Row). Expects (note_ahead l) f d) (sym (past_is rows)) (expects_at (past rows) f d candidates within e)
-
-leads_is : (rest : List ListedRow) (can : Bool) (f : Facts) (d : Apart) (candidates : List ℕ) → Within d candidates → leads rest can f d candidates ≡ true → Leads (rows_in rest) can f d
-leads_is rest false f d candidates within e = expects_at rest f d candidates within (and_l (expects (ahead rest) f d candidates) true e)
-leads_is rest true f d candidates within e =
-    let one = expects (ahead rest) f d candidates in
-    let two = expects (ahead (past rest)) f d candidates in
-    let keeps = rows_of.keeps_first (rows_in rest) in
-    let more = and_r one (two && keeps) e in
-    record { runs = expects_at rest f d candidates within (and_l one (two && keeps) e); skips = expects_past rest f d candidates within (and_l two keeps more); keeps = and_r two keeps more }
-
-passes_is : (carry : Option ℕ) (rest : List ListedRow) (can : Bool) (f : Facts) (d : Apart) (candidates : List ℕ) → Within d candidates → passes carry rest can f d candidates ≡ true → Passes carry (rows_in rest) can f d
-passes_is carry rest false f d candidates within e = expects_by_at carry rest f d candidates within (and_l (expects_by carry (ahead rest) f d candidates) true e)
-passes_is carry rest true f d candidates within e =
-    let one = expects_by carry (ahead rest) f d candidates in
-    let two = expects_by carry (ahead (past rest)) f d candidates in
-    let drops = rows_of.drops_first (rows_in rest) in
-    let more = and_r one (two && drops) e in
-    record {
-      runs = expects_by_at carry rest f d candidates within (and_l one (two && drops) e);
-      skips = subst (λ (l : List Row). ExpectsBy carry (note_ahead l) f d) (sym (past_is rest)) (expects_by_at carry (past rest) f d candidates within (and_l two drops more));
-      drops = and_r two drops more;
-    }
-
-same_is : (hidden : ℕ → Bool) (a : Aim) (d : ListedApart) (outer : List ℕ) → same hidden a d.bytes outer ≡ true → Same hidden a (apart_in d) (λ j. among j outer)
-same_is hidden (ToByte k) d outer e = (is_not (among k d.bytes) (and_l (not (among k d.bytes)) (not (among k outer)) e), is_not (among k outer) (and_r (not (among k d.bytes)) (not (among k outer)) e))
-same_is hidden Through d outer e =
-    λ a k. (all_not hidden d.bytes (and_l (all_of hidden d.bytes) (all_of hidden outer) e) a k, all_not hidden outer (and_r (all_of hidden d.bytes) (all_of hidden outer) e) a k)
-same_is hidden a d outer e = tt
-
-enters_is : (q : Option (Option ListedNote)) (n : ListedNote) → enters q n ≡ true → Enters (option_map (option_map note_in) q) (note_in n)
-enters_is None n e = tt
-enters_is (Some None) n e = never e
-enters_is (Some (Some k)) n e =
-    let one = gives (facts_in n.facts) k.facts in
-    let two = covers_flags k.apart (apart_in n.apart) in
-    let three = same_number k.carry None in
-    let more = and_r one (two && three) e in
-    (gives_is (facts_in n.facts) k.facts (and_l one (two && three) e), flags_are k.apart (apart_in n.apart) (and_l two three more), numbers_are k.carry None (and_r two three more))
-
-comes_is : (q : Option (Option ListedNote)) (k : ListedNote) (across : List ℕ) → comes q k across ≡ true → Comes (option_map (option_map note_in) q) (note_in k) (λ a. among a across)
-comes_is None k across e = tt
-comes_is (Some None) k across e = never e
-comes_is (Some (Some n)) k across e =
-    let one = gives (facts_in k.facts) n.facts in
-    let two = covers_flags n.apart (apart_in k.apart) in
-    let three = all_of (λ a. among a n.apart.bytes) k.apart.bytes in
-    let four = all_of (λ a. among a n.apart.bytes) across in
-    let five = same_number n.carry None in
-    let more = and_r one (two && (three && (four && five))) e in
-    let last = and_r two (three && (four && five)) more in
-    let end = and_r three (four && five) last in (
-      gives_is (facts_in k.facts) n.facts (and_l one (two && (three && (four && five))) e),
-      flags_are n.apart (apart_in k.apart) (and_l two (three && (four && five)) more),
-      numbers_are n.carry None (and_r four five end),
-      λ a h. (all_not (λ j. among j n.apart.bytes) k.apart.bytes (and_l three (four && five) last) a h, all_not (λ j. among j n.apart.bytes) across (and_l four five end) a h),
-    )
-
--- ---- candidates
-within_same : (a : Aim) (d : Apart) (candidates : List ℕ) → Within d candidates → Within (same_byte a d) candidates
-within_same (ToByte k) d candidates within b e = within b (by_case (nat_eq b k) (d.bytes b) e)
-  where
-    by_case : (c h : Bool) → (if c then false else h) ≡ true → h ≡ true
-    by_case true h e = never e
-    by_case false h e = e
-within_same a d candidates within b e = within b e
-
-within_other : (i : ℕ) (d : Apart) (bytes : List ℕ) → Within d bytes → Within (other_byte i d) (i ∷ bytes)
-within_other i d bytes within b e = by_case (nat_eq b i) (d.bytes b) (within b) e
-  where
-    by_case : (c h : Bool) → (h ≡ true → among b bytes ≡ true) → (if c then true else h) ≡ true → (c || among b bytes) ≡ true
-    by_case true h w e = refl
-    by_case false h w e = w e
-
-within_more : (i : ℕ) (d : Apart) (bytes : List ℕ) → Within d bytes → Within d (i ∷ bytes)
-within_more i d bytes within b e = by_case (nat_eq b i)
-  where
-    by_case : (c : Bool) → (c || among b bytes) ≡ true
-    by_case true = refl
-    by_case false = within b e
-
-within_flag : (b : ℕ) (v : Bool) (d : Apart) (bytes : List ℕ) → Within d bytes → Within (with_flag b v d) bytes
-within_flag b v d bytes within a e = within a (sym (flag_bytes b v d a) ∙ e)
-
-operation_is : (a b : LiteralOperation) → same_operation a b ≡ true → a ≡ b
-operation_is literals.Addlw literals.Addlw e = refl
-operation_is literals.Andlw literals.Andlw e = refl
-operation_is literals.Iorlw literals.Iorlw e = refl
-operation_is literals.Movlw literals.Movlw e = refl
-operation_is literals.Sublw literals.Sublw e = refl
-operation_is literals.Xorlw literals.Xorlw e = refl
-operation_is a b e = never e
-
-some_operation : (o : Option LiteralOperation) (new : LiteralOperation) → is_operation o new ≡ true → o ≡ Some new
-some_operation None new e = never e
-some_operation (Some op) new e = ap Some (operation_is op new e)
+use Rattle.lean_code.proofs.Tested.{and_l, and_r, is_not, not_both, sides, all_is, all_not, number_is, known_all, twins_all, gives_is, flags_are, bytes_are, numbers_are, expects_by_is, expects_is, ahead_is, drop_is, expects_at, expects_by_at, leads_is, passes_is, same_is, enters_is, comes_is, within_same, within_other, within_more, within_flag, some_operation, Within}
 
 -- ---- rows
 module _ (k : Sketch) (limit : Bool → ℕ) (old_page new_page : BlockName → ℕ) (own : BlockName) (n : ListedNote) where
@@ -316,18 +73,18 @@ module _ (k : Sketch) (limit : Bool → ℕ) (old_page new_page : BlockName → 
       let a = aim k.layout inside false operand in
       let one = not (uses_w op && n.apart.w) && not (uses_c op && n.apart.c) in
       let two = same k.hidden a bytes block.outer in
-      let three = leads rest (may_skip op) (after_to_w op a f) (same_w (both_set (flags_in op) d)) bytes in
+      let three = leads rest (way_of op (number_at a f)) (after_to_w op a f) (same_w (both_set (flags_in op) d)) bytes in
       let more = and_r one (two && three) e in
-      (uses_are op (and_l one (two && three) e), same_at a (and_l two three more), leads_is rest (may_skip op) (after_to_w op a f) (same_w (both_set (flags_in op) d)) bytes here (and_r two three more))
+      (uses_are op (and_l one (two && three) e), same_at a (and_l two three more), leads_is rest (way_of op (number_at a f)) (after_to_w op a f) (same_w (both_set (flags_in op) d)) bytes here (and_r two three more))
   file_is rest op operand into.File e =
       let a = aim k.layout inside true operand in
-      let g = lost k.hidden a (without_zero f) in
+      let g = after_to_file k.hidden op a f in
       let h = same_byte a (both_set (flags_in op) d) in
       let one = not (uses_w op && n.apart.w) && not (uses_c op && n.apart.c) in
       let two = same k.hidden a bytes block.outer in
-      let three = leads rest (may_skip op) g h bytes in
+      let three = leads rest (way_of op (number_at a f)) g h bytes in
       let more = and_r one (two && three) e in
-      (uses_are op (and_l one (two && three) e), same_at a (and_l two three more), leads_is rest (may_skip op) g h bytes (within_same a (both_set (flags_in op) d) bytes here) (and_r two three more))
+      (uses_are op (and_l one (two && three) e), same_at a (and_l two three more), leads_is rest (way_of op (number_at a f)) g h bytes (within_same a (both_set (flags_in op) d) bytes here) (and_r two three more))
 
   abbrev ExpectsAt : List ListedRow → Facts → Apart → Type 0
   ExpectsAt rest g h = Expects (note_ahead (rows_in rest)) g h
@@ -338,17 +95,17 @@ module _ (k : Sketch) (limit : Bool → ℕ) (old_page new_page : BlockName → 
       let two = expects (ahead rest) (lost k.hidden a f) d bytes in
       (same_at a (and_l one two e), expects_at rest (lost k.hidden a f) d bytes here (and_r one two e))
 
-  test_is : (rest : List ListedRow) (a : Aim) → (same k.hidden a bytes block.outer && leads rest true f d bytes) ≡ true → Same k.hidden a d (x.outer own) × Leads (rows_in rest) true f d
-  test_is rest a e =
+  test_is : (rest : List ListedRow) (way : Option Bool) (a : Aim) → (same k.hidden a bytes block.outer && leads rest way f d bytes) ≡ true → Same k.hidden a d (x.outer own) × Leads (rows_in rest) way f d
+  test_is rest way a e =
       let one = same k.hidden a bytes block.outer in
-      let two = leads rest true f d bytes in
-      (same_at a (and_l one two e), leads_is rest true f d bytes here (and_r one two e))
+      let two = leads rest way f d bytes in
+      (same_at a (and_l one two e), leads_is rest way f d bytes here (and_r one two e))
 
-  flag_is : (rest : List ListedRow) (b : ℕ) → (not (flag_apart b d) && leads rest true f d bytes) ≡ true → (flag_apart b d ≡ false) × Leads (rows_in rest) true f d
+  flag_is : (rest : List ListedRow) (b : ℕ) → (not (flag_apart b d) && leads rest None f d bytes) ≡ true → (flag_apart b d ≡ false) × Leads (rows_in rest) None f d
   flag_is rest b e =
       let one = not (flag_apart b d) in
-      let two = leads rest true f d bytes in
-      (is_not (flag_apart b d) (and_l one two e), leads_is rest true f d bytes here (and_r one two e))
+      let two = leads rest None f d bytes in
+      (is_not (flag_apart b d) (and_l one two e), leads_is rest None f d bytes here (and_r one two e))
 
   bit_is : (rest : List ListedRow) (op : BitOperation) (operand : Operand) (b : ℕ) → keeps_bit k block n rest op operand b ≡ true → KeepsBit x own inside (note_in n) (rows_in rest) op operand b
   bit_is rest Bcf (operands.Register Status) b e = expects_at rest (without_zero f) (with_flag b false d) bytes (within_flag b false d bytes here) e
@@ -357,8 +114,8 @@ module _ (k : Sketch) (limit : Bool → ℕ) (old_page new_page : BlockName → 
   bit_is rest Btfss (operands.Register Status) b e = flag_is rest b e
   bit_is rest Bcf operand b e = change_is rest (aim k.layout inside true operand) e
   bit_is rest Bsf operand b e = change_is rest (aim k.layout inside true operand) e
-  bit_is rest Btfsc operand b e = test_is rest (aim k.layout inside false operand) e
-  bit_is rest Btfss operand b e = test_is rest (aim k.layout inside false operand) e
+  bit_is rest Btfsc operand b e = let a = aim k.layout inside false operand in test_is rest (way_of_bit Btfsc (number_at a f) b) a e
+  bit_is rest Btfss operand b e = let a = aim k.layout inside false operand in test_is rest (way_of_bit Btfss (number_at a f) b) a e
 
   plain_is : (rest : List ListedRow) (op : PlainOperation) → keeps_plain k block n rest op ≡ true → KeepsPlain x own inside (note_in n) (rows_in rest) op
   plain_is rest Clrw e = expects_at rest (record f { number = Some 0; held = λ a. false; zero = true }) (record d { w = false; z = false }) bytes (λ a h. h) e
@@ -432,9 +189,19 @@ module _ (k : Sketch) (limit : Bool → ℕ) (old_page new_page : BlockName → 
   kept_is rest (syms.SelectPage which target) e = expects_at rest f d bytes here e
 
   -- ---- what is left out
-  within_ors : (c : Bool) → Within (if c then record d { z = if f.zero then d.z else true } else other_w (one_sets z_alone d)) bytes
-  within_ors true b e = e
-  within_ors false b e = e
+  within_works : (op : FileOperation) (byte : Option ℕ) → Within (one_works op byte f d) bytes
+  within_works op byte = by_case (stays op byte f)
+    where
+      by_case : (c : Bool) → Within (if c then record (one_sets (flags_in op) d) { z = (flags_in op).z && not f.zero || d.z } else other_w (one_sets (flags_in op) d)) bytes
+      by_case true b e = e
+      by_case false b e = e
+
+  within_writes : (op : FileOperation) (i : ℕ) → Within (one_writes op i f d) (i ∷ bytes)
+  within_writes op i = by_case (same_known (computed op f.number (f.known i)) (f.known i))
+    where
+      by_case : (c : Bool) → Within (if c then one_sets (flags_in op) d else other_byte i (one_sets (flags_in op) d)) (i ∷ bytes)
+      by_case true = within_more i (one_sets (flags_in op) d) bytes (λ b h. h)
+      by_case false = within_other i (one_sets (flags_in op) d) bytes (λ b h. h)
 
   drops_carried_is : (rest : List ListedRow) (i c : ℕ) (q : Bool) → drops_carried k block n rest i c q ≡ true → right.DropsCarried x own inside (note_in n) (rows_in rest) i c q
   drops_carried_is rest i c true e = expects_at rest (moved (ToByte i) f) (record d { w = false; z = true }) bytes (λ b h. h) e
@@ -446,13 +213,11 @@ module _ (k : Sketch) (limit : Bool → ℕ) (old_page new_page : BlockName → 
 
   drops_w_is : (rest : List ListedRow) (op : FileOperation) (a : Aim) → drops_to_w k block n rest op a ≡ true → DropsToW x own inside (note_in n) (rows_in rest) op a
   drops_w_is rest files.Movf (ToByte i) e = drops_move_is rest i n.carry e
-  drops_w_is rest files.Iorwf (ToByte i) e = expects_by_at n.carry rest (after_to_w files.Iorwf (ToByte i) f) (one_ors f i d) bytes (within_ors (is_number (f.known i) 0)) e
-  drops_w_is rest op (ToByte i) e = passes_is n.carry rest (may_skip op) (after_to_w op (ToByte i) f) (other_w (one_sets (flags_in op) d)) bytes (λ b h. h) e
+  drops_w_is rest op (ToByte i) e = passes_is n.carry rest (way_of op (f.known i)) (after_to_w op (ToByte i) f) (one_works op (f.known i) f d) bytes (within_works op (f.known i)) e
   drops_w_is rest op a e = never e
 
   drops_file_is : (rest : List ListedRow) (op : FileOperation) (a : Aim) → drops_to_file k block n rest op a ≡ true → DropsToFile x own inside (note_in n) (rows_in rest) op a
-  drops_file_is rest op (ToByte i) e =
-      passes_is (right.carry_but i n.carry) rest (may_skip op) (lost k.hidden (ToByte i) (without_zero f)) (other_byte i (one_sets (flags_in op) d)) (i ∷ bytes) (within_other i (one_sets (flags_in op) d) bytes (λ b h. h)) e
+  drops_file_is rest op (ToByte i) e = passes_is (right.carry_but i n.carry) rest (way_of op (f.known i)) (after_to_file k.hidden op (ToByte i) f) (one_writes op i f d) (i ∷ bytes) (within_writes op i) e
   drops_file_is rest op a e = never e
 
   within_stores : (c : Bool) (i : ℕ) → Within (if c then d else other_byte i d) (i ∷ bytes)
@@ -476,9 +241,9 @@ module _ (k : Sketch) (limit : Bool → ℕ) (old_page new_page : BlockName → 
   drops_change_is rest (ToByte i) e = expects_by_at (right.carry_but i n.carry) rest (lost k.hidden (ToByte i) f) (other_byte i d) (i ∷ bytes) (within_other i d bytes here) e
   drops_change_is rest a e = never e
 
-  drops_test_is : (rest : List ListedRow) (a : Aim) → drops_test k block n rest a ≡ true → right.DropsTest x own inside (note_in n) (rows_in rest) a
-  drops_test_is rest (ToByte i) e = passes_is n.carry rest true f d bytes here e
-  drops_test_is rest a e = never e
+  drops_test_is : (rest : List ListedRow) (op : BitOperation) (a : Aim) (b : ℕ) → drops_test k block n rest op a b ≡ true → right.DropsTest x own inside (note_in n) (rows_in rest) op a b
+  drops_test_is rest op (ToByte i) b e = passes_is n.carry rest (way_of_bit op (f.known i) b) f d bytes here e
+  drops_test_is rest op a b e = never e
 
   drops_flag_is : (rest : List ListedRow) (b : ℕ) → (nat_lt b 3 && expects_by n.carry (ahead rest) (without_zero f) (with_flag b true d) bytes) ≡ true → (nat_lt b 3 ≡ true) × ExpectsBy n.carry (note_ahead (rows_in rest)) (without_zero f) (with_flag b true d)
   drops_flag_is rest b e =
@@ -488,12 +253,12 @@ module _ (k : Sketch) (limit : Bool → ℕ) (old_page new_page : BlockName → 
   drops_bit_is : (rest : List ListedRow) (op : BitOperation) (operand : Operand) (b : ℕ) → drops_bit k block n rest op operand b ≡ true → DropsBit x own inside (note_in n) (rows_in rest) op operand b
   drops_bit_is rest Bcf (operands.Register Status) b e = drops_flag_is rest b e
   drops_bit_is rest Bsf (operands.Register Status) b e = drops_flag_is rest b e
-  drops_bit_is rest Btfsc (operands.Register Status) b e = passes_is n.carry rest true f d bytes here e
-  drops_bit_is rest Btfss (operands.Register Status) b e = passes_is n.carry rest true f d bytes here e
+  drops_bit_is rest Btfsc (operands.Register Status) b e = passes_is n.carry rest None f d bytes here e
+  drops_bit_is rest Btfss (operands.Register Status) b e = passes_is n.carry rest None f d bytes here e
   drops_bit_is rest Bcf operand b e = drops_change_is rest (aim k.layout inside true operand) e
   drops_bit_is rest Bsf operand b e = drops_change_is rest (aim k.layout inside true operand) e
-  drops_bit_is rest Btfsc operand b e = drops_test_is rest (aim k.layout inside false operand) e
-  drops_bit_is rest Btfss operand b e = drops_test_is rest (aim k.layout inside false operand) e
+  drops_bit_is rest Btfsc operand b e = drops_test_is rest Btfsc (aim k.layout inside false operand) b e
+  drops_bit_is rest Btfss operand b e = drops_test_is rest Btfss (aim k.layout inside false operand) b e
 
   drops_plain_is : (rest : List ListedRow) (op : PlainOperation) → drops_plain k block n rest op ≡ true → right.DropsPlain x own inside (note_in n) (rows_in rest) op
   drops_plain_is rest Clrw e = expects_by_at n.carry rest (record f { number = Some 0; held = λ a. false; zero = true }) (record d { w = true; z = true }) bytes (λ b h. h) e
@@ -516,8 +281,13 @@ module _ (k : Sketch) (limit : Bool → ℕ) (old_page new_page : BlockName → 
   within_number true b e = e
   within_number false b e = e
 
+  number_within : (op : LiteralOperation) (v : ℕ) (o : Option FileOperation) → Within (right.dropped_number f d op o v) bytes
+  number_within op v None b e = e
+  number_within op v (Some file) b e = within_works file (Some v) b e
+
   within_literal : (op : LiteralOperation) (value : Literal) → Within (dropped_literal f d op value) bytes
   within_literal literals.Movlw (Number v) = within_number (is_number f.number v)
+  within_literal op (Number v) = number_within op v (file_for op)
   within_literal op value = λ b e. e
 
   dropped_is : (to : ℕ) (rest : List ListedRow) (s : Sym) → is_left_out k block n to rest s ≡ true → IsDropped x own inside (note_in n) to (rows_in rest) s
@@ -539,8 +309,8 @@ module _ (k : Sketch) (limit : Bool → ℕ) (old_page new_page : BlockName → 
   apart_within files.Movf i b e = e
   apart_within op i b e = e
 
-  puts_for_is : (rest : List ListedRow) (op : FileOperation) (a : Aim) (new : LiteralOperation) (v : ℕ) → puts_for k block n rest op a new v ≡ true → PutsFor x own inside (note_in n) (rows_in rest) op a new v
-  puts_for_is rest op (ToByte i) new v e =
+  puts_same_is : (rest : List ListedRow) (op : FileOperation) (i : ℕ) (new : LiteralOperation) (v : ℕ) → puts_same k block n rest op i new v ≡ true → right.PutsSame x own inside (note_in n) (rows_in rest) op i new v
+  puts_same_is rest op i new v e =
       let one = is_operation (literal_for op) new in
       let two = is_number (f.known i) v in
       let three = not (uses_w op && n.apart.w) in
@@ -552,6 +322,30 @@ module _ (k : Sketch) (limit : Bool → ℕ) (old_page new_page : BlockName → 
         not_both (uses_w op) n.apart.w (and_l three four c),
         expects_at rest (after_to_w op (ToByte i) f) (literal_apart f d op i) bytes (apart_within op i) (and_r three four c),
       )
+
+  runs_is : (way : Option Bool) → runs_on way ≡ true → way ≡ Some false
+  runs_is None e = never e
+  runs_is (Some true) e = never e
+  runs_is (Some false) e = refl
+
+  puts_number_is : (rest : List ListedRow) (op : FileOperation) (i v : ℕ) → puts_number k block n rest op i v ≡ true → right.PutsNumber x own inside (note_in n) (rows_in rest) op i v
+  puts_number_is rest op i v e =
+      let one = runs_on (way_of op (f.known i)) in
+      let two = is_number (computed op f.number (f.known i)) v in
+      let three = expects (ahead rest) (after_to_w op (ToByte i) f) (same_w (one_sets (flags_in op) d)) bytes in
+      let more = and_r one (two && three) e in (
+        runs_is (way_of op (f.known i)) (and_l one (two && three) e),
+        number_is (computed op f.number (f.known i)) v (and_l two three more),
+        expects_at rest (after_to_w op (ToByte i) f) (same_w (one_sets (flags_in op) d)) bytes (λ b h. h) (and_r two three more),
+      )
+
+  puts_byte_is : (rest : List ListedRow) (op : FileOperation) (i : ℕ) (new : LiteralOperation) (v : ℕ) → puts_byte k block n rest op i new v ≡ true → right.PutsByte x own inside (note_in n) (rows_in rest) op i new v
+  puts_byte_is rest files.Movf i new v e = puts_same_is rest files.Movf i new v e
+  puts_byte_is rest op i literals.Movlw v e = puts_number_is rest op i v e
+  puts_byte_is rest op i new v e = puts_same_is rest op i new v e
+
+  puts_for_is : (rest : List ListedRow) (op : FileOperation) (a : Aim) (new : LiteralOperation) (v : ℕ) → puts_for k block n rest op a new v ≡ true → PutsFor x own inside (note_in n) (rows_in rest) op a new v
+  puts_for_is rest op (ToByte i) new v e = puts_byte_is rest op i new v e
   puts_for_is rest op a new v e = never e
 
   put_is : (rest : List ListedRow) (new : LiteralOperation) (v : ℕ) (s : Sym) → is_put k block n rest new v s ≡ true → IsPut x own inside (note_in n) (rows_in rest) new v s
@@ -584,25 +378,108 @@ module _ (k : Sketch) (limit : Bool → ℕ) (old_page new_page : BlockName → 
   narrowed_is rest (syms.Label label) e = tt
   narrowed_is rest s e = never e
 
+  clears_for_is : (rest : List ListedRow) (operand : Operand) → clears_for k block n rest operand ≡ true → right.ClearsFor x own inside (note_in n) (rows_in rest) operand
+  clears_for_is rest operand e =
+      let a = aim k.layout inside true operand in
+      let one = may_clear operand in
+      let two = is_number n.facts.number 0 in
+      let three = expects (ahead rest) (stored k.hidden a f) (same_byte a (record d { z = true })) bytes in
+      let more = and_r one (two && three) e in (
+        and_l one (two && three) e,
+        number_is n.facts.number 0 (and_l two three more),
+        expects_at rest (stored k.hidden a f) (same_byte a (record d { z = true })) bytes (within_same a (record d { z = true }) bytes (λ z o. o)) (and_r two three more),
+      )
+
+  cleared_is : (rest : List ListedRow) (s : Sym) → is_cleared k block n rest s ≡ true → right.IsCleared x own inside (note_in n) (rows_in rest) s
+  cleared_is rest (syms.Movwf operand) e = clears_for_is rest operand e
+  cleared_is rest (syms.Label label) e = tt
+  cleared_is rest s e = never e
+
+  reads_for_is : (rest : List ListedRow) (op : FileOperation) (a b : Aim) → reads_for k block n rest op a b ≡ true → right.ReadsFor x own inside (note_in n) (rows_in rest) op a b
+  reads_for_is rest op (ToByte i) (ToByte j) e =
+      let one = not (uses_w op && n.apart.w) && not (uses_c op && n.apart.c) in
+      let two = is_twin n.facts.twins i j in
+      let three = same k.hidden (ToByte j) bytes block.outer in
+      let four = leads rest (way_of op (f.known i)) (after_to_w op (ToByte i) f) (same_w (both_set (flags_in op) d)) bytes in
+      let b = and_r one (two && (three && four)) e in
+      let c = and_r two (three && four) b in (
+        uses_are op (and_l one (two && (three && four)) e),
+        and_l two (three && four) b,
+        same_at (ToByte j) (and_l three four c),
+        leads_is rest (way_of op (f.known i)) (after_to_w op (ToByte i) f) (same_w (both_set (flags_in op) d)) bytes here (and_r three four c),
+      )
+  reads_for_is rest op a b e = never e
+
+  reads_to_is : (rest : List ListedRow) (op : FileOperation) (a b c : Aim) → reads_to k block n rest op a b c ≡ true → right.ReadsTo x own inside (note_in n) (rows_in rest) op a b c
+  reads_to_is rest op (ToByte i) (ToByte h) (ToByte j) e =
+      let g = lost k.hidden (ToByte i) (without_zero f) in
+      let u = other_w (other_byte i (both_set (flags_in op) d)) in
+      let one = not (uses_w op && n.apart.w) && not (uses_c op && n.apart.c) in
+      let two = is_twin n.facts.twins i j in
+      let three = same k.hidden (ToByte j) bytes block.outer in
+      let four = not (may_skip op) in
+      let five = nat_eq h i in
+      let six = expects_by (Some i) (ahead rest) g u (i ∷ bytes) in
+      let b = and_r one (two && (three && (four && (five && six)))) e in
+      let c = and_r two (three && (four && (five && six))) b in
+      let v = and_r three (four && (five && six)) c in
+      let w = and_r four (five && six) v in (
+        uses_are op (and_l one (two && (three && (four && (five && six)))) e),
+        and_l two (three && (four && (five && six))) b,
+        same_at (ToByte j) (and_l three (four && (five && six)) c),
+        is_not (may_skip op) (and_l four (five && six) v),
+        eqb-true h i (and_l five six w),
+        expects_by_at (Some i) rest g u (i ∷ bytes) (within_other i (both_set (flags_in op) d) bytes (λ z o. o)) (and_r five six w),
+      )
+  reads_to_is rest op a b c e = never e
+
+  tests_for_is : (rest : List ListedRow) (op : BitOperation) (bit : ℕ) (a b : Aim) → tests_for k block n rest op bit a b ≡ true → right.TestsFor x own inside (note_in n) (rows_in rest) op bit a b
+  tests_for_is rest op bit (ToByte i) (ToByte j) e =
+      let one = is_twin n.facts.twins i j in
+      let two = same k.hidden (ToByte j) bytes block.outer in
+      let way = way_of_bit op (f.known i) bit in
+      let three = leads rest way f d bytes in
+      let more = and_r one (two && three) e in
+      (and_l one (two && three) e, same_at (ToByte j) (and_l two three more), leads_is rest way f d bytes here (and_r two three more))
+  tests_for_is rest op bit a b e = never e
+
+  reads_bit_is : (rest : List ListedRow) (op : BitOperation) (bit : ℕ) (a b : Aim) → reads_bit k block n rest op bit a b ≡ true → right.ReadsBit x own inside (note_in n) (rows_in rest) op bit a b
+  reads_bit_is rest Btfsc bit a b e = tests_for_is rest Btfsc bit a b e
+  reads_bit_is rest Btfss bit a b e = tests_for_is rest Btfss bit a b e
+  reads_bit_is rest op bit a b e = never e
+
+  read_is : (rest : List ListedRow) (before : ℕ) (s : Sym) → is_read k block n rest before s ≡ true → right.IsRead x own inside (note_in n) (rows_in rest) before s
+  read_is rest before (syms.File op operand into.W) e = reads_for_is rest op (aim k.layout inside false operand) (aim k.layout inside false (operand_before before operand)) e
+  read_is rest before (syms.File op operand into.File) e = reads_to_is rest op (aim k.layout inside true operand) (aim k.layout inside false operand) (aim k.layout inside false (operand_before before operand)) e
+  read_is rest before (syms.Bit op operand b) e = reads_bit_is rest op b (aim k.layout inside false operand) (aim k.layout inside false (operand_before before operand)) e
+  read_is rest before (syms.Label label) e = tt
+  read_is rest before s e = never e
+
   pub row_is : (to : ℕ) (rest : List ListedRow) (act : Act) (s : Sym) → is_right_row k block n to rest act s ≡ true → IsRight x own inside (note_in n) to (rows_in rest) act s
   row_is to rest Keeps s e = kept_is rest s e
   row_is to rest Drops s e = dropped_is to rest s e
   row_is to rest (Puts new v) s e = put_is rest new v s e
   row_is to rest Narrows s e = narrowed_is rest s e
+  row_is to rest Clears s e = cleared_is rest s e
+  row_is to rest (Reads before) s e = read_is rest before s e
 
   pub note_is : is_note k.layout inside n ≡ true → IsNote x inside (note_in n)
   note_is e =
+      let is_near_byte : ℕ → Bool = λ a. is_near inside (owner k.layout a) in
       let one = all_of (λ a. is_near inside (owner k.layout a)) n.facts.held in
       let two = all_known (λ a. is_near inside (owner k.layout a)) n.facts.known in
-      let three = all_of (λ a. is_own inside (owner k.layout a)) bytes in
-      let four = carries_near k.layout inside n.carry in
-      let more = and_r one (two && (three && four)) e in
-      let last = and_r two (three && four) more in
+      let three = all_twins (λ a. is_near inside (owner k.layout a)) n.facts.twins in
+      let four = all_of (λ a. is_own inside (owner k.layout a)) bytes in
+      let five = carries_near k.layout inside n.carry in
+      let b = and_r one (two && (three && (four && five))) e in
+      let c = and_r two (three && (four && five)) b in
+      let last = and_r three (four && five) c in
       record {
-        held = λ a h. all_is (λ j. is_near inside (owner k.layout j)) n.facts.held (and_l one (two && (three && four)) e) a h;
-        known = λ a i h. known_all (λ j. is_near inside (owner k.layout j)) n.facts.known (and_l two (three && four) more) a i h;
-        bytes = λ a h. all_not (λ j. is_own inside (owner k.layout j)) bytes (and_l three four last) a h;
-        carry = λ a h. carry_at n.carry (and_r three four last) a h;
+        held = λ a h. all_is is_near_byte n.facts.held (and_l one (two && (three && (four && five))) e) a h;
+        known = λ a i h. known_all is_near_byte n.facts.known (and_l two (three && (four && five)) b) a i h;
+        twin = λ a i h. twins_all is_near_byte n.facts.twins (and_l three (four && five) c) a i h;
+        bytes = λ a h. all_not (λ j. is_own inside (owner k.layout j)) bytes (and_l four five last) a h;
+        carry = λ a h. carry_at n.carry (and_r four five last) a h;
       }
     where
       carry_at : (o : Option ℕ) → carries_near k.layout inside o ≡ true → (a : ℕ) → o ≡ Some a → is_near inside (owner k.layout a) ≡ true

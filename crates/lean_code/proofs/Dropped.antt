@@ -1,6 +1,6 @@
 -- An instruction that is left out: the machine that runs the given code executes it alone.
 use Rattle.std.proofs.Common.{◌≡◌, ℕ, Bool, true, false, if◌then◌else◌, List, drop, Option, Some, None, option_map, refl, sym, ap, ◌∙◌, subst}
-use Rattle.std.specs.Prelude.{nat_eq, nat_lt, ◌&&◌}
+use Rattle.std.specs.Prelude.{nat_eq, nat_lt, not, ◌&&◌, ◌||◌}
 use Rattle.std.proofs.lemmas.Bool.{eqb-true}
 use Rattle.std.proofs.lemmas.Option.{none-some}
 use Rattle.pic_isa.specs.declared.Ins.TheVariants as ins
@@ -28,18 +28,20 @@ use Rattle.sym_code.specs.declared.code.Sym.{Sym}
 use Rattle.sym_code.specs.declared.code.Sym.TheVariants as syms
 use Rattle.sym_code.specs.declared.code.Target.{Target}
 use Rattle.sym_code.specs.declared.code.Target.TheVariants as targets
-use Rattle.lean_code.specs.Rows.{Facts, Apart, Note, Row, olds, place_in, note_ahead, past, Lean, old_program, old_setting}
-use Rattle.lean_code.specs.Changes.{is_number, one_ors, one_clears, z_alone, Holds, Alike, Aim, ToByte, aim, lost, without_zero, moved, after_to_w, learned, stored, flags_in, may_skip, literal_flags, is_retlw, one_sets, other_w, other_byte, one_moves, one_stores}
-use Rattle.lean_code.specs.Right.{Expects, Passes, noted, with_flag, after_literal, dropped_literal, ExpectsBy, carry_but, DropsCarried, DropsMove, DropsToW, DropsToFile, DropsStore, DropsClear, DropsChange, DropsTest, DropsBit, DropsPlain, DropsGoto, IsDropped, IsSound}
+use Rattle.lean_code.specs.Computed.{computed, file_for, way_of, way_of_bit}
+use Rattle.lean_code.specs.Rows.{Facts, Apart, Note, Row, olds, place_in, note_ahead, past, drops_first, Lean, old_program, old_setting}
+use Rattle.lean_code.specs.Changes.{is_number, same_known, leaves_w, stays, one_works, one_writes, one_clears, Holds, Alike, Aim, ToByte, aim, lost, without_zero, moved, after_to_w, after_to_file, learned, stored, flags_in, is_retlw, one_sets, other_w, other_byte, one_moves, one_stores}
+use Rattle.lean_code.specs.Right.{Expects, Passes, noted, with_flag, after_literal, dropped_number, dropped_literal, ExpectsBy, carry_but, DropsCarried, DropsMove, DropsToW, DropsToFile, DropsStore, DropsClear, DropsChange, DropsTest, DropsBit, DropsPlain, DropsGoto, IsDropped, IsSound}
 use Rattle.lean_code.specs.Links.{clears}
 use Rattle.lean_code.proofs.Lists.{never, dropped_at}
 use Rattle.lean_code.proofs.Places.{under, row_at, to_behind, to_past, to_label, under_dropped, under_stand, drops_behind}
-use Rattle.lean_code.proofs.Alike.{flags_alone, literal_alone, clear_alone, move_is, or_zero, moved_w}
-use Rattle.lean_code.proofs.Facts.{some_is, number_of, own_other, lose_zero, to_w_holds, flags_hold, lost_byte, learned_byte, stored_byte}
+use Rattle.lean_code.proofs.Alike.{flags_alone, literal_alone, literal_is, clear_alone, move_is, moved_w}
+use Rattle.lean_code.proofs.Computing.{Says, computed_is, left_is, zero_is, zero_stays, same_known_is, way_is, bit_way_is, file_is, no_move}
+use Rattle.lean_code.proofs.Facts.{some_is, number_of, own_other, lose_zero, to_w_holds, flags_hold, lost_byte, learned_byte, learned_says, stored_byte}
 use Rattle.lean_code.proofs.Flags.{set_alone}
 use Rattle.lean_code.proofs.Accesses.{Told, Aims, access_told, access_aims}
 use Rattle.lean_code.proofs.Relation.{held, Goes, Alone}
-use Rattle.lean_code.proofs.Kept.{Scene, skip_ok, one, other, rows, go_by}
+use Rattle.lean_code.proofs.Kept.{Scene, one, other, rows, go_by}
 use Rattle.lean_code.proofs.KeptRows.{flag_bytes, literal_quiet, literal_holds, cleared_holds}
 
 -- a byte that one machine writes
@@ -90,20 +92,29 @@ module _ (x : Lean) (sound : IsSound x) (inside : Bool) (rest : ℕ → Bool) (s
   Lone = Alone x inside rest second m k
 
   -- the machine that was given the code goes on, and the other one stands
-  pass : (carry : Option ℕ) (can c : Bool) → (c ≡ true → can ≡ true) → (g : Facts) (e : Apart) → Passes carry list can g e → (t : Registers) (b : Memory) → Alike e t s → Holds g t b
-      → ((j : ℕ) → e.bytes j ≡ false → held scene.ks j ≡ false → rest j ≡ false → b j ≡ k j) → ((j : ℕ) → carry ≡ Some j → b j ≡ s.w) → Goes x inside rest (goes first (onward (old_program x) p c) t) second b k
-  pass carry false false ok g e l t b al h same carries =
+  pass_on : (carry : Option ℕ) (g : Facts) (e : Apart) → ExpectsBy carry (note_ahead list) g e → (t : Registers) (b : Memory) → Alike e t s → Holds g t b
+      → ((j : ℕ) → e.bytes j ≡ false → held scene.ks j ≡ false → rest j ≡ false → b j ≡ k j) → ((j : ℕ) → carry ≡ Some j → b j ≡ s.w) → Goes x inside rest (goes first (behind (old_program x) p) t) second b k
+  pass_on carry g e l t b al h same carries =
       go_by x sound inside rest scene carry (note_ahead list) g e (behind (old_program x) p) (under x p) (to_behind x p) (sym (under_dropped x p dropped)) l None None refl tt t s b k al h same carries
-  pass carry true false ok g e l t b al h same carries =
-      go_by x sound inside rest scene carry (note_ahead list) g e (behind (old_program x) p) (under x p) (to_behind x p) (sym (under_dropped x p dropped)) l.runs None None refl tt t s b k al h same carries
-  pass carry true true ok g e l t b al h same carries =
+
+  pass_over : (carry : Option ℕ) (g : Facts) (e : Apart) → ExpectsBy carry (note_ahead (past list)) g e → drops_first list ≡ true → (t : Registers) (b : Memory) → Alike e t s → Holds g t b
+      → ((j : ℕ) → e.bytes j ≡ false → held scene.ks j ≡ false → rest j ≡ false → b j ≡ k j) → ((j : ℕ) → carry ≡ Some j → b j ≡ s.w) → Goes x inside rest (goes first (onward (old_program x) p true) t) second b k
+  pass_over carry g e l drops t b al h same carries =
       go_by x sound inside rest scene carry (note_ahead (past list)) g e (behind (old_program x) (behind (old_program x) p)) (under x p) (to_past x p)
-      (sym (under_dropped x (behind (old_program x) p) (drops_behind x p l.drops) ∙ under_dropped x p dropped)) l.skips None None refl tt t s b k al h same carries
-  pass carry false true ok g e l t b al h same carries = never (ok refl)
+      (sym (under_dropped x (behind (old_program x) p) (drops_behind x p drops) ∙ under_dropped x p dropped)) l None None refl tt t s b k al h same carries
+
+  pass : (carry : Option ℕ) (way : Option Bool) (c : Bool) → ((b : Bool) → way ≡ Some b → c ≡ b) → (g : Facts) (e : Apart) → Passes carry list way g e → (t : Registers) (b : Memory) → Alike e t s → Holds g t b
+      → ((j : ℕ) → e.bytes j ≡ false → held scene.ks j ≡ false → rest j ≡ false → b j ≡ k j) → ((j : ℕ) → carry ≡ Some j → b j ≡ s.w) → Goes x inside rest (goes first (onward (old_program x) p c) t) second b k
+  pass carry None false ok g e l = pass_on carry g e l.runs
+  pass carry None true ok g e l = pass_over carry g e l.skips l.drops
+  pass carry (Some false) false ok g e l = pass_on carry g e l
+  pass carry (Some false) true ok g e l = never (sym (ok false refl))
+  pass carry (Some true) true ok g e l = pass_over carry g e l.0 l.1
+  pass carry (Some true) false ok g e l = never (ok true refl)
 
   moves : (carry : Option ℕ) (g : Facts) (e : Apart) → ExpectsBy carry (note_ahead list) g e → (t : Registers) (b : Memory) → Alike e t s → Holds g t b
       → ((j : ℕ) → e.bytes j ≡ false → held scene.ks j ≡ false → rest j ≡ false → b j ≡ k j) → ((j : ℕ) → carry ≡ Some j → b j ≡ s.w) → Goes x inside rest (goes first (behind (old_program x) p) t) second b k
-  moves carry g e l = pass carry false false (λ z. z) g e l
+  moves carry g e l = pass_on carry g e l
 
   differs : (c h j i : ℕ) → nat_eq c j ≡ false → c ≡ h → j ≡ i → nat_eq h i ≡ false
   differs c h j i e a b = ap (λ (z : ℕ). nat_eq z i) (sym a) ∙ ap (λ (z : ℕ). nat_eq c z) (sym b) ∙ e
@@ -127,15 +138,51 @@ module _ (x : Lean) (sound : IsSound x) (inside : Bool) (rest : ℕ → Bool) (s
   aim_eq j h e = cc
 
   -- ---- to W
-  to_w_alone : (op : FileOperation) (j i : ℕ) → j ≡ i → Passes n.carry list (may_skip op) (after_to_w op (ToByte j) f) (other_w (one_sets (flags_in op) d))
+  -- where W stays, Z may say of it what it said
+  kept_zero : (op : FileOperation) (v : ℕ) → result_with r op v ≡ r.w → ((flags_in op).z && not f.zero || d.z) ≡ false → (flags_with r op v).z ≡ s.z
+  kept_zero op v is e = by_case (flags_in op).z f.zero d.z refl scene.holds.zero scene.alike.z e
+    where
+      by_case : (c g b : Bool) → (flags_in op).z ≡ c → (g ≡ true → r.z ≡ truth (nat_eq r.w 0)) → (b ≡ false → r.z ≡ s.z) → (c && not g || b) ≡ false → (flags_with r op v).z ≡ s.z
+      by_case true true b set says l e = zero_is op r v set ∙ ap (λ (i : ℕ). truth (nat_eq i 0)) is ∙ sym (says refl) ∙ l e
+      by_case true false b set says l e = never (sym e)
+      by_case false g b set says l e = zero_stays op r v set ∙ l e
+
+  stays_is : (op : FileOperation) (byte : Option ℕ) (v : ℕ) → Says byte v → stays op byte f ≡ true → result_with r op v ≡ r.w
+  stays_is op byte v says e = by_case (leaves_w op byte) refl e
+    where
+      by_case : (c : Bool) → leaves_w op byte ≡ c → (c || same_known (computed op f.number byte) f.number) ≡ true → result_with r op v ≡ r.w
+      by_case true is e = left_is op r v byte says is
+      by_case false is e = same_known_is (computed op f.number byte) f.number (result_with r op v) r.w (λ i h. computed_is op r v i f.number byte scene.holds.number says h) scene.holds.number e
+
+  pub works_regs : (op : FileOperation) (byte : Option ℕ) (v : ℕ) → Says byte v → Alike (one_works op byte f d) (record (flags_with r op v) { w = result_with r op v }) s
+  works_regs op byte v says = by_case (stays op byte f) refl
+    where
+      al : Alike (one_sets (flags_in op) d) (flags_with r op v) s
+      al = flags_alone d r s scene.alike op v
+
+      by_case : (c : Bool) → stays op byte f ≡ c
+          → Alike (if c then record (one_sets (flags_in op) d) { z = (flags_in op).z && not f.zero || d.z } else other_w (one_sets (flags_in op) d)) (record (flags_with r op v) { w = result_with r op v }) s
+      by_case true e = let is = stays_is op byte v says e in record { w = λ h. is ∙ scene.alike.w h; z = kept_zero op v is; dc = al.dc; c = al.c; fsr = al.fsr; irp = al.irp }
+      by_case false e = record { w = λ h. never (sym h); z = al.z; dc = al.dc; c = al.c; fsr = al.fsr; irp = al.irp }
+
+  works_bytes : (op : FileOperation) (byte : Option ℕ) (a : ℕ) → (one_works op byte f d).bytes a ≡ d.bytes a
+  works_bytes op byte a = by_case (stays op byte f)
+    where
+      by_case : (c : Bool) → (if c then record (one_sets (flags_in op) d) { z = (flags_in op).z && not f.zero || d.z } else other_w (one_sets (flags_in op) d)).bytes a ≡ d.bytes a
+      by_case true = refl
+      by_case false = refl
+
+  known_says : (j i : ℕ) → j ≡ i → Says (f.known j) (m i)
+  known_says j i is v e = ap m (sym is) ∙ scene.holds.known j v e
+
+  to_w_alone : (op : FileOperation) (j i : ℕ) → j ≡ i → Passes n.carry list (way_of op (f.known j)) (after_to_w op (ToByte j) f) (one_works op (f.known j) f d)
       → Lone (file_to_w (old_program x) p first m op (Silent i))
-  to_w_alone op j i is l =
-      let al = flags_alone d r s scene.alike op (m i) in (
-        pass n.carry (may_skip op) (skips_with r op (m i)) (skip_ok r op (m i)) (after_to_w op (ToByte j) f) (other_w (one_sets (flags_in op) d)) l (record (flags_with r op (m i)) { w = result_with r op (m i) }) m
-            (record { w = λ e. never (sym e); z = al.z; dc = al.dc; c = al.c; fsr = al.fsr; irp = al.irp })
-            (to_w_holds f r m scene.holds op (ToByte j) (m i) (λ h e. ap m (sym is ∙ aim_eq j h e))) scene.still scene.carry,
-        tt,
-      )
+  to_w_alone op j i is l = (
+    pass n.carry (way_of op (f.known j)) (skips_with r op (m i)) (λ b h. way_is op r (m i) (f.known j) b (known_says j i is) h) (after_to_w op (ToByte j) f) (one_works op (f.known j) f d) l
+        (record (flags_with r op (m i)) { w = result_with r op (m i) }) m (works_regs op (f.known j) (m i) (known_says j i is))
+        (to_w_holds f r m scene.holds op (ToByte j) (m i) (λ h e. ap m (sym is ∙ aim_eq j h e))) (λ a z o w. scene.still a (sym (works_bytes op (f.known j) a) ∙ z) o w) scene.carry,
+    tt,
+  )
 
   w_if : (c b : Bool) (v y : ℕ) → (c ≡ true → y ≡ v) → (b ≡ false → y ≡ s.w) → (if c then b else true) ≡ false → v ≡ s.w
   w_if true b v y same l e = sym (same refl) ∙ l e
@@ -180,37 +227,8 @@ module _ (x : Lean) (sound : IsSound x) (inside : Bool) (rest : ℕ → Bool) (s
   move_by None e j i is l = move_alone j i is l
   move_by (Some c) e j i is l = carry_alone j i c is e (nat_eq c j) refl l
 
-  -- 0 leaves W as it is
-  z_or : (g b : Bool) → (g ≡ true → r.z ≡ truth (nat_eq r.w 0)) → (b ≡ false → r.z ≡ s.z) → (if g then b else true) ≡ false → truth (nat_eq r.w 0) ≡ s.z
-  z_or true b zero l e = sym (zero refl) ∙ l e
-  z_or false b zero l e = never (sym e)
-
-  or_regs : (j i : ℕ) → j ≡ i → (c : Bool) → is_number (f.known j) 0 ≡ c
-      → Alike (if c then record d { z = if f.zero then d.z else true } else other_w (one_sets z_alone d)) (record (flags_with r files.Iorwf (m i)) { w = result_with r files.Iorwf (m i) }) s
-  or_regs j i is true e =
-      let none : m i ≡ 0 = ap m (sym is) ∙ scene.holds.known j 0 (number_of (f.known j) 0 e) in
-      subst (λ (t : Registers). Alike (record d { z = if f.zero then d.z else true }) t s) (sym (or_zero r (m i) none))
-      (record { w = scene.alike.w; z = λ h. z_or f.zero d.z scene.holds.zero scene.alike.z h; dc = scene.alike.dc; c = scene.alike.c; fsr = scene.alike.fsr; irp = scene.alike.irp })
-  or_regs j i is false e =
-      let al = flags_alone d r s scene.alike files.Iorwf (m i) in
-      record { w = λ h. never (sym h); z = al.z; dc = al.dc; c = al.c; fsr = al.fsr; irp = al.irp }
-
-  or_bytes : (c : Bool) (a : ℕ) → (if c then record d { z = if f.zero then d.z else true } else other_w (one_sets z_alone d)).bytes a ≡ d.bytes a
-  or_bytes true a = refl
-  or_bytes false a = refl
-
-  or_alone : (j i : ℕ) → j ≡ i → ExpectsBy n.carry (note_ahead list) (after_to_w files.Iorwf (ToByte j) f) (one_ors f j d) → Lone (file_to_w (old_program x) p first m files.Iorwf (Silent i))
-  unfolding skips_with
-  or_alone j i is l = (
-    moves n.carry (after_to_w files.Iorwf (ToByte j) f) (one_ors f j d) l (record (flags_with r files.Iorwf (m i)) { w = result_with r files.Iorwf (m i) }) m
-        (or_regs j i is (is_number (f.known j) 0) refl)
-        (to_w_holds f r m scene.holds files.Iorwf (ToByte j) (m i) (λ h e. ap m (sym is ∙ aim_eq j h e))) (λ a z o w. scene.still a (sym (or_bytes (is_number (f.known j) 0) a) ∙ z) o w) scene.carry,
-    tt,
-  )
-
   file_to_w_alone : (op : FileOperation) (a : Aim) (c : Access) → Aims x a c → DropsToW x p.block inside n list op a → Lone (file_to_w (old_program x) p first m op c)
   file_to_w_alone files.Movf (ToByte j) (Silent i) is l = move_by n.carry refl j i is l
-  file_to_w_alone files.Iorwf (ToByte j) (Silent i) is l = or_alone j i is l
   file_to_w_alone op (ToByte j) (Silent i) is l = to_w_alone op j i is l
   file_to_w_alone op (ToByte j) Denied is l = tt
   file_to_w_alone op (ToByte j) c is l = absurd is
@@ -221,14 +239,35 @@ module _ (x : Lean) (sound : IsSound x) (inside : Bool) (rest : ℕ → Bool) (s
   written_alone e j i v is same a z o w =
       byte_one (nat_eq a i) (e.bytes a) v (m a) (k a) (λ h. scene.still a (sym (same a) ∙ h) o w) (subst (λ (h : ℕ). (if nat_eq a h then true else e.bytes a) ≡ false) is z)
 
+  writes_regs : (op : FileOperation) (j v : ℕ) → Alike (one_writes op j f d) (flags_with r op v) s
+  writes_regs op j v = by_case (same_known (computed op f.number (f.known j)) (f.known j))
+    where
+      al : Alike (one_sets (flags_in op) d) (flags_with r op v) s
+      al = flags_alone d r s scene.alike op v
+
+      by_case : (c : Bool) → Alike (if c then one_sets (flags_in op) d else other_byte j (one_sets (flags_in op) d)) (flags_with r op v) s
+      by_case true = al
+      by_case false = record { w = al.w; z = al.z; dc = al.dc; c = al.c; fsr = al.fsr; irp = al.irp }
+
+  -- the byte may hold the result already
+  written_same : (op : FileOperation) (j i v : ℕ) → j ≡ i → (same_known (computed op f.number (f.known j)) (f.known j) ≡ true → v ≡ m i)
+      → (a : ℕ) → (one_writes op j f d).bytes a ≡ false → held scene.ks a ≡ false → rest a ≡ false → with_byte m i v a ≡ k a
+  written_same op j i v is same = by_case (same_known (computed op f.number (f.known j)) (f.known j)) same
+    where
+      by_case : (c : Bool) → (c ≡ true → v ≡ m i) → (a : ℕ) → (if c then one_sets (flags_in op) d else other_byte j (one_sets (flags_in op) d)).bytes a ≡ false → held scene.ks a ≡ false → rest a ≡ false → with_byte m i v a ≡ k a
+      by_case true same a z o w = byte_still (nat_eq a i) v (m a) (λ e. same refl ∙ ap m (sym (eqb-true a i e))) ∙ scene.still a z o w
+      by_case false same a z o w = written_alone (one_sets (flags_in op) d) j i v is (λ b. refl) a z o w
+
   file_to_file_alone : (op : FileOperation) (a : Aim) (c : Access) → Aims x a c → Told x inside true c → DropsToFile x p.block inside n list op a → Lone (file_to_file (old_program x) p first m op c)
   file_to_file_alone op (ToByte j) (Silent i) is t l =
-      let al = flags_alone d r s scene.alike op (m i) in
-      let v = result_with r op (m i) in (
-        pass (carry_but j n.carry) (may_skip op) (skips_with r op (m i)) (skip_ok r op (m i)) (lost x.hidden (ToByte j) (without_zero f)) (other_byte j (one_sets (flags_in op) d)) l (flags_with r op (m i)) (with_byte m i v)
-            (record { w = al.w; z = al.z; dc = al.dc; c = al.c; fsr = al.fsr; irp = al.irp })
-            (subst (λ (h : ℕ). Holds (lost x.hidden (ToByte h) (without_zero f)) (flags_with r op (m i)) (with_byte m i v)) (sym is) (lost_byte (without_zero f) (flags_with r op (m i)) m (flags_hold f r m scene.holds op (m i)) x.hidden i v))
-            (written_alone (one_sets (flags_in op) d) j i v is (λ a. refl)) (carried_but j i v is),
+      let says = known_says j i is in
+      let v = result_with r op (m i) in
+      let made : Says (computed op f.number (f.known j)) v = λ h e. computed_is op r (m i) h f.number (f.known j) scene.holds.number says e in (
+        pass (carry_but j n.carry) (way_of op (f.known j)) (skips_with r op (m i)) (λ b h. way_is op r (m i) (f.known j) b says h) (after_to_file x.hidden op (ToByte j) f) (one_writes op j f d) l
+            (flags_with r op (m i)) (with_byte m i v) (writes_regs op j (m i))
+            (subst (λ (h : ℕ). Holds (learned x.hidden (ToByte h) (computed op f.number (f.known j)) (without_zero f)) (flags_with r op (m i)) (with_byte m i v)) (sym is)
+            (learned_says x.hidden (without_zero f) (flags_with r op (m i)) m i v (computed op f.number (f.known j)) made (flags_hold f r m scene.holds op (m i))))
+            (written_same op j i v is (λ e. same_known_is (computed op f.number (f.known j)) (f.known j) v (m i) made says e)) (carried_but j i v is),
         own_other inside (owner x.layout i) t,
       )
   file_to_file_alone op (ToByte j) Denied is t l = tt
@@ -288,11 +327,11 @@ module _ (x : Lean) (sound : IsSound x) (inside : Bool) (rest : ℕ → Bool) (s
   change_alone g (ToByte j) c is t l = absurd is
   change_alone g a c is t l = absurd l
 
-  test_alone : (says : ℕ → Bool) (a : Aim) (c : Access) → Aims x a c → DropsTest x p.block inside n list a → Lone (test (old_program x) p first m says c)
-  test_alone says (ToByte j) (Silent i) is l = (pass n.carry true (says (m i)) (λ z. refl) f d l r m scene.alike scene.holds scene.still scene.carry, tt)
-  test_alone says (ToByte j) Denied is l = tt
-  test_alone says (ToByte j) c is l = absurd is
-  test_alone says a c is l = absurd l
+  test_alone : (op : BitOperation) (b : ℕ) (says : ℕ → Bool) → ((byte : Option ℕ) (v : ℕ) (c : Bool) → Says byte v → way_of_bit op byte b ≡ Some c → says v ≡ c) → (a : Aim) (c : Access) → Aims x a c → DropsTest x p.block inside n list op a b → Lone (test (old_program x) p first m says c)
+  test_alone op b says ok (ToByte j) (Silent i) is l = (pass n.carry (way_of_bit op (f.known j) b) (says (m i)) (λ c h. ok (f.known j) (m i) c (known_says j i is) h) f d l r m scene.alike scene.holds scene.still scene.carry, tt)
+  test_alone op b says ok (ToByte j) Denied is l = tt
+  test_alone op b says ok (ToByte j) c is l = absurd is
+  test_alone op b says ok a c is l = absurd l
 
   -- ---- flags
   put_alone : (b v : ℕ) → nat_lt b 3 ≡ true → ExpectsBy n.carry (note_ahead list) (without_zero f) (with_flag b true d) → (o : Option Registers) → with_status_bit r b v ≡ o → Lone (put_flag (old_program x) p first o)
@@ -301,9 +340,9 @@ module _ (x : Lean) (sound : IsSound x) (inside : Bool) (rest : ℕ → Bool) (s
       let z = set_alone d r s scene.alike b v t low is in
       (moves n.carry (without_zero f) (with_flag b true d) l t m z.0 (lose_zero f r m scene.holds t z.1) (λ j e o w. scene.still j (sym (flag_bytes b true d j) ∙ e) o w) scene.carry, tt)
 
-  test_flag_alone : (v : ℕ) → Passes n.carry list true f d → (o : Option ℕ) → Lone (test_flag (old_program x) p first v o)
+  test_flag_alone : (v : ℕ) → Passes n.carry list None f d → (o : Option ℕ) → Lone (test_flag (old_program x) p first v o)
   test_flag_alone v l None = tt
-  test_flag_alone v l (Some i) = (pass n.carry true (nat_eq i v) (λ z. refl) f d l r m scene.alike scene.holds scene.still scene.carry, tt)
+  test_flag_alone v l (Some i) = (pass n.carry None (nat_eq i v) (λ b h. absurd (cc)) f d l r m scene.alike scene.holds scene.still scene.carry, tt)
 
   flag_alone : (op : BitOperation) (b : ℕ) → DropsBit x p.block inside n list op (operands.Register Status) b → Lone (flag (old_program x) p first op b)
   flag_alone Bcf b e = put_alone b 0 e.0 e.1 (with_status_bit r b 0) refl
@@ -317,16 +356,27 @@ module _ (x : Lean) (sound : IsSound x) (inside : Bool) (rest : ℕ → Bool) (s
       record { w = λ h. sym (scene.holds.number v (number_of f.number v e)) ∙ scene.alike.w h; z = scene.alike.z; dc = scene.alike.dc; c = scene.alike.c; fsr = scene.alike.fsr; irp = scene.alike.irp }
   number_regs v false e = record { w = λ h. never (sym h); z = scene.alike.z; dc = scene.alike.dc; c = scene.alike.c; fsr = scene.alike.fsr; irp = scene.alike.irp }
 
+  number_literal : (op : LiteralOperation) (v : ℕ) → is_retlw op ≡ false → (o : Option FileOperation) → file_for op ≡ o → Alike (dropped_number f d op o v) (after_row (literal_row op v) r) s
+  number_literal op v plain_op None e = literal_alone d r s scene.alike op v plain_op
+  number_literal op v plain_op (Some file) e =
+      subst (λ (t : Registers). Alike (one_works file (Some v) f d) t s) (literal_is file op r v (file_is op file e) (no_move op file e)) (works_regs file (Some v) v (λ i h. some_is v i h))
+
   literal_regs : (op : LiteralOperation) (value : Literal) → is_retlw op ≡ false → Alike (dropped_literal f d op value) (after_row (literal_row op (literal_value x.layout value)) r) s
   literal_regs literals.Movlw (Number v) plain_op = subst (λ (t : Registers). Alike (dropped_literal f d literals.Movlw (Number v)) t s) (sym (moved_w r v)) (number_regs v (is_number f.number v) refl)
+  literal_regs op (Number v) plain_op = number_literal op v plain_op (file_for op) refl
   literal_regs op value plain_op = literal_alone d r s scene.alike op (literal_value x.layout value) plain_op
 
   number_bytes : (c : Bool) (a : ℕ) → (if c then d else other_w d).bytes a ≡ d.bytes a
   number_bytes true a = refl
   number_bytes false a = refl
 
+  number_literal_bytes : (op : LiteralOperation) (v : ℕ) (o : Option FileOperation) (a : ℕ) → (dropped_number f d op o v).bytes a ≡ d.bytes a
+  number_literal_bytes op v None a = refl
+  number_literal_bytes op v (Some file) a = works_bytes file (Some v) a
+
   pub literal_bytes : (op : LiteralOperation) (value : Literal) (a : ℕ) → (dropped_literal f d op value).bytes a ≡ d.bytes a
   literal_bytes literals.Movlw (Number v) a = number_bytes (is_number f.number v) a
+  literal_bytes op (Number v) a = number_literal_bytes op v (file_for op) a
   literal_bytes op value a = refl
 
   literal_lone : (op : LiteralOperation) (value : Literal) → is_retlw op ≡ false → ExpectsBy n.carry (note_ahead list) (after_literal f op value) (dropped_literal f d op value)
@@ -368,8 +418,8 @@ module _ (x : Lean) (sound : IsSound x) (inside : Bool) (rest : ℕ → Bool) (s
   dropped_alone (syms.Bit op (operands.Register Status) b) clear e = flag_alone op b e
   dropped_alone (syms.Bit Bcf operand b) clear e = change_alone (clear_bit b) (aim x.layout inside true operand) (access_of (old_setting x) inside true r operand) (access_aims x inside true r operand clear) (access_told x inside true r operand) e
   dropped_alone (syms.Bit Bsf operand b) clear e = change_alone (set_bit b) (aim x.layout inside true operand) (access_of (old_setting x) inside true r operand) (access_aims x inside true r operand clear) (access_told x inside true r operand) e
-  dropped_alone (syms.Bit Btfsc operand b) clear e = test_alone (λ v. nat_eq (bit v b) 0) (aim x.layout inside false operand) (access_of (old_setting x) inside false r operand) (access_aims x inside false r operand clear) e
-  dropped_alone (syms.Bit Btfss operand b) clear e = test_alone (λ v. nat_eq (bit v b) 1) (aim x.layout inside false operand) (access_of (old_setting x) inside false r operand) (access_aims x inside false r operand clear) e
+  dropped_alone (syms.Bit Btfsc operand b) clear e = test_alone Btfsc b (λ v. nat_eq (bit v b) 0) (λ o v c k h. bit_way_is v b o 0 c k h) (aim x.layout inside false operand) (access_of (old_setting x) inside false r operand) (access_aims x inside false r operand clear) e
+  dropped_alone (syms.Bit Btfss operand b) clear e = test_alone Btfss b (λ v. nat_eq (bit v b) 1) (λ o v c k h. bit_way_is v b o 1 c k h) (aim x.layout inside false operand) (access_of (old_setting x) inside false r operand) (access_aims x inside false r operand clear) e
   dropped_alone (syms.Literal op value) clear e = literal_lone op value e.0 e.1
   dropped_alone (syms.Plain op) clear e = plain_alone op e
   dropped_alone (syms.Goto target) clear e = goto_alone target e

@@ -32,7 +32,7 @@ comes_expects : (o : Option (Option Note)) (k n : Note) (across : ℕ → Bool) 
 comes_expects None k n across e w c = tt
 comes_expects (Some None) k n across e w c = e
 comes_expects (Some (Some b)) k n across e w c = (
-  record { number = λ i z. w.number i (e.0.number i z); held = λ a z. w.held a (e.0.held a z); zero = λ z. w.zero (e.0.zero z); known = λ a i z. w.known a i (e.0.known a i z) },
+  record { number = λ i z. w.number i (e.0.number i z); held = λ a z. w.held a (e.0.held a z); zero = λ z. w.zero (e.0.zero z); known = λ a i z. w.known a i (e.0.known a i z); twin = λ a b z. w.twin a b (e.0.twin a b z) },
   record {
     flags = record { w = λ z. c.flags.w (e.1.w z); z = λ z. c.flags.z (e.1.z z); dc = λ z. c.flags.dc (e.1.dc z); c = λ z. c.flags.c (e.1.c z) };
     bytes = λ a z. or_both (n.apart.bytes a) (across a) (c.bytes a (e.3 a z).0) (e.3 a z).1;

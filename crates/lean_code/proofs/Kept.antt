@@ -2,33 +2,33 @@
 use Rattle.std.proofs.Common.{◌≡◌, ℕ, suc, Bool, true, false, not, if◌then◌else◌, List, drop, Option, Some, None, refl, sym, ap, ◌∙◌, subst}
 use Rattle.std.specs.Prelude.{nat_eq}
 use Rattle.std.proofs.lemmas.Bool.{eqb-true}
+use Rattle.std.proofs.lemmas.Option.{none-some}
 use Rattle.sym_code.specs.Effect.{Loud, Port, Shared, Rest, Thread, Memory, with_byte, written, Access, Pointer, Event, Silent, Denied, Effect, file_to_w, file_to_file, store, change, test}
 use Rattle.sym_code.specs.Layout.{owner}
 use Rattle.sym_code.specs.Machine.{write_by}
 use Rattle.sym_code.specs.Programs.{Position, behind, onward}
 use Rattle.sym_code.specs.Registers.{Registers, result_with, flags_with, skips_with}
 use Rattle.sym_code.specs.declared.code.FileOperation.{FileOperation}
-use Rattle.lean_code.specs.Rows.{Facts, Apart, Note, Row, note_ahead, past, Lean, old_program, new_program}
-use Rattle.lean_code.specs.Changes.{Holds, Alike, Aim, ToFsr, ToEvent, ToByte, Through, is_own, is_near, lost, without_zero, after_to_w, flags_in, uses_w, uses_c, may_skip, both_set, same_w, same_byte}
+use Rattle.lean_code.specs.Computed.{computed, way_of}
+use Rattle.lean_code.specs.Rows.{Facts, Apart, Note, Row, note_ahead, past, keeps_first, Lean, old_program, new_program}
+use Rattle.lean_code.specs.Changes.{Holds, Alike, Aim, ToFsr, ToEvent, ToByte, Through, is_own, is_near, Weaker, lost, without_zero, number_at, after_to_w, after_to_file, flags_in, uses_w, uses_c, both_set, same_w, same_byte}
 use Rattle.lean_code.specs.Right.{Expects, ExpectsBy, Leads, Same, IsNote, IsSound}
 use Rattle.lean_code.proofs.Lists.{never, stands_at}
 use Rattle.lean_code.proofs.Places.{under, row_at, To, to_behind, to_past, under_behind, keeps_behind}
-use Rattle.lean_code.proofs.Alike.{result_same, skips_same, flags_same, no_skip}
-use Rattle.lean_code.proofs.Facts.{weaker_holds, near_other, own_near, own_other, keep_all, to_w_holds, flags_hold, lost_byte, lost_through, lost_weaker, elsewhere}
+use Rattle.lean_code.proofs.Alike.{result_same, skips_same, flags_same}
+use Rattle.lean_code.proofs.Computing.{Says, computed_is, way_is}
+use Rattle.lean_code.proofs.Facts.{weaker_holds, near_other, own_near, own_other, keep_all, number_says, to_w_holds, flags_hold, lost_byte, learned_says, lost_through, lost_weaker, elsewhere}
 use Rattle.lean_code.proofs.Accesses.{IsLoud, Told, Aims}
 use Rattle.lean_code.proofs.Relation.{Frame, held, olds_of, news_of, Waits, held_outer, held_own, RestIsLoud, Goes, SameLoud, Match, arrive_by, arrive}
 
-pub skip_ok : (r : Registers) (op : FileOperation) (v : ℕ) → skips_with r op v ≡ true → may_skip op ≡ true
-skip_ok r op v e = by_case (may_skip op) refl
-  where
-    by_case : (c : Bool) → may_skip op ≡ c → may_skip op ≡ true
-    by_case true is = is
-    by_case false is = never (sym (no_skip r op v is) ∙ e)
+pub nothing_said : (v : ℕ) → Says None v
+nothing_said v i e = absurd (none-some i e)
 
 -- facts are of bytes that the other thread can't change
 pub record AreNear (x : Lean) (inside : Bool) (f : Facts) : Type 0 where
   pub held : (a : ℕ) → f.held a ≡ true → is_near inside (owner x.layout a) ≡ true
   pub known : (a n : ℕ) → f.known a ≡ Some n → is_near inside (owner x.layout a) ≡ true
+  pub twin : (a b : ℕ) → f.twin a b ≡ true → (is_near inside (owner x.layout a) ≡ true) × (is_near inside (owner x.layout b) ≡ true)
 
 pub far_from : (x : Lean) (inside : Bool) (a j : ℕ) → is_near inside (owner x.layout a) ≡ true → is_near inside (owner x.layout j) ≡ false → nat_eq a j ≡ false
 far_from x inside a j near far = by_case (nat_eq a j) refl
@@ -42,6 +42,7 @@ pub event_holds : (x : Lean) (inside : Bool) (f : Facts) (r : Registers) (m : Me
 event_holds x inside f r m (Port address) v near loud h = h
 event_holds x inside f r m (Shared j cell) v near loud h =
     elsewhere f r m h j v (λ a e. far_from x inside a j (near.held a e) (loud inside).0) (λ a n e. far_from x inside a j (near.known a n e) (loud inside).0)
+    (λ a b e. (far_from x inside a j (near.twin a b e).0 (loud inside).0, far_from x inside b j (near.twin a b e).1 (loud inside).0))
 
 pub event_same : (b : Loud) (v : ℕ) (m k : Memory) (a : ℕ) → m a ≡ k a → written (write_by b v) m a ≡ written (write_by b v) k a
 event_same (Port address) v m k a e = e
@@ -52,7 +53,7 @@ event_same (Shared j cell) v m k a e = by_case (nat_eq a j)
     by_case false = e
 
 pub lost_near : (x : Lean) (inside : Bool) (a : Aim) (f : Facts) → AreNear x inside f → AreNear x inside (lost x.hidden a f)
-lost_near x inside a f near = let w = lost_weaker x.hidden a f in record { held = λ b e. near.held b (w.held b e); known = λ b n e. near.known b n (w.known b n e) }
+lost_near x inside a f near = let w = lost_weaker x.hidden a f in record { held = λ b e. near.held b (w.held b e); known = λ b n e. near.known b n (w.known b n e); twin = λ b c e. near.twin b c (w.twin b c e) }
 
 pub event_elsewhere : (x : Lean) (inside : Bool) (b : Loud) (v : ℕ) (m : Memory) (j : ℕ) → is_near inside (owner x.layout j) ≡ true → IsLoud x b → written (write_by b v) m j ≡ m j
 event_elsewhere x inside (Port address) v m j near loud = refl
@@ -146,7 +147,7 @@ module _ (x : Lean) (sound : IsSound x) (inside : Bool) (rest : ℕ → Bool) (s
   rows = drop (suc p.index) (x.rows p.block)
 
   abbrev pub near : AreNear x inside n.facts
-  near = record { held = note.held; known = note.known }
+  near = record { held = note.held; known = note.known; twin = note.twin }
 
   -- ---- where the two go
   abbrev pub at_one : Option Rest → Position → Registers → Thread
@@ -167,21 +168,34 @@ module _ (x : Lean) (sound : IsSound x) (inside : Bool) (rest : ℕ → Bool) (s
 
   -- behind an instruction that both execute
   module _ (stands : stands_at (row_at x p) ≡ true) where
-    pub lead : (can c : Bool) → (c ≡ true → can ≡ true) → (f : Facts) (d : Apart) → Leads rows can f d → (w y : Option Rest) → w ≡ y → RestIsLoud x w → (t u : Registers) (a b : Memory)
-        → Alike d t u → Holds f t a → ((j : ℕ) → d.bytes j ≡ false → held ks j ≡ false → rest j ≡ false → a j ≡ b j)
-        → Goes x inside rest (at_one w (onward (old_program x) p c) t) (at_other y (onward (new_program x) (under x p) c) u) a b
-    lead false false ok f d l = go (note_ahead rows) f d (behind (old_program x) p) (behind (new_program x) (under x p)) (to_behind x p) (under_behind x p stands) l
-    lead true false ok f d l = go (note_ahead rows) f d (behind (old_program x) p) (behind (new_program x) (under x p)) (to_behind x p) (under_behind x p stands) l.runs
-    lead true true ok f d l =
+    abbrev OnBoth : Option Rest → Option Rest → Bool → Registers → Registers → Memory → Memory → Type 0
+    OnBoth w y c t u a b = Goes x inside rest (at_one w (onward (old_program x) p c) t) (at_other y (onward (new_program x) (under x p) c) u) a b
+
+    skip : (f : Facts) (d : Apart) → Expects (note_ahead (past rows)) f d → keeps_first rows ≡ true → (w y : Option Rest) → w ≡ y → RestIsLoud x w → (t u : Registers) (a b : Memory)
+        → Alike d t u → Holds f t a → ((j : ℕ) → d.bytes j ≡ false → held ks j ≡ false → rest j ≡ false → a j ≡ b j) → OnBoth w y true t u a b
+    skip f d l keeps =
         go (note_ahead (past rows)) f d (behind (old_program x) (behind (old_program x) p)) (behind (new_program x) (behind (new_program x) (under x p))) (to_past x p)
-        (ap (behind (new_program x)) (under_behind x p stands) ∙ under_behind x (behind (old_program x) p) (keeps_behind x p l.keeps)) l.skips
-    lead false true ok f d l = never (ok refl)
+        (ap (behind (new_program x)) (under_behind x p stands) ∙ under_behind x (behind (old_program x) p) (keeps_behind x p keeps)) l
+
+    run : (f : Facts) (d : Apart) → Expects (note_ahead rows) f d → (w y : Option Rest) → w ≡ y → RestIsLoud x w → (t u : Registers) (a b : Memory)
+        → Alike d t u → Holds f t a → ((j : ℕ) → d.bytes j ≡ false → held ks j ≡ false → rest j ≡ false → a j ≡ b j) → OnBoth w y false t u a b
+    run f d l = go (note_ahead rows) f d (behind (old_program x) p) (behind (new_program x) (under x p)) (to_behind x p) (under_behind x p stands) l
+
+    pub lead : (way : Option Bool) (c : Bool) → ((b : Bool) → way ≡ Some b → c ≡ b) → (f : Facts) (d : Apart) → Leads rows way f d → (w y : Option Rest) → w ≡ y → RestIsLoud x w → (t u : Registers) (a b : Memory)
+        → Alike d t u → Holds f t a → ((j : ℕ) → d.bytes j ≡ false → held ks j ≡ false → rest j ≡ false → a j ≡ b j)
+        → OnBoth w y c t u a b
+    lead None false ok f d l = run f d l.runs
+    lead None true ok f d l = skip f d l.skips l.keeps
+    lead (Some false) false ok f d l = run f d l
+    lead (Some false) true ok f d l = never (sym (ok false refl))
+    lead (Some true) true ok f d l = skip f d l.0 l.1
+    lead (Some true) false ok f d l = never (ok true refl)
 
     -- it doesn't skip
     pub next : (f : Facts) (d : Apart) → Expects (note_ahead rows) f d → (w y : Option Rest) → w ≡ y → RestIsLoud x w → (t u : Registers) (a b : Memory)
         → Alike d t u → Holds f t a → ((j : ℕ) → d.bytes j ≡ false → held ks j ≡ false → rest j ≡ false → a j ≡ b j)
         → Goes x inside rest (at_one w (behind (old_program x) p) t) (at_other y (behind (new_program x) (under x p)) u) a b
-    next f d l = lead false false (λ e. e) f d l
+    next f d l = run f d l
 
   -- ---- bytes that are the same
   pub plain : (j : ℕ) → ((i : Bool) → is_own i (owner x.layout j) ≡ false) → m j ≡ k j
@@ -219,7 +233,7 @@ module _ (x : Lean) (sound : IsSound x) (inside : Bool) (rest : ℕ → Bool) (s
       flags_alike : (v y : ℕ) → v ≡ y → Alike d_flags (flags_with r op v) (flags_with s op y)
       flags_alike v y e = flags_same n.apart r s alike op v y use_w use_c e
 
-      to_w : (a : Aim) → Leads rows (may_skip op) (after_to_w op a n.facts) (same_w d_flags) → (v y : ℕ) → v ≡ y → ((j : ℕ) → a ≡ ToByte j → v ≡ m j)
+      pub to_w : (a : Aim) → Leads rows (way_of op (number_at a n.facts)) (after_to_w op a n.facts) (same_w d_flags) → (v y : ℕ) → v ≡ y → ((j : ℕ) → a ≡ ToByte j → v ≡ m j)
           → Goes x inside rest (at_one None (onward (old_program x) p (skips_with r op v)) (record (flags_with r op v) { w = result_with r op v }))
           (at_other None (onward (new_program x) (under x p) (skips_with s op y)) (record (flags_with s op y) { w = result_with s op y })) m k
       to_w a l v y e known =
@@ -228,12 +242,12 @@ module _ (x : Lean) (sound : IsSound x) (inside : Bool) (rest : ℕ → Bool) (s
           let u = record (flags_with s op y) { w = result_with s op y } in
           subst (λ (c : Bool). Goes x inside rest (at_one None (onward (old_program x) p (skips_with r op v)) t) (at_other None (onward (new_program x) (under x p) c) u) m k)
           (skips_same n.apart r s alike op v y e)
-          (lead stands (may_skip op) (skips_with r op v) (skip_ok r op v) (after_to_w op a n.facts) (same_w d_flags) l None None refl tt t u m k
+          (lead stands (way_of op (number_at a n.facts)) (skips_with r op v) (λ b h. way_is op r v (number_at a n.facts) b (number_says n.facts r m holds a v known) h) (after_to_w op a n.facts) (same_w d_flags) l None None refl tt t u m k
           (record { w = λ z. result_same n.apart r s alike op v y use_w use_c e; z = al.z; dc = al.dc; c = al.c; fsr = al.fsr; irp = al.irp })
           (to_w_holds n.facts r m holds op a v known) still)
 
       pub file_to_w_both : (a : Aim) (c : Access) → Aims x a c → Told x inside false c → Same x.hidden a n.apart (x.outer p.block)
-          → Leads rows (may_skip op) (after_to_w op a n.facts) (same_w d_flags)
+          → Leads rows (way_of op (number_at a n.facts)) (after_to_w op a n.facts) (same_w d_flags)
           → Both (file_to_w (old_program x) p one m op c) (file_to_w (new_program x) (under x p) other k op c)
       file_to_w_both ToFsr Pointer is t q l = (to_w ToFsr l r.fsr s.fsr alike.fsr (λ j e. absurd (cc)), tt)
       file_to_w_both ToEvent (Event b) is t q l = (refl, loud_same b t, λ v. to_w ToEvent l v v refl (λ j e. absurd (cc)))
@@ -245,51 +259,52 @@ module _ (x : Lean) (sound : IsSound x) (inside : Bool) (rest : ℕ → Bool) (s
 
       -- ---- to the byte
       abbrev after_file_facts : Aim → Facts
-      after_file_facts a = lost x.hidden a (without_zero n.facts)
+      after_file_facts a = after_to_file x.hidden op a n.facts
 
       zero_lost : (v : ℕ) → Holds (without_zero n.facts) (flags_with r op v) m
       zero_lost v = flags_hold n.facts r m holds op v
 
-      to_file : (a : Aim) → Leads rows (may_skip op) (after_file_facts a) (same_byte a d_flags) → (v y : ℕ) → v ≡ y → (t u : Registers) (w z : Option Rest) → w ≡ z → RestIsLoud x w → (b c : Memory)
+      to_file : (a : Aim) → Leads rows (way_of op (number_at a n.facts)) (after_file_facts a) (same_byte a d_flags) → (v y : ℕ) → v ≡ y → ((j : ℕ) → a ≡ ToByte j → v ≡ m j) → (t u : Registers) (w z : Option Rest) → w ≡ z → RestIsLoud x w → (b c : Memory)
           → Alike (same_byte a d_flags) t u → Holds (after_file_facts a) t b → ((j : ℕ) → (same_byte a d_flags).bytes j ≡ false → held ks j ≡ false → rest j ≡ false → b j ≡ c j)
           → Goes x inside rest (at_one w (onward (old_program x) p (skips_with r op v)) t) (at_other z (onward (new_program x) (under x p) (skips_with s op y)) u) b c
-      to_file a l v y e t u w z same_rest loud b c al h same =
+      to_file a l v y e known t u w z same_rest loud b c al h same =
           subst (λ (i : Bool). Goes x inside rest (at_one w (onward (old_program x) p (skips_with r op v)) t) (at_other z (onward (new_program x) (under x p) i) u) b c)
           (skips_same n.apart r s alike op v y e)
-          (lead stands (may_skip op) (skips_with r op v) (skip_ok r op v) (after_file_facts a) (same_byte a d_flags) l w z same_rest loud t u b c al h same)
+          (lead stands (way_of op (number_at a n.facts)) (skips_with r op v) (λ i h. way_is op r v (number_at a n.facts) i (number_says n.facts r m holds a v known) h) (after_file_facts a) (same_byte a d_flags) l w z same_rest loud t u b c al h same)
 
-      event_to_file : (a : Aim) (b : Loud) → IsLoud x b → (same_byte a d_flags ≡ d_flags) → Leads rows (may_skip op) (after_file_facts a) (same_byte a d_flags) → (v : ℕ)
+      event_to_file : (a : Aim) (b : Loud) → IsLoud x b → (same_byte a d_flags ≡ d_flags) → Weaker (after_file_facts a) (without_zero n.facts) → ((j : ℕ) → a ≡ ToByte j → ⊥) → Leads rows (way_of op (number_at a n.facts)) (after_file_facts a) (same_byte a d_flags) → (v : ℕ)
           → Goes x inside rest (at_one (Some (record { to = b; byte = result_with r op v })) (onward (old_program x) p (skips_with r op v)) (flags_with r op v))
           (at_other (Some (record { to = b; byte = result_with s op v })) (onward (new_program x) (under x p) (skips_with s op v)) (flags_with s op v)) m k
-      event_to_file a b loud is l v =
-          to_file a l v v refl (flags_with r op v) (flags_with s op v) (Some (record { to = b; byte = result_with r op v })) (Some (record { to = b; byte = result_with s op v }))
+      event_to_file a b loud is weaker none l v =
+          to_file a l v v refl (λ j h. absurd (none j h)) (flags_with r op v) (flags_with s op v) (Some (record { to = b; byte = result_with r op v })) (Some (record { to = b; byte = result_with s op v }))
           (ap (λ (z : ℕ). Some (record { to = b; byte = z })) (result_same n.apart r s alike op v v use_w use_c refl)) loud m k
           (subst (λ (d : Apart). Alike d (flags_with r op v) (flags_with s op v)) (sym is) (flags_alike v v refl))
-          (weaker_holds (after_file_facts a) (without_zero n.facts) (flags_with r op v) m (lost_weaker x.hidden a (without_zero n.facts)) (zero_lost v))
+          (weaker_holds (after_file_facts a) (without_zero n.facts) (flags_with r op v) m weaker (zero_lost v))
           (subst (λ (d : Apart). (j : ℕ) → d.bytes j ≡ false → held ks j ≡ false → rest j ≡ false → m j ≡ k j) (sym is) still)
 
       pub file_to_file_both : (a : Aim) (c : Access) → Aims x a c → Told x inside true c → Same x.hidden a n.apart (x.outer p.block)
-          → Leads rows (may_skip op) (after_file_facts a) (same_byte a d_flags)
+          → Leads rows (way_of op (number_at a n.facts)) (after_file_facts a) (same_byte a d_flags)
           → Both (file_to_file (old_program x) p one m op c) (file_to_file (new_program x) (under x p) other k op c)
       file_to_file_both ToFsr Pointer is t q l =
           let al = flags_alike r.fsr s.fsr alike.fsr in
           let res = result_same n.apart r s alike op r.fsr s.fsr use_w use_c alike.fsr in
           let t = record (flags_with r op r.fsr) { fsr = result_with r op r.fsr } in
           let u = record (flags_with s op s.fsr) { fsr = result_with s op s.fsr } in (
-            to_file ToFsr l r.fsr s.fsr alike.fsr t u None None refl tt m k (record { w = al.w; z = al.z; dc = al.dc; c = al.c; fsr = res; irp = al.irp })
+            to_file ToFsr l r.fsr s.fsr alike.fsr (λ j h. absurd (cc)) t u None None refl tt m k (record { w = al.w; z = al.z; dc = al.dc; c = al.c; fsr = res; irp = al.irp })
                 (keep_all (without_zero n.facts) (flags_with r op r.fsr) m (zero_lost r.fsr) t refl refl) still,
             tt,
           )
-      file_to_file_both ToEvent (Event b) is t q l = (refl, loud_same b t, event_to_file ToEvent b t refl l)
-      file_to_file_both Through (Event b) is t q l = (refl, loud_same b t, event_to_file Through b t refl l)
+      file_to_file_both ToEvent (Event b) is t q l = (refl, loud_same b t, event_to_file ToEvent b t refl (lost_weaker x.hidden ToEvent (without_zero n.facts)) (λ j h. cc) l)
+      file_to_file_both Through (Event b) is t q l = (refl, loud_same b t, event_to_file Through b t refl (lost_weaker x.hidden Through (without_zero n.facts)) (λ j h. cc) l)
       file_to_file_both (ToByte j) (Silent i) is t q l =
           let e = read_same (ToByte j) i is (own_near inside (owner x.layout i) t) q in
           let al = flags_alike (m i) (k i) e in
           let res = result_same n.apart r s alike op (m i) (k i) use_w use_c e in
           let a = with_byte m i (result_with r op (m i)) in
           let b = with_byte k i (result_with s op (k i)) in (
-            to_file (ToByte j) l (m i) (k i) e (flags_with r op (m i)) (flags_with s op (k i)) None None refl tt a b (record { w = al.w; z = al.z; dc = al.dc; c = al.c; fsr = al.fsr; irp = al.irp })
-                (subst (λ (z : ℕ). Holds (lost x.hidden (ToByte z) (without_zero n.facts)) (flags_with r op (m i)) a) (sym is) (lost_byte (without_zero n.facts) (flags_with r op (m i)) m (zero_lost (m i)) x.hidden i (result_with r op (m i))))
+            to_file (ToByte j) l (m i) (k i) e (byte_known (ToByte j) i is) (flags_with r op (m i)) (flags_with s op (k i)) None None refl tt a b (record { w = al.w; z = al.z; dc = al.dc; c = al.c; fsr = al.fsr; irp = al.irp })
+                (subst (λ (z : ℕ). Holds (after_file_facts (ToByte z)) (flags_with r op (m i)) a) (sym is)
+                (learned_says x.hidden (without_zero n.facts) (flags_with r op (m i)) m i (result_with r op (m i)) (computed op n.facts.number (n.facts.known i)) (λ v h. computed_is op r (m i) v n.facts.number (n.facts.known i) holds.number (holds.known i) h) (zero_lost (m i))))
                 (λ z u v w. byte_same (nat_eq z i) (n.apart.bytes z) (result_with r op (m i)) (result_with s op (k i)) (m z) (k z) res (λ o. still z o v w) (subst (λ (h : ℕ). (if nat_eq z h then false else n.apart.bytes z) ≡ false) is u)),
             own_other inside (owner x.layout i) t,
           )
@@ -299,7 +314,7 @@ module _ (x : Lean) (sound : IsSound x) (inside : Bool) (rest : ℕ → Bool) (s
           let res = result_same n.apart r s alike op (m i) (k i) use_w use_c e in
           let a = with_byte m i (result_with r op (m i)) in
           let b = with_byte k i (result_with s op (k i)) in (
-            to_file Through l (m i) (k i) e (flags_with r op (m i)) (flags_with s op (k i)) None None refl tt a b al
+            to_file Through l (m i) (k i) e (byte_known Through i is) (flags_with r op (m i)) (flags_with s op (k i)) None None refl tt a b al
                 (lost_through x.hidden (without_zero n.facts) (flags_with r op (m i)) m i (result_with r op (m i)) is (zero_lost (m i)))
                 (λ z u v w. byte_both (nat_eq z i) (result_with r op (m i)) (result_with s op (k i)) (m z) (k z) res (still z u v w)),
             own_other inside (owner x.layout i) t,
@@ -341,21 +356,26 @@ module _ (x : Lean) (sound : IsSound x) (inside : Bool) (rest : ℕ → Bool) (s
     change_both f a c is t q l = absurd is
 
     -- ---- a bit of a byte is tested
-    tested : (says : ℕ → Bool) → Leads rows true n.facts n.apart → (v y : ℕ) → v ≡ y
+    pub tested : (says : ℕ → Bool) (way : Option Bool) → Leads rows way n.facts n.apart → (v y : ℕ) → v ≡ y → ((b : Bool) → way ≡ Some b → says v ≡ b)
         → Goes x inside rest (at_one None (onward (old_program x) p (says v)) r) (at_other None (onward (new_program x) (under x p) (says y)) s) m k
-    tested says l v y e =
+    tested says way l v y e ok =
         subst (λ (z : ℕ). Goes x inside rest (at_one None (onward (old_program x) p (says v)) r) (at_other None (onward (new_program x) (under x p) (says z)) s) m k) e
-        (lead stands true (says v) (λ z. refl) n.facts n.apart l None None refl tt r s m k alike holds still)
+        (lead stands way (says v) ok n.facts n.apart l None None refl tt r s m k alike holds still)
 
-    pub test_both : (says : ℕ → Bool) (a : Aim) (c : Access) → Aims x a c → Told x inside false c → Same x.hidden a n.apart (x.outer p.block) → Leads rows true n.facts n.apart
+    -- what the test says of a byte, as far as that is known
+    abbrev pub IsWay : (ℕ → Bool) → (Option ℕ → Option Bool) → Type 0
+    IsWay says way = (byte : Option ℕ) (v : ℕ) (b : Bool) → Says byte v → way byte ≡ Some b → says v ≡ b
+
+    pub test_both : (says : ℕ → Bool) (way : Option ℕ → Option Bool) → IsWay says way → (a : Aim) (c : Access) → Aims x a c → Told x inside false c → Same x.hidden a n.apart (x.outer p.block) → Leads rows (way (number_at a n.facts)) n.facts n.apart
         → Both (test (old_program x) p one m says c) (test (new_program x) (under x p) other k says c)
-    test_both says ToFsr Pointer is t q l = (tested says l r.fsr s.fsr alike.fsr, tt)
-    test_both says ToEvent (Event b) is t q l = (refl, loud_same b t, λ v. tested says l v v refl)
-    test_both says Through (Event b) is t q l = (refl, loud_same b t, λ v. tested says l v v refl)
-    test_both says (ToByte j) (Silent i) is t q l = (tested says l (m i) (k i) (read_same (ToByte j) i is t q), tt)
-    test_both says Through (Silent i) is t q l = (tested says l (m i) (k i) (read_same Through i is t q), tt)
-    test_both says a Denied is t q l = tt
-    test_both says a c is t q l = absurd is
+    test_both says way ok ToFsr Pointer is t q l = (tested says (way None) l r.fsr s.fsr alike.fsr (λ b h. ok None r.fsr b (nothing_said r.fsr) h), tt)
+    test_both says way ok ToEvent (Event b) is t q l = (refl, loud_same b t, λ v. tested says (way None) l v v refl (λ b h. ok None v b (nothing_said v) h))
+    test_both says way ok Through (Event b) is t q l = (refl, loud_same b t, λ v. tested says (way None) l v v refl (λ b h. ok None v b (nothing_said v) h))
+    test_both says way ok (ToByte j) (Silent i) is t q l =
+        (tested says (way (n.facts.known j)) l (m i) (k i) (read_same (ToByte j) i is t q) (λ b h. ok (n.facts.known j) (m i) b (λ v e. ap m (sym is) ∙ holds.known j v e) h), tt)
+    test_both says way ok Through (Silent i) is t q l = (tested says (way None) l (m i) (k i) (read_same Through i is t q) (λ b h. ok None (m i) b (nothing_said (m i)) h), tt)
+    test_both says way ok a Denied is t q l = tt
+    test_both says way ok a c is t q l = absurd is
 
     -- ---- W or 0 is stored: d and the facts f are those behind the registers, g says what is known by where the operand leads
     module _ (d : Apart) (t u : Registers) (v y : ℕ) (vy : v ≡ y) (al : Alike d t u) (same_d : (j : ℕ) → d.bytes j ≡ n.apart.bytes j) (g : Aim → Facts)

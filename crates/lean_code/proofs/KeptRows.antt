@@ -11,6 +11,7 @@ use Rattle.sym_code.specs.declared.code.BankBit.{BankBit}
 use Rattle.sym_code.specs.declared.code.BankBit.TheVariants.{Rp0, Rp1, Irp}
 use Rattle.sym_code.specs.declared.code.BitOperation.{BitOperation}
 use Rattle.sym_code.specs.declared.code.BitOperation.TheVariants.{Bcf, Bsf, Btfsc, Btfss}
+use Rattle.sym_code.specs.declared.code.FileOperation.{FileOperation}
 use Rattle.sym_code.specs.declared.code.Into.TheVariants as into
 use Rattle.sym_code.specs.declared.code.Literal.{Literal}
 use Rattle.sym_code.specs.declared.code.Literal.TheVariants.{Number}
@@ -25,18 +26,20 @@ use Rattle.sym_code.specs.declared.code.PlainOperation.TheVariants.{Clrw, Nop, R
 use Rattle.sym_code.specs.declared.code.Register.TheVariants.{Status}
 use Rattle.sym_code.specs.declared.code.Sym.{Sym}
 use Rattle.sym_code.specs.declared.code.Sym.TheVariants as syms
+use Rattle.lean_code.specs.Computed.{file_for, way_of_bit}
 use Rattle.lean_code.specs.Rows.{Facts, Apart, Note, Row, note_ahead, Lean, old_program, new_program, old_setting, new_setting}
-use Rattle.lean_code.specs.Changes.{is_number, Holds, Alike, Aim, ToFsr, ToEvent, ToByte, Through, aim, lost, without_zero, learned, stored, literal_flags, literal_uses, is_retlw, both_set, same_w, same_byte}
-use Rattle.lean_code.specs.Right.{Expects, Leads, Same, with_flag, after_literal, KeepsBit, KeepsPlain, IsKept, IsSound}
+use Rattle.lean_code.specs.Changes.{is_number, Holds, Alike, Aim, ToFsr, ToEvent, ToByte, Through, aim, lost, without_zero, number_at, worked, learned, stored, literal_flags, literal_uses, is_retlw, both_set, same_w, same_byte}
+use Rattle.lean_code.specs.Right.{Expects, Leads, Same, with_flag, after_number, after_literal, KeepsBit, KeepsPlain, IsKept, IsSound}
 use Rattle.lean_code.specs.Links.{clears}
 use Rattle.lean_code.proofs.Lists.{never, stands_at}
 use Rattle.lean_code.proofs.Places.{under, row_at}
-use Rattle.lean_code.proofs.Alike.{literal_same, clear_same, moved_w, cleared_w}
-use Rattle.lean_code.proofs.Facts.{number_of, weaker_holds, lose_zero, lose_w, keep_all, lost_weaker, lost_through, learned_byte, stored_byte, some_is}
+use Rattle.lean_code.proofs.Alike.{literal_same, literal_is, clear_same, moved_w, cleared_w}
+use Rattle.lean_code.proofs.Computing.{bit_way_is, file_is, no_move}
+use Rattle.lean_code.proofs.Facts.{number_of, weaker_holds, lose_zero, lose_w, keep_all, lost_weaker, lost_through, learned_byte, stored_byte, some_is, worked_holds}
 use Rattle.lean_code.proofs.Flags.{SameFlag, bit_same, set_same}
 use Rattle.lean_code.proofs.Accesses.{access_told, access_aims, access_same}
 use Rattle.lean_code.proofs.Relation.{held, apart_of, Goes, Match}
-use Rattle.lean_code.proofs.Kept.{Scene, AreNear, lost_near, one, other, rows, near, lead, next, file_to_w_both, file_to_file_both, change_both, test_both, store_both}
+use Rattle.lean_code.proofs.Kept.{Scene, AreNear, lost_near, one, other, rows, near, lead, next, IsWay, file_to_w_both, file_to_file_both, change_both, test_both, store_both}
 use Rattle.lean_code.proofs.Jumps.{goto_both, call_both, back_both}
 
 pub flag_bytes : (b : ℕ) (v : Bool) (d : Apart) (a : ℕ) → (with_flag b v d).bytes a ≡ d.bytes a
@@ -53,14 +56,21 @@ literal_quiet q at th literals.Retlw t e = never (sym e)
 literal_quiet q at th op t e = refl
 
 module _ (x : Lean) (sound : IsSound x) (inside : Bool) (rest : ℕ → Bool) (scene : Scene x inside rest) where
+  number_holds : (new : LiteralOperation) (i : ℕ) (o : Option FileOperation) → file_for new ≡ o → Holds (after_number scene.n.facts o i) (after_row (literal_row new i) scene.r) scene.m
+  number_holds new i None e = lose_w scene.n.facts scene.r scene.m scene.holds (after_row (literal_row new i) scene.r)
+  number_holds new i (Some op) e =
+      subst (λ (t : Registers). Holds (worked op (Some i) scene.n.facts) t scene.m) (literal_is op new scene.r i (file_is new op e) (no_move new op e))
+      (worked_holds scene.n.facts scene.r scene.m scene.holds op (Some i) i (λ j h. some_is i j h))
+
   pub literal_holds : (op : LiteralOperation) (value : Literal) → Holds (after_literal scene.n.facts op value) (after_row (literal_row op (literal_value x.layout value)) scene.r) scene.m
   literal_holds literals.Movlw (Number i) =
-      subst (λ (t : Registers). Holds (record scene.n.facts { number = Some i; held = λ a. is_number (scene.n.facts.known a) i; zero = false }) t scene.m) (sym (moved_w scene.r i)) (record { number = λ j e. some_is i j e; held = λ a e. sym (scene.holds.known a i (number_of (scene.n.facts.known a) i e)); zero = λ e. never e; known = scene.holds.known })
+      subst (λ (t : Registers). Holds (record scene.n.facts { number = Some i; held = λ a. is_number (scene.n.facts.known a) i; zero = false }) t scene.m) (sym (moved_w scene.r i)) (record { number = λ j e. some_is i j e; held = λ a e. sym (scene.holds.known a i (number_of (scene.n.facts.known a) i e)); zero = λ e. never e; known = scene.holds.known; twin = scene.holds.twin })
+  literal_holds op (Number i) = number_holds op i (file_for op) refl
   literal_holds op value = lose_w scene.n.facts scene.r scene.m scene.holds (after_row (literal_row op (literal_value x.layout value)) scene.r)
 
   pub cleared_holds : Holds (record scene.n.facts { number = Some 0; held = λ a. false; zero = true }) (after_row ins.Clrw scene.r) scene.m
   cleared_holds =
-      subst (λ (t : Registers). Holds (record scene.n.facts { number = Some 0; held = λ a. false; zero = true }) t scene.m) (sym (cleared_w scene.r)) (record { number = λ j e. some_is 0 j e; held = λ a e. never e; zero = λ e. refl; known = scene.holds.known })
+      subst (λ (t : Registers). Holds (record scene.n.facts { number = Some 0; held = λ a. false; zero = true }) t scene.m) (sym (cleared_w scene.r)) (record { number = λ j e. some_is 0 j e; held = λ a e. never e; zero = λ e. refl; known = scene.holds.known; twin = scene.holds.twin })
 
 module _ (x : Lean) (sound : IsSound x) (inside : Bool) (rest : ℕ → Bool) (scene : Scene x inside rest) (stands : stands_at (row_at x scene.p) ≡ true) where
   abbrev p : Position
@@ -123,12 +133,12 @@ module _ (x : Lean) (sound : IsSound x) (inside : Bool) (rest : ℕ → Bool) (s
       (goes_both (without_zero f) (with_flag b false d) l t z.0 z.2 (lose_zero f r m scene.holds t z.3)
       (λ j e o w. scene.still j (sym (flag_bytes b false d j) ∙ e) o w))
 
-  test_flag_both : (v : ℕ) → Leads list true f d → (o q : Option ℕ) → SameFlag o q → Both (test_flag (old_program x) p first v o) (test_flag (new_program x) (under x p) second v q)
+  test_flag_both : (v : ℕ) → Leads list None f d → (o q : Option ℕ) → SameFlag o q → Both (test_flag (old_program x) p first v o) (test_flag (new_program x) (under x p) second v q)
   test_flag_both v l None q e = tt
   test_flag_both v l (Some i) None e = absurd e
   test_flag_both v l (Some i) (Some j) e = (
     subst (λ (c : ℕ). Goes x inside rest (goes first (onward (old_program x) p (nat_eq i v)) r) (goes second (onward (new_program x) (under x p) (nat_eq c v)) s) m k) e
-        (lead x sound inside rest scene stands true (nat_eq i v) (λ z. refl) f d l None None refl tt r s m k scene.alike scene.holds scene.still),
+        (lead x sound inside rest scene stands None (nat_eq i v) (λ b h. absurd (cc)) f d l None None refl tt r s m k scene.alike scene.holds scene.still),
     tt,
   )
 
@@ -139,7 +149,7 @@ module _ (x : Lean) (sound : IsSound x) (inside : Bool) (rest : ℕ → Bool) (s
   flag_both Btfss b e = test_flag_both 1 e.1 (status_bit r b) (status_bit s b) (bit_same d r s scene.alike b e.0)
 
   -- ---- bits of bytes
-  abbrev Clear : Operand → Bool → Type 0
+  abbrev pub Clear : Operand → Bool → Type 0
   Clear operand writes = clears x.hidden r (Some (operand, writes)) ≡ true
 
   abbrev SameAt : Bool → Operand → Type 0
@@ -151,14 +161,14 @@ module _ (x : Lean) (sound : IsSound x) (inside : Bool) (rest : ℕ → Bool) (s
       access_both operand true (change (old_program x) p first m g) (change (new_program x) (under x p) second k g)
       (change_both x sound inside rest scene stands apb g (aim x.layout inside true operand) (access_of (old_setting x) inside true r operand) (access_aims x inside true r operand clear) (access_told x inside true r operand) same l)
 
-  test_bit : (operand : Operand) (g : ℕ → Bool) → Clear operand false → SameAt false operand → Leads list true f d
+  test_bit : (operand : Operand) (g : ℕ → Bool) (way : Option ℕ → Option Bool) → IsWay x sound inside rest scene stands apb g way → Clear operand false → SameAt false operand → Leads list (way (number_at (aim x.layout inside false operand) f)) f d
       → Both (test (old_program x) p first m g (access_of (old_setting x) inside false r operand)) (test (new_program x) (under x p) second k g (access_of (new_setting x) inside false s operand))
-  test_bit operand g clear same l =
+  test_bit operand g way ok clear same l =
       access_both operand false (test (old_program x) p first m g) (test (new_program x) (under x p) second k g)
-      (test_both x sound inside rest scene stands apb g (aim x.layout inside false operand) (access_of (old_setting x) inside false r operand) (access_aims x inside false r operand clear) (access_told x inside false r operand) same l)
+      (test_both x sound inside rest scene stands apb g way ok (aim x.layout inside false operand) (access_of (old_setting x) inside false r operand) (access_aims x inside false r operand clear) (access_told x inside false r operand) same l)
 
   -- ---- stores
-  stores : (e : Apart) (t u : Registers) (v y : ℕ) → v ≡ y → Alike e t u → ((j : ℕ) → e.bytes j ≡ d.bytes j) → (g : Aim → Facts) → Holds (g ToFsr) (record t { fsr = v }) m → AreNear x inside (g ToEvent) → Holds (g ToEvent) t m
+  pub stores : (e : Apart) (t u : Registers) (v y : ℕ) → v ≡ y → Alike e t u → ((j : ℕ) → e.bytes j ≡ d.bytes j) → (g : Aim → Facts) → Holds (g ToFsr) (record t { fsr = v }) m → AreNear x inside (g ToEvent) → Holds (g ToEvent) t m
       → AreNear x inside (g Through) → Holds (g Through) t m → ((i : ℕ) → x.hidden i ≡ false → Holds (g Through) t (with_byte m i v)) → ((i : ℕ) → Holds (g (ToByte i)) t (with_byte m i v))
       → (operand : Operand) → Clear operand true → Expects (note_ahead list) (g (aim x.layout inside true operand)) (same_byte (aim x.layout inside true operand) e)
       → Both (store (old_program x) p first t v (access_of (old_setting x) inside true r operand)) (store (new_program x) (under x p) second u y (access_of (new_setting x) inside true s operand))
@@ -166,10 +176,10 @@ module _ (x : Lean) (sound : IsSound x) (inside : Bool) (rest : ℕ → Bool) (s
       access_both operand true (store (old_program x) p first t v) (store (new_program x) (under x p) second u y)
       (store_both x sound inside rest scene stands apb e t u v y vy al same_d g a b c h i j w (aim x.layout inside true operand) (access_of (old_setting x) inside true r operand) (access_aims x inside true r operand clear) (access_told x inside true r operand) l)
 
-  abbrev all_near : AreNear x inside f
+  abbrev pub all_near : AreNear x inside f
   all_near = near x sound inside rest scene
 
-  lost_holds : (g : Facts) (t : Registers) → Holds g t m → Holds (lost x.hidden Through g) t m
+  pub lost_holds : (g : Facts) (t : Registers) → Holds g t m → Holds (lost x.hidden Through g) t m
   lost_holds g t h = weaker_holds (lost x.hidden Through g) g t m (lost_weaker x.hidden Through g) h
 
   store_w : (operand : Operand) → Clear operand true → d.w ≡ false → Expects (note_ahead list) (stored x.hidden (aim x.layout inside true operand) f) (same_byte (aim x.layout inside true operand) d)
@@ -185,7 +195,7 @@ module _ (x : Lean) (sound : IsSound x) (inside : Bool) (rest : ℕ → Bool) (s
   clear_alike = record { w = scene.alike.w; z = λ e. refl; dc = scene.alike.dc; c = scene.alike.c; fsr = scene.alike.fsr; irp = scene.alike.irp }
 
   zero_near : AreNear x inside (without_zero f)
-  zero_near = record { held = all_near.held; known = all_near.known }
+  zero_near = record { held = all_near.held; known = all_near.known; twin = all_near.twin }
 
   store_zero : (operand : Operand) → Clear operand true → Expects (note_ahead list) (learned x.hidden (aim x.layout inside true operand) (Some 0) (without_zero f)) (same_byte (aim x.layout inside true operand) cleared)
       → Both (store (old_program x) p first (record r { z = 1 }) 0 (access_of (old_setting x) inside true r operand)) (store (new_program x) (under x p) second (record s { z = 1 }) 0 (access_of (new_setting x) inside true s operand))
@@ -243,8 +253,8 @@ module _ (x : Lean) (sound : IsSound x) (inside : Bool) (rest : ℕ → Bool) (s
   kept_both (syms.Bit op (operands.Register Status) b) clear e = flag_both op b e
   kept_both (syms.Bit Bcf operand b) clear e = change_bit operand (clear_bit b) clear e.0 e.1
   kept_both (syms.Bit Bsf operand b) clear e = change_bit operand (set_bit b) clear e.0 e.1
-  kept_both (syms.Bit Btfsc operand b) clear e = test_bit operand (λ v. nat_eq (bit v b) 0) clear e.0 e.1
-  kept_both (syms.Bit Btfss operand b) clear e = test_bit operand (λ v. nat_eq (bit v b) 1) clear e.0 e.1
+  kept_both (syms.Bit Btfsc operand b) clear e = test_bit operand (λ v. nat_eq (bit v b) 0) (λ o. way_of_bit Btfsc o b) (λ o v c k h. bit_way_is v b o 0 c k h) clear e.0 e.1
+  kept_both (syms.Bit Btfss operand b) clear e = test_bit operand (λ v. nat_eq (bit v b) 1) (λ o. way_of_bit Btfss o b) (λ o v c k h. bit_way_is v b o 1 c k h) clear e.0 e.1
   kept_both (syms.Literal op value) clear e = literal_both op value e.0 e.1 e.2
   kept_both (syms.Plain op) clear e = plain_both op e
   kept_both (syms.Call target) clear e = call_both x sound inside rest scene stands target e

@@ -1,6 +1,7 @@
 mod Lists
 mod Places
 mod Alike
+mod Computing
 mod Facts
 mod Flags
 mod Accesses
@@ -10,11 +11,14 @@ mod Jumps
 mod KeptRows
 mod Dropped
 mod Narrow
+mod Reading
+mod Cleared
 mod Put
 mod Steps
 mod Machines
 mod Resting
 pub mod Whole
+mod Tested
 pub mod Checking
 pub mod Shrinking
 mod Worked

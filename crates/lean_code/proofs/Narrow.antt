@@ -1,27 +1,26 @@
 -- An operation on a byte whose result goes to W in place of the byte.
-use Rattle.std.proofs.Common.{◌≡◌, ℕ, Bool, true, false, if◌then◌else◌, List, Option, Some, None, refl, sym, ap, ◌∙◌, subst}
+use Rattle.std.proofs.Common.{◌≡◌, ℕ, Bool, true, false, if◌then◌else◌, List, Some, None, refl, sym, ap, ◌∙◌, subst}
 use Rattle.std.specs.Prelude.{nat_eq}
 use Rattle.std.proofs.Common.{eq-eqb}
-use Rattle.sym_code.specs.Effect.{Thread, Memory, with_byte, Access, Pointer, Event, Silent, Denied, Effect, access_of, goes, file_to_w, file_to_file, effect_of}
+use Rattle.sym_code.specs.Effect.{Thread, Memory, with_byte, Access, Silent, Effect, access_of, goes, file_to_w, file_to_file, effect_of}
 use Rattle.sym_code.specs.Layout.{owner}
 use Rattle.sym_code.specs.Programs.{Position, behind, onward}
 use Rattle.sym_code.specs.Registers.{Registers, result_with, flags_with, skips_with}
 use Rattle.sym_code.specs.Touching.{touches}
 use Rattle.sym_code.specs.declared.code.FileOperation.{FileOperation}
 use Rattle.sym_code.specs.declared.code.Into.TheVariants as into
-use Rattle.sym_code.specs.declared.code.Operand.{Operand}
 use Rattle.sym_code.specs.declared.code.Sym.{Sym}
 use Rattle.sym_code.specs.declared.code.Sym.TheVariants as syms
 use Rattle.lean_code.specs.Rows.{Facts, Apart, Note, Row, narrowed, note_ahead, Lean, old_program, new_program, old_setting, new_setting}
-use Rattle.lean_code.specs.Changes.{Holds, Alike, Aim, ToByte, aim, is_own, lost, without_zero, flags_in, uses_w, uses_c, may_skip, both_set, other_w, other_byte}
-use Rattle.lean_code.specs.Right.{ExpectsBy, NarrowsFor, IsNarrowed, IsSound}
+use Rattle.lean_code.specs.Changes.{Holds, Aim, ToByte, aim, is_own, lost, without_zero, flags_in, may_skip, both_set, other_w, other_byte}
+use Rattle.lean_code.specs.Right.{ExpectsBy, Uses, NarrowsFor, IsNarrowed, IsSound}
 use Rattle.lean_code.specs.Links.{clears}
 use Rattle.lean_code.proofs.Lists.{never, stands_at}
 use Rattle.lean_code.proofs.Places.{under, row_at, to_behind, under_behind}
 use Rattle.lean_code.proofs.Alike.{result_same, flags_same, no_skip}
 use Rattle.lean_code.proofs.Facts.{own_near, own_other, flags_hold, lost_byte, some_is}
 use Rattle.lean_code.proofs.Accesses.{Told, Aims, access_told, access_aims, access_same}
-use Rattle.lean_code.proofs.Relation.{held, apart_of, Goes, Match}
+use Rattle.lean_code.proofs.Relation.{apart_of, Goes, Match}
 use Rattle.lean_code.proofs.Kept.{Scene, one, other, rows, read_same, go_by}
 use Rattle.lean_code.proofs.Dropped.{byte_one}
 
@@ -62,20 +61,23 @@ module _ (x : Lean) (sound : IsSound x) (inside : Bool) (rest : ℕ → Bool) (s
   abbrev Both : Effect → Effect → Type 0
   Both = Match x inside rest (apart_of n scene.ks) m k
 
-  narrow_goes : (op : FileOperation) (j i v : ℕ) → j ≡ i → is_own inside (owner x.layout i) ≡ true → NarrowsFor x p.block inside n list op (ToByte j) (ToByte v) → (y : ℕ) → m i ≡ y
+  abbrev pub IsBehind : FileOperation → ℕ → Type 0
+  IsBehind op j = ExpectsBy (Some j) (note_ahead list) (lost x.hidden (ToByte j) (without_zero f)) (other_w (other_byte j (both_set (flags_in op) d)))
+
+  pub narrow_goes : (op : FileOperation) (j i : ℕ) → j ≡ i → is_own inside (owner x.layout i) ≡ true → Uses x p.block inside n op → may_skip op ≡ false → IsBehind op j → (y : ℕ) → m i ≡ y
       → Goes x inside rest (goes first (onward (old_program x) p (skips_with r op (m i))) (flags_with r op (m i)))
       (goes second (onward (new_program x) (under x p) (skips_with s op y)) (record (flags_with s op y) { w = result_with s op y })) (with_byte m i (result_with r op (m i))) k
-  narrow_goes op j i v is own e y same =
-      let al = flags_same d r s scene.alike op (m i) y e.0.0 e.0.1 same in
-      let res = result_same d r s scene.alike op (m i) y e.0.0 e.0.1 same in
+  narrow_goes op j i is own uses plain behind_it y same =
+      let al = flags_same d r s scene.alike op (m i) y uses.0 uses.1 same in
+      let res = result_same d r s scene.alike op (m i) y uses.0 uses.1 same in
       let t = flags_with r op (m i) in
       let u = record (flags_with s op y) { w = result_with s op y } in
       let a = with_byte m i (result_with r op (m i)) in
       let g = lost x.hidden (ToByte j) (without_zero f) in
       let h = other_w (other_byte j (both_set (flags_in op) d)) in
-      subst (λ (c : Bool). Goes x inside rest (goes first (onward (old_program x) p c) t) (goes second (onward (new_program x) (under x p) (skips_with s op y)) u) a k) (sym (no_skip r op (m i) e.2))
-      (subst (λ (c : Bool). Goes x inside rest (goes first (behind (old_program x) p) t) (goes second (onward (new_program x) (under x p) c) u) a k) (sym (no_skip s op y e.2))
-      (go_by x sound inside rest scene (Some j) (note_ahead list) g h (behind (old_program x) p) (behind (new_program x) (under x p)) (to_behind x p) (under_behind x p stands) e.4 None None refl tt t u a k
+      subst (λ (c : Bool). Goes x inside rest (goes first (onward (old_program x) p c) t) (goes second (onward (new_program x) (under x p) (skips_with s op y)) u) a k) (sym (no_skip r op (m i) plain))
+      (subst (λ (c : Bool). Goes x inside rest (goes first (behind (old_program x) p) t) (goes second (onward (new_program x) (under x p) c) u) a k) (sym (no_skip s op y plain))
+      (go_by x sound inside rest scene (Some j) (note_ahead list) g h (behind (old_program x) p) (behind (new_program x) (under x p)) (to_behind x p) (under_behind x p stands) behind_it None None refl tt t u a k
       (record { w = λ z. never (sym z); z = al.z; dc = al.dc; c = al.c; fsr = al.fsr; irp = al.irp })
       (subst (λ (z : ℕ). Holds (lost x.hidden (ToByte z) (without_zero f)) t a) (sym is) (lost_byte (without_zero f) t m (flags_hold f r m scene.holds op (m i)) x.hidden i (result_with r op (m i))))
       (λ z o w q. byte_one (nat_eq z i) (d.bytes z) (result_with r op (m i)) (m z) (k z) (λ b. scene.still z b w q) (subst (λ (b : ℕ). (if nat_eq z b then true else d.bytes z) ≡ false) is o))
@@ -87,7 +89,7 @@ module _ (x : Lean) (sound : IsSound x) (inside : Bool) (rest : ℕ → Bool) (s
   narrow_by : (op : FileOperation) (a b : Aim) (c e : Access) → Aims x a c → Aims x b e → Told x inside true c → NarrowsFor x p.block inside n list op a b
       → Both (file_to_file (old_program x) p first m op c) (file_to_w (new_program x) (under x p) second k op e)
   narrow_by op (ToByte j) (ToByte v) (Silent i) (Silent z) is to t l =
-      (narrow_goes op j i v is t l (k z) (read_same x sound inside rest scene (ToByte j) i is (own_near inside (owner x.layout i) t) l.1 ∙ ap k (sym is ∙ sym l.3 ∙ to)), own_other inside (owner x.layout i) t)
+      (narrow_goes op j i is t l.0 l.2 l.4 (k z) (read_same x sound inside rest scene (ToByte j) i is (own_near inside (owner x.layout i) t) l.1 ∙ ap k (sym is ∙ sym l.3 ∙ to)), own_other inside (owner x.layout i) t)
   narrow_by op (ToByte j) (ToByte v) (Silent i) c is to t l = absurd to
   narrow_by op (ToByte j) (ToByte v) c e is to t l = absurd is
   narrow_by op a b c e is to t l = absurd l

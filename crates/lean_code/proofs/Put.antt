@@ -15,12 +15,13 @@ use Rattle.sym_code.specs.declared.code.LiteralOperation.TheVariants as literals
 use Rattle.sym_code.specs.declared.code.Sym.{Sym}
 use Rattle.sym_code.specs.declared.code.Sym.TheVariants as syms
 use Rattle.lean_code.specs.Rows.{Facts, Apart, Note, Row, Lean, old_program, new_program, old_setting, new_setting}
-use Rattle.lean_code.specs.Changes.{Alike, Aim, ToByte, aim, after_to_w, flags_in, uses_w, may_skip, literal_flags, literal_uses, is_retlw, literal_for, both_set, same_w}
-use Rattle.lean_code.specs.Right.{literal_apart, PutsFor, IsPut, IsSound}
+use Rattle.lean_code.specs.Changes.{Alike, Aim, ToByte, aim, after_to_w, flags_in, uses_w, may_skip, literal_flags, literal_uses, is_retlw, literal_for, both_set, one_sets, same_w}
+use Rattle.lean_code.specs.Right.{literal_apart, PutsSame, PutsNumber, PutsByte, PutsFor, IsPut, IsSound}
 use Rattle.lean_code.specs.Links.{clears}
 use Rattle.lean_code.proofs.Lists.{never, stands_at}
 use Rattle.lean_code.proofs.Places.{under, row_at}
-use Rattle.lean_code.proofs.Alike.{literal_is, literal_same, move_is, moved_w, no_skip}
+use Rattle.lean_code.proofs.Computing.{Says, computed_is, way_is}
+use Rattle.lean_code.proofs.Alike.{flags_alone, literal_is, literal_same, move_is, moved_w, no_skip}
 use Rattle.lean_code.proofs.Facts.{to_w_holds}
 use Rattle.lean_code.proofs.Accesses.{Aims, access_aims}
 use Rattle.lean_code.proofs.Relation.{apart_of, Goes, Match}
@@ -126,7 +127,7 @@ module _ (x : Lean) (sound : IsSound x) (inside : Bool) (rest : ℕ → Bool) (s
   abbrev new_effect : LiteralOperation → ℕ → Effect
   new_effect new v = quiet (goes second (behind (new_program x) (under x p)) (after_row (literal_row new v) s))
 
-  put_quiet : (op : FileOperation) (new : LiteralOperation) (v j i : ℕ) → j ≡ i → PutsFor x p.block inside n list op (ToByte j) new v → Both (file_to_w (old_program x) p first m op (Silent i)) (new_effect new v)
+  put_quiet : (op : FileOperation) (new : LiteralOperation) (v j i : ℕ) → j ≡ i → PutsSame x p.block inside n list op j new v → Both (file_to_w (old_program x) p first m op (Silent i)) (new_effect new v)
   put_quiet op new v j i is e =
       let t = record (flags_with r op (m i)) { w = result_with r op (m i) } in
       let same : m i ≡ v = ap m (sym is) ∙ scene.holds.known j v e.1 in (
@@ -143,14 +144,42 @@ module _ (x : Lean) (sound : IsSound x) (inside : Bool) (rest : ℕ → Bool) (s
       apart_bytes files.Movf j a = refl
       apart_bytes op j a = refl
 
+  -- the number that the operation makes
+  put_number : (op : FileOperation) (v j i : ℕ) → j ≡ i → PutsNumber x p.block inside n list op j v → Both (file_to_w (old_program x) p first m op (Silent i)) (new_effect literals.Movlw v)
+  put_number op v j i is e =
+      let t = record (flags_with r op (m i)) { w = result_with r op (m i) } in
+      let says : Says (f.known j) (m i) = λ h z. ap m (sym is) ∙ scene.holds.known j h z in
+      let al = flags_alone d r s scene.alike op (m i) in
+      let made = computed_is op r (m i) v f.number (f.known j) scene.holds.number says e.1 in (
+        subst (λ (c : Bool). Goes x inside rest (goes first (onward (old_program x) p c) t) (goes second (behind (new_program x) (under x p)) (after_row (literal_row literals.Movlw v) s)) m scene.k)
+            (sym (way_is op r (m i) (f.known j) false says e.0))
+            (next x sound inside rest scene stands (after_to_w op (ToByte j) f) (same_w (one_sets (flags_in op) d)) e.2 None None refl tt t (after_row (literal_row literals.Movlw v) s) m scene.k
+            (subst (λ (u : Registers). Alike (same_w (one_sets (flags_in op) d)) t u) (sym (moved_w s v)) (record { w = λ z. made; z = al.z; dc = al.dc; c = al.c; fsr = al.fsr; irp = al.irp }))
+            (to_w_holds f r m scene.holds op (ToByte j) (m i) (λ h z. ap m (sym is ∙ aim_eq j h z))) scene.still),
+        tt,
+      )
+    where
+      aim_eq : (j h : ℕ) → ToByte j ≡ ToByte h → j ≡ h
+      aim_eq j h e = cc
+
+  put_byte : (op : FileOperation) (new : LiteralOperation) (v j i : ℕ) → j ≡ i → PutsByte x p.block inside n list op j new v → Both (file_to_w (old_program x) p first m op (Silent i)) (new_effect new v)
+  put_byte files.Movf new v j i is e = put_quiet files.Movf new v j i is e
+  put_byte op literals.Movlw v j i is e = put_number op v j i is e
+  put_byte op new v j i is e = put_quiet op new v j i is e
+
+  plain_byte : (op : FileOperation) (j : ℕ) (new : LiteralOperation) (v : ℕ) → PutsByte x p.block inside n list op j new v → is_retlw new ≡ false
+  plain_byte files.Movf j new v e = (like files.Movf new e.0).plain
+  plain_byte op j literals.Movlw v e = refl
+  plain_byte op j new v e = (like op new e.0).plain
+
   put_by : (op : FileOperation) (a : Aim) (c : Access) (new : LiteralOperation) (v : ℕ) → Aims x a c → PutsFor x p.block inside n list op a new v → Both (file_to_w (old_program x) p first m op c) (new_effect new v)
-  put_by op (ToByte j) (Silent i) new v is e = put_quiet op new v j i is e
+  put_by op (ToByte j) (Silent i) new v is e = put_byte op new v j i is e
   put_by op (ToByte j) Denied new v is e = tt
   put_by op (ToByte j) c new v is e = absurd is
   put_by op a c new v is e = absurd e
 
   put_plain : (op : FileOperation) (a : Aim) (new : LiteralOperation) (v : ℕ) → PutsFor x p.block inside n list op a new v → is_retlw new ≡ false
-  put_plain op (ToByte j) new v e = (like op new e.0).plain
+  put_plain op (ToByte j) new v e = plain_byte op j new v e
   put_plain op a new v e = absurd e
 
   pub put_both : (new : LiteralOperation) (v : ℕ) (i : Sym) → clears x.hidden r (touches i) ≡ true → IsPut x p.block inside n list new v i

@@ -11,7 +11,7 @@ use Rattle.sym_code.specs.declared.code.Literal.TheVariants.{Number}
 use Rattle.sym_code.specs.declared.code.LiteralOperation.{LiteralOperation}
 use Rattle.sym_code.specs.declared.code.Sym.{Sym}
 use Rattle.sym_code.specs.declared.code.Sym.TheVariants as syms
-use Rattle.lean_code.specs.Rows.{Note, Act, Keeps, Drops, Puts, Narrows, narrowed, Row, At, put_of, is_label, place_in, Lean, old_program, new_program, old_setting, new_setting}
+use Rattle.lean_code.specs.Rows.{Note, Act, Keeps, Drops, Puts, Narrows, narrowed, Clears, cleared, Reads, reads_before, Row, At, put_of, is_label, place_in, Lean, old_program, new_program, old_setting, new_setting}
 use Rattle.lean_code.specs.Changes.{is_own}
 use Rattle.lean_code.specs.Right.{IsRight, IsSound}
 use Rattle.lean_code.specs.Links.{clears, clears_if, is_open}
@@ -21,8 +21,10 @@ use Rattle.lean_code.proofs.Relation.{Frame, held, apart_of, or_both, some_in, W
 use Rattle.lean_code.proofs.Kept.{event_elsewhere, event_holds, event_same, Scene}
 use Rattle.lean_code.proofs.KeptRows.{kept_both}
 use Rattle.lean_code.proofs.Dropped.{dropped_alone}
+use Rattle.lean_code.proofs.Cleared.{cleared_both}
 use Rattle.lean_code.proofs.Narrow.{narrow_both}
 use Rattle.lean_code.proofs.Put.{put_both}
+use Rattle.lean_code.proofs.Reading.{read_both}
 
 -- ---- rows
 put_keeps : (s : Sym) → put_of s Keeps ≡ Some s
@@ -48,6 +50,22 @@ put_narrows s e = refl
 stands_narrows : (s : Sym) (said : Option Note) → is_label s ≡ false → stands_at (Some (At s Narrows said)) ≡ true
 stands_narrows (syms.Label label) said e = never (sym e)
 stands_narrows s said e = refl
+
+put_clears : (s : Sym) → is_label s ≡ false → put_of s Clears ≡ Some (cleared s)
+put_clears (syms.Label label) e = never (sym e)
+put_clears s e = refl
+
+stands_clears : (s : Sym) (said : Option Note) → is_label s ≡ false → stands_at (Some (At s Clears said)) ≡ true
+stands_clears (syms.Label label) said e = never (sym e)
+stands_clears s said e = refl
+
+put_reads : (s : Sym) (i : ℕ) → is_label s ≡ false → put_of s (Reads i) ≡ Some (reads_before i s)
+put_reads (syms.Label label) i e = never (sym e)
+put_reads s i e = refl
+
+stands_reads : (s : Sym) (i : ℕ) (said : Option Note) → is_label s ≡ false → stands_at (Some (At s (Reads i) said)) ≡ true
+stands_reads (syms.Label label) i said e = never (sym e)
+stands_reads s i said e = refl
 
 drops_drops : (s : Sym) (said : Option Note) → is_label s ≡ false → dropped_at (Some (At s Drops said)) ≡ true
 drops_drops (syms.Label label) said e = never (sym e)
@@ -114,7 +132,7 @@ module _ (x : Lean) (sound : IsSound x) (inside : Bool) (rest : ℕ → Bool) (f
             news = t.news;
             waits = t.waits;
             alike = t.alike;
-            holds = event_holds x inside n.facts r m w.to w.byte (record { held = t.note.held; known = t.note.known }) t.loud t.holds;
+            holds = event_holds x inside n.facts r m w.to w.byte (record { held = t.note.held; known = t.note.known; twin = t.note.twin }) t.loud t.holds;
             note = t.note;
             carry = λ j h. event_elsewhere x inside w.to w.byte m j (t.note.carry j h) t.loud ∙ t.carry j h;
           };
@@ -194,6 +212,12 @@ module _ (x : Lean) (sound : IsSound x) (inside : Bool) (rest : ℕ → Bool) (f
       by_act Narrows row right =
           let stands : stands_at (row_at x p) ≡ true = subst (λ (o : Option Row). stands_at o ≡ true) (sym row) (stands_narrows i (Some n) word) in
           subst (λ (o : Option Sym). ByRow (Some i) o) (sym (made_at stands (Some (narrowed i)) (ap put_at row ∙ put_narrows i word))) (Matched (narrow_both x sound inside rest scene stands i clear right) (pays stands))
+      by_act Clears row right =
+          let stands : stands_at (row_at x p) ≡ true = subst (λ (o : Option Row). stands_at o ≡ true) (sym row) (stands_clears i (Some n) word) in
+          subst (λ (o : Option Sym). ByRow (Some i) o) (sym (made_at stands (Some (cleared i)) (ap put_at row ∙ put_clears i word))) (Matched (cleared_both x sound inside rest scene stands i clear right) (pays stands))
+      by_act (Reads before) row right =
+          let stands : stands_at (row_at x p) ≡ true = subst (λ (o : Option Row). stands_at o ≡ true) (sym row) (stands_reads i before (Some n) word) in
+          subst (λ (o : Option Sym). ByRow (Some i) o) (sym (made_at stands (Some (reads_before before i)) (ap put_at row ∙ put_reads i before word))) (Matched (read_both x sound inside rest scene stands before i clear right) (pays stands))
 
     by_stood : (y : Stood (x.rows p.block) p.index) → clears_if x.hidden r (fetched (old_program x) p) ≡ true → ByRow (fetched (old_program x) p) (fetched (new_program x) (under x p))
     by_stood y open_at =

@@ -106,7 +106,7 @@ module _ (x : Lean) (sound : IsSound x) (old new : BlockName → ℕ → ℕ) (c
       (arrive x sound false x.rest (Copy 0) (front (old_program x) (Copy 0)) (note_ahead (x.rows (Copy 0))) nothing_known d (to_front x (Copy 0)) sound.main.0 (main_expects (note_ahead (x.rows (Copy 0))) sound.main.1) [] tt
       (at_front (old_program x) 0 r) (at_front (new_program x) 0 r) m m refl (ap (λ (q : Position). Some q) (under_front x (Copy 0))) refl tt refl refl
       (record { w = λ h. refl; z = λ h. refl; dc = λ h. refl; c = λ h. refl; fsr = refl; irp = refl })
-      (record { number = λ i h. absurd (none-some i h); held = λ i h. never h; zero = λ h. never h; known = λ i j h. absurd (none-some j h) })
+      (record { number = λ i h. absurd (none-some i h); held = λ i h. never h; zero = λ h. never h; known = λ i j h. absurd (none-some j h); twin = λ i j h. never h })
       (λ j h i l. refl) sound.stands).0
 
   begins_at : Together x (settled o first) (settled o last)
@@ -118,7 +118,7 @@ module _ (x : Lean) (sound : IsSound x) (old new : BlockName → ℕ → ℕ) (c
       (subst (λ (u : Machine). Together x (settled o first) (settled o u)) (sym (run_none (new_setting x) e o last)) begins_at)
 
   -- the moment that belongs to one of the given code
-  abbrev place : ℕ → ℕ
+  abbrev pub place : ℕ → ℕ
   place zero = 0
   place (suc i) = place i + pace_of x (settled o (one i))
 
@@ -198,7 +198,7 @@ module _ (x : Lean) (sound : IsSound x) (old new : BlockName → ℕ → ℕ) (c
       sym (arrived_trace o (other k).world) ∙ ap (λ (w : World ℕ). w.trace) (sym sim.world) ∙ arrived_trace o (one i).world ∙ sym (map-id (a.trace i))
 
   module _ (n : ℕ) (goes : Goes a n) (open_all : IsOpen x e o first n) where
-    sim_at : (i : ℕ) → i ≤ n → Sim i (place i)
+    pub sim_at : (i : ℕ) → i ≤ n → Sim i (place i)
     sim_at zero l = begins
     sim_at (suc i) l = (hop i (place i) (sim_at i (omega arith)) (goes i (omega arith)) (open_all i (omega arith))).sim
 

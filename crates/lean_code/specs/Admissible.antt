@@ -1,5 +1,5 @@
--- When a certificate is admissible for a pass that stands between others: what is counted stays, the start block stays as it is, numbers
--- are bytes, and each block ends by a word.
+-- When a certificate is admissible for a pass that stands between others: what is counted stays where something comes, the start block
+-- stays as it is, numbers are bytes, and each block ends by a word.
 use Rattle.std.specs.Prelude.{◌≡◌, ℕ, ◌<◌, Bool, true, false, not, ◌&&◌, ◌||◌, nat_lt, List, [], ◌∷◌}
 use Rattle.std.specs.List.{list_all}
 use Rattle.sym_code.specs.Marks.{is_marked}
@@ -13,12 +13,12 @@ use Rattle.sym_code.specs.declared.code.Sym.TheVariants as syms
 use Rattle.sym_code.specs.declared.code.SymBlock.{SymBlock}
 use Rattle.lean_code.specs.Checked as listed
 use Rattle.lean_code.specs.Checked.{ListedBlock, Sketch, rows_in}
-use Rattle.lean_code.specs.Rows.{Act, Keeps, Puts, narrowed, Row, At, old_of, is_label, is_dropped, olds, puts}
+use Rattle.lean_code.specs.Rows.{Act, Keeps, Puts, narrowed, cleared, reads_before, Row, At, old_of, is_reached, is_label, is_dropped, olds, puts}
 
 -- ---- rows
--- The instruction is one that counts, and is left out. Given is how many bytes the variables of each copy have.
+-- The instruction is one that counts, something comes to it, and it is left out. Given is how many bytes the variables of each copy have.
 abbrev pub loses_mark : (ℕ → ℕ) → Row → Bool
-loses_mark variables row = is_dropped row && is_marked variables (old_of row)
+loses_mark variables row = is_reached row && (is_dropped row && is_marked variables (old_of row))
 
 abbrev pub is_byte_act : Act → Bool
 is_byte_act (Puts op n) = nat_lt n 256
@@ -35,7 +35,7 @@ abbrev pub is_admissible_row : (ℕ → ℕ) → Bool → Row → Bool
 is_admissible_row variables whole row = not (loses_mark variables row) && (is_byte_act (act_of row) && (not whole || is_keep (act_of row)))
 
 -- ---- lists of rows
--- no instruction that counts is left out
+-- no instruction that counts is left out where something comes
 abbrev pub keeps_marks : (ℕ → ℕ) → List Row → Bool
 keeps_marks variables [] = true
 keeps_marks variables (row ∷ rows) = not (loses_mark variables row) && keeps_marks variables rows
@@ -98,9 +98,9 @@ TestedIsAdmissible = (variables : ℕ → ℕ) (k : Sketch) → are_admissible v
 abbrev pub KeptIsSame : Type 0
 KeptIsSame = (rows : List Row) → keeps_all rows ≡ true → puts rows ≡ olds rows
 
--- What holds of each instruction of the given code, of each operation on W and a byte, and of an instruction wherever its result goes,
--- holds of each that is made.
+-- What holds of each instruction of the given code, of each operation on W and a byte, of an instruction wherever its result goes, of
+-- the clearing of a byte in which W may be stored, and of a byte before one of the same frame, holds of each that is made.
 abbrev pub BytesKeep : Type 0
 BytesKeep =
-    (test : Sym → Bool) (rows : List Row) → puts_bytes rows ≡ true → ((op : LiteralOperation) (n : ℕ) → n < 256 → test (syms.Literal op (Number n)) ≡ true) → ((s : Sym) → test s ≡ true → test (narrowed s) ≡ true)
+    (test : Sym → Bool) (rows : List Row) → puts_bytes rows ≡ true → ((op : LiteralOperation) (n : ℕ) → n < 256 → test (syms.Literal op (Number n)) ≡ true) → ((s : Sym) → test s ≡ true → test (narrowed s) ≡ true) → ((s : Sym) → test s ≡ true → test (cleared s) ≡ true) → ((n : ℕ) (s : Sym) → test s ≡ true → test (reads_before n s) ≡ true)
     → list_all test (olds rows) ≡ true → list_all test (puts rows) ≡ true

@@ -13,6 +13,7 @@ use Rattle.sym_code.specs.declared.code.LiteralOperation.TheVariants as literals
 use Rattle.sym_code.specs.declared.code.Operand.{Operand}
 use Rattle.sym_code.specs.declared.code.Operand.TheVariants as operands
 use Rattle.sym_code.specs.declared.code.Register.TheVariants.{Indf, Fsr}
+use Rattle.lean_code.specs.Computed.{computed}
 use Rattle.lean_code.specs.Rows.{Facts, Apart}
 
 -- ---- what is said
@@ -21,6 +22,7 @@ pub record Holds (f : Facts) (r : Registers) (m : Memory) : Type 0 where
   pub held : (a : ℕ) → f.held a ≡ true → r.w ≡ m a
   pub zero : f.zero ≡ true → r.z ≡ truth (nat_eq r.w 0)
   pub known : (a n : ℕ) → f.known a ≡ Some n → m a ≡ n
+  pub twin : (a b : ℕ) → f.twin a b ≡ true → m a ≡ m b
 
 -- the registers of the two machines; FSR and IRP never differ
 pub record Alike (d : Apart) (r s : Registers) : Type 0 where
@@ -37,6 +39,7 @@ pub record Weaker (f k : Facts) : Type 0 where
   pub held : (a : ℕ) → f.held a ≡ true → k.held a ≡ true
   pub zero : f.zero ≡ true → k.zero ≡ true
   pub known : (a n : ℕ) → f.known a ≡ Some n → k.known a ≡ Some n
+  pub twin : (a b : ℕ) → f.twin a b ≡ true → k.twin a b ≡ true
 
 -- W and the flags of b may differ wherever those of d may
 pub record CoversFlags (b d : Apart) : Type 0 where
@@ -85,44 +88,6 @@ is_own inside owner = false
 abbrev pub is_near : Bool → Owner → Bool
 is_near inside Constant = true
 is_near inside owner = is_own inside owner
-
--- ---- facts behind an instruction
--- what is said of bytes, where the operand is written
-abbrev pub lost : (ℕ → Bool) → Aim → Facts → Facts
-lost hidden (ToByte k) f = record f { held = λ a. if nat_eq a k then false else f.held a; known = λ a. if nat_eq a k then None else f.known a }
-lost hidden Through f = record f { held = λ a. if hidden a then f.held a else false; known = λ a. if hidden a then f.known a else None }
-lost hidden aim f = f
-
--- Z may have changed, or W with it
-abbrev pub without_zero : Facts → Facts
-without_zero f = record f { zero = false }
-
-abbrev pub without_w : Facts → Facts
-without_w f = record f { number = None; held = λ a. false; zero = false }
-
-abbrev pub is_number : Option ℕ → ℕ → Bool
-is_number None n = false
-is_number (Some k) n = nat_eq k n
-
--- a byte is read to W
-abbrev pub moved : Aim → Facts → Facts
-moved (ToByte k) f = record f { number = f.known k; held = λ a. nat_eq a k; zero = true }
-moved aim f = record f { number = None; held = λ a. false; zero = true }
-
-abbrev pub after_to_w : FileOperation → Aim → Facts → Facts
-after_to_w files.Movf aim f = moved aim f
--- 0 leaves W as it is
-after_to_w files.Iorwf (ToByte k) f = if is_number (f.known k) 0 then record f { zero = true } else without_w f
-after_to_w op aim f = without_w f
-
--- a number is written, or W
-abbrev pub learned : (ℕ → Bool) → Aim → Option ℕ → Facts → Facts
-learned hidden (ToByte k) number f = record f { held = λ a. if nat_eq a k then false else f.held a; known = λ a. if nat_eq a k then number else f.known a }
-learned hidden aim number f = lost hidden aim f
-
-abbrev pub stored : (ℕ → Bool) → Aim → Facts → Facts
-stored hidden (ToByte k) f = record f { held = λ a. if nat_eq a k then true else f.held a; known = λ a. if nat_eq a k then f.number else f.known a }
-stored hidden aim f = lost hidden aim f
 
 -- ---- what instructions read and write of W and the flags
 pub record Flags : Type 0 where
@@ -196,6 +161,79 @@ literal_for files.Subwf = Some literals.Sublw
 literal_for files.Xorwf = Some literals.Xorlw
 literal_for op = None
 
+-- ---- numbers
+abbrev pub is_number : Option ℕ → ℕ → Bool
+is_number None n = false
+is_number (Some k) n = nat_eq k n
+
+abbrev pub same_known : Option ℕ → Option ℕ → Bool
+same_known None o = false
+same_known (Some n) o = is_number o n
+
+-- 0 leaves W as it is
+abbrev pub leaves_w : FileOperation → Option ℕ → Bool
+leaves_w files.Iorwf byte = is_number byte 0
+leaves_w files.Xorwf byte = is_number byte 0
+leaves_w op byte = false
+
+-- ---- facts behind an instruction
+-- what stays the same as another byte, where byte k is written
+abbrev pub twin_but : ℕ → (ℕ → ℕ → Bool) → ℕ → ℕ → Bool
+twin_but k twin a b = if nat_eq a k then false else (if nat_eq b k then false else twin a b)
+
+-- what is said of bytes, where the operand is written
+abbrev pub lost : (ℕ → Bool) → Aim → Facts → Facts
+lost hidden (ToByte k) f = record f { held = λ a. if nat_eq a k then false else f.held a; known = λ a. if nat_eq a k then None else f.known a; twin = twin_but k f.twin }
+lost hidden Through f = record f { held = λ a. if hidden a then f.held a else false; known = λ a. if hidden a then f.known a else None; twin = λ a b. if hidden a then (if hidden b then f.twin a b else false) else false }
+lost hidden aim f = f
+
+-- Z may have changed, or W with it
+abbrev pub without_zero : Facts → Facts
+without_zero f = record f { zero = false }
+
+abbrev pub without_w : Facts → Facts
+without_w f = record f { number = None; held = λ a. false; zero = false }
+
+-- a byte is read to W, which is then what the bytes hold of which it is a copy
+abbrev pub moved : Aim → Facts → Facts
+moved (ToByte k) f = record f { number = f.known k; held = λ a. if nat_eq a k then true else f.twin k a; zero = true }
+moved aim f = record f { number = None; held = λ a. false; zero = true }
+
+-- what is known of the byte that is read
+abbrev pub number_at : Aim → Facts → Option ℕ
+number_at (ToByte k) f = f.known k
+number_at aim f = None
+
+-- a result is in W, with what Z says of it
+abbrev pub with_number : Option ℕ → Bool → Facts → Facts
+with_number None zero f = record f { number = None; held = λ a. false; zero = zero }
+with_number (Some n) zero f = record f { number = Some n; held = λ a. is_number (f.known a) n; zero = zero }
+
+-- an operation on W and a byte of which this is known
+abbrev pub worked : FileOperation → Option ℕ → Facts → Facts
+worked op byte f = if leaves_w op byte then record f { zero = true } else with_number (computed op f.number byte) (flags_in op).z f
+
+abbrev pub after_to_w : FileOperation → Aim → Facts → Facts
+after_to_w files.Movf aim f = moved aim f
+after_to_w op aim f = worked op (number_at aim f) f
+
+-- a number is written, or W
+abbrev pub learned : (ℕ → Bool) → Aim → Option ℕ → Facts → Facts
+learned hidden (ToByte k) number f = record f { held = λ a. if nat_eq a k then false else f.held a; known = λ a. if nat_eq a k then number else f.known a; twin = twin_but k f.twin }
+learned hidden aim number f = lost hidden aim f
+
+-- the result of an operation is written
+abbrev pub after_to_file : (ℕ → Bool) → FileOperation → Aim → Facts → Facts
+after_to_file hidden op aim f = learned hidden aim (computed op f.number (number_at aim f)) (without_zero f)
+
+-- it is a copy of the bytes that hold W
+abbrev pub twin_stored : ℕ → Facts → ℕ → ℕ → Bool
+twin_stored k f a b = if nat_eq b k then false else (if nat_eq a k then f.held b else f.twin a b)
+
+abbrev pub stored : (ℕ → Bool) → Aim → Facts → Facts
+stored hidden (ToByte k) f = record f { held = λ a. if nat_eq a k then true else f.held a; known = λ a. if nat_eq a k then f.number else f.known a; twin = twin_stored k f }
+stored hidden aim f = lost hidden aim f
+
 -- ---- what may differ behind an instruction
 -- both write these flags alike
 abbrev pub both_set : Flags → Apart → Apart
@@ -226,9 +264,17 @@ one_moves f k d = record d { w = if f.held k then d.w else true; z = if f.held k
 abbrev pub one_stores : Facts → ℕ → Apart → Apart
 one_stores f k d = if f.held k then d else other_byte k d
 
--- only one of them joins W with byte k, whose 0 leaves W as it is
-abbrev pub one_ors : Facts → ℕ → Apart → Apart
-one_ors f k d = if is_number (f.known k) 0 then record d { z = if f.zero then d.z else true } else other_w (one_sets z_alone d)
+-- W stays what it is behind an operation on a byte of which this is known
+abbrev pub stays : FileOperation → Option ℕ → Facts → Bool
+stays op byte f = leaves_w op byte || same_known (computed op f.number byte) f.number
+
+-- only one of them does it: where W stays, Z may still say of it what it said
+abbrev pub one_works : FileOperation → Option ℕ → Facts → Apart → Apart
+one_works op byte f d = if stays op byte f then record (one_sets (flags_in op) d) { z = (flags_in op).z && not f.zero || d.z } else other_w (one_sets (flags_in op) d)
+
+-- only one of them writes the result to byte k, which may be what it held
+abbrev pub one_writes : FileOperation → ℕ → Facts → Apart → Apart
+one_writes op k f d = if same_known (computed op f.number (f.known k)) (f.known k) then one_sets (flags_in op) d else other_byte k (one_sets (flags_in op) d)
 
 -- only one of them clears byte k
 abbrev pub one_clears : Facts → ℕ → Apart → Apart

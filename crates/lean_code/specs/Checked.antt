@@ -25,8 +25,9 @@ use Rattle.sym_code.specs.declared.code.Sym.TheVariants as syms
 use Rattle.sym_code.specs.declared.code.SymBlock.{SymBlock}
 use Rattle.sym_code.specs.declared.code.Target.{Target}
 use Rattle.sym_code.specs.declared.code.Target.TheVariants as targets
-use Rattle.lean_code.specs.Rows.{Facts, Apart, Note, nothing_known, Act, Keeps, Drops, Puts, Narrows, Row, At, olds, puts, is_label, place_in, drops_first, keeps_first, goes_on, Lean, old_program}
-use Rattle.lean_code.specs.Changes.{Aim, ToByte, Through, aim, is_own, is_near, lost, without_zero, moved, after_to_w, learned, stored, flags_in, uses_w, uses_c, may_skip, literal_flags, literal_uses, is_retlw, literal_for, both_set, one_sets, same_w, other_w, same_byte, other_byte, one_moves, one_stores, is_number, one_ors, one_clears}
+use Rattle.lean_code.specs.Computed.{computed, way_of, way_of_bit}
+use Rattle.lean_code.specs.Rows.{Facts, Apart, Note, nothing_known, Act, Keeps, Drops, Puts, Narrows, Clears, Reads, may_clear, operand_before, Row, At, olds, puts, is_label, place_in, drops_first, keeps_first, goes_on, Lean, old_program}
+use Rattle.lean_code.specs.Changes.{Aim, ToByte, Through, aim, is_own, is_near, lost, without_zero, moved, after_to_w, number_at, learned, after_to_file, stored, flags_in, uses_w, uses_c, may_skip, literal_flags, literal_uses, is_retlw, literal_for, both_set, one_sets, same_w, other_w, same_byte, other_byte, one_moves, one_stores, is_number, one_works, one_writes, one_clears}
 use Rattle.lean_code.specs.Right as right
 use Rattle.lean_code.specs.Right.{flag_apart, with_flag}
 
@@ -48,11 +49,17 @@ abbrev pub number_in : ℕ → List KnownByte → Option ℕ
 number_in a [] = None
 number_in a (b ∷ bs) = if nat_eq a b.byte then Some b.number else number_in a bs
 
+-- among the bytes that are copies, each with the byte of which it is one
+abbrev pub is_twin : List KnownByte → ℕ → ℕ → Bool
+is_twin twins a b = is_number (number_in a twins) b
+
 pub record ListedFacts : Type 0 where
   pub number : Option ℕ
   pub held : List ℕ
   pub zero : Bool
   pub known : List KnownByte
+  -- bytes that are copies, each with the byte of which it is one
+  pub twins : List KnownByte
 
 pub record ListedApart : Type 0 where
   pub w : Bool
@@ -90,7 +97,7 @@ pub record Sketch : Type 0 where
 
 -- ---- what the lists say
 abbrev pub facts_in : ListedFacts → Facts
-facts_in f = record { number = f.number; held = λ a. among a f.held; zero = f.zero; known = λ a. number_in a f.known }
+facts_in f = record { number = f.number; held = λ a. among a f.held; zero = f.zero; known = λ a. number_in a f.known; twin = is_twin f.twins }
 
 abbrev pub apart_in : ListedApart → Apart
 apart_in d = record { w = d.w; z = d.z; dc = d.dc; c = d.c; bytes = λ a. among a d.bytes }
@@ -106,7 +113,7 @@ rows_in [] = []
 rows_in (row ∷ rows) = row_in row ∷ rows_in rows
 
 abbrev pub no_note : ListedNote
-no_note = record { facts = record { number = None; held = []; zero = false; known = [] }; apart = record { w = true; z = true; dc = true; c = true; bytes = [] }; carry = None }
+no_note = record { facts = record { number = None; held = []; zero = false; known = []; twins = [] }; apart = record { w = true; z = true; dc = true; c = true; bytes = [] }; carry = None }
 
 -- a block that isn't there
 abbrev pub no_block : ListedBlock
@@ -141,9 +148,13 @@ abbrev pub gives_known : (ℕ → Option ℕ) → List KnownByte → Bool
 gives_known has [] = true
 gives_known has (b ∷ bs) = is_number (has b.byte) b.number && gives_known has bs
 
+abbrev pub gives_twins : (ℕ → ℕ → Bool) → List KnownByte → Bool
+gives_twins has [] = true
+gives_twins has (b ∷ bs) = has b.byte b.number && gives_twins has bs
+
 -- the facts are enough for those that are listed
 abbrev pub gives : Facts → ListedFacts → Bool
-gives f n = gives_number f.number n.number && (all_of f.held n.held && ((not n.zero || f.zero) && gives_known f.known n.known))
+gives f n = gives_number f.number n.number && (all_of f.held n.held && ((not n.zero || f.zero) && (gives_known f.known n.known && gives_twins f.twin n.twins)))
 
 abbrev pub covers_flags : ListedApart → Apart → Bool
 covers_flags b d = (b.w || not d.w) && ((b.z || not d.z) && ((b.dc || not d.dc) && (b.c || not d.c)))
@@ -173,11 +184,16 @@ abbrev pub past : List ListedRow → List ListedRow
 past [] = []
 past (Listed s act n ∷ rows) = if is_label s then past rows else rows
 
-abbrev pub leads : List ListedRow → Bool → Facts → Apart → List ℕ → Bool
-leads rest can f d candidates = expects (ahead rest) f d candidates && (if can then expects (ahead (past rest)) f d candidates && keeps_first (rows_in rest) else true)
+-- Some way is known to be gone, or both may be.
+abbrev pub leads : List ListedRow → Option Bool → Facts → Apart → List ℕ → Bool
+leads rest None f d candidates = expects (ahead rest) f d candidates && (expects (ahead (past rest)) f d candidates && keeps_first (rows_in rest))
+leads rest (Some false) f d candidates = expects (ahead rest) f d candidates
+leads rest (Some true) f d candidates = expects (ahead (past rest)) f d candidates && keeps_first (rows_in rest)
 
-abbrev pub passes : Option ℕ → List ListedRow → Bool → Facts → Apart → List ℕ → Bool
-passes carry rest can f d candidates = expects_by carry (ahead rest) f d candidates && (if can then expects_by carry (ahead (past rest)) f d candidates && drops_first (rows_in rest) else true)
+abbrev pub passes : Option ℕ → List ListedRow → Option Bool → Facts → Apart → List ℕ → Bool
+passes carry rest None f d candidates = expects_by carry (ahead rest) f d candidates && (expects_by carry (ahead (past rest)) f d candidates && drops_first (rows_in rest))
+passes carry rest (Some false) f d candidates = expects_by carry (ahead rest) f d candidates
+passes carry rest (Some true) f d candidates = expects_by carry (ahead (past rest)) f d candidates && drops_first (rows_in rest)
 
 abbrev pub comes : Option (Option ListedNote) → ListedNote → List ℕ → Bool
 comes None k across = true
@@ -226,6 +242,11 @@ abbrev pub is_here : List ListedRow → ℕ → Option ℕ → Bool
 is_here rows here None = true
 is_here rows here (Some i) = nat_eq (place_in (rows_in rows) i) here
 
+-- it is known not to skip
+abbrev pub runs_on : Option Bool → Bool
+runs_on None = false
+runs_on (Some skips) = not skips
+
 -- of a row of a block, with what is said before it
 module _ (k : Sketch) (block : ListedBlock) (n : ListedNote) where
   abbrev pub f : Facts
@@ -250,17 +271,17 @@ module _ (k : Sketch) (block : ListedBlock) (n : ListedNote) where
   uses op = not (uses_w op && n.apart.w) && not (uses_c op && n.apart.c)
 
   abbrev pub keeps_file : List ListedRow → FileOperation → Operand → Into → Bool
-  keeps_file rest op operand into.W = uses op && (is_same (read operand) && leads rest (may_skip op) (after_to_w op (read operand) f) (same_w (both_set (flags_in op) d)) here_bytes)
+  keeps_file rest op operand into.W = uses op && (is_same (read operand) && leads rest (way_of op (number_at (read operand) f)) (after_to_w op (read operand) f) (same_w (both_set (flags_in op) d)) here_bytes)
   keeps_file rest op operand into.File =
-      uses op && (is_same (write operand) && leads rest (may_skip op) (lost k.hidden (write operand) (without_zero f)) (same_byte (write operand) (both_set (flags_in op) d)) here_bytes)
+      uses op && (is_same (write operand) && leads rest (way_of op (number_at (write operand) f)) (after_to_file k.hidden op (write operand) f) (same_byte (write operand) (both_set (flags_in op) d)) here_bytes)
 
   abbrev pub keeps_bit : List ListedRow → BitOperation → Operand → ℕ → Bool
   keeps_bit rest bit_ops.Bcf (operands.Register Status) b = expects (ahead rest) (without_zero f) (with_flag b false d) here_bytes
   keeps_bit rest bit_ops.Bsf (operands.Register Status) b = expects (ahead rest) (without_zero f) (with_flag b false d) here_bytes
-  keeps_bit rest op (operands.Register Status) b = not (flag_apart b d) && leads rest true f d here_bytes
+  keeps_bit rest op (operands.Register Status) b = not (flag_apart b d) && leads rest None f d here_bytes
   keeps_bit rest bit_ops.Bcf operand b = is_same (write operand) && expects (ahead rest) (lost k.hidden (write operand) f) d here_bytes
   keeps_bit rest bit_ops.Bsf operand b = is_same (write operand) && expects (ahead rest) (lost k.hidden (write operand) f) d here_bytes
-  keeps_bit rest op operand b = is_same (read operand) && leads rest true f d here_bytes
+  keeps_bit rest op operand b = is_same (read operand) && leads rest (way_of_bit op (number_at (read operand) f) b) f d here_bytes
 
   abbrev pub keeps_plain : List ListedRow → PlainOperation → Bool
   keeps_plain rest plains.Clrw = expects (ahead rest) (record f { number = Some 0; held = λ a. false; zero = true }) (record d { w = false; z = false }) here_bytes
@@ -306,12 +327,11 @@ module _ (k : Sketch) (block : ListedBlock) (n : ListedNote) where
 
   abbrev pub drops_to_w : List ListedRow → FileOperation → Aim → Bool
   drops_to_w rest files.Movf (ToByte i) = drops_move rest i n.carry
-  drops_to_w rest files.Iorwf (ToByte i) = expects_by n.carry (ahead rest) (after_to_w files.Iorwf (ToByte i) f) (one_ors f i d) here_bytes
-  drops_to_w rest op (ToByte i) = passes n.carry rest (may_skip op) (after_to_w op (ToByte i) f) (other_w (one_sets (flags_in op) d)) here_bytes
+  drops_to_w rest op (ToByte i) = passes n.carry rest (way_of op (f.known i)) (after_to_w op (ToByte i) f) (one_works op (f.known i) f d) here_bytes
   drops_to_w rest op a = false
 
   abbrev pub drops_to_file : List ListedRow → FileOperation → Aim → Bool
-  drops_to_file rest op (ToByte i) = passes (right.carry_but i n.carry) rest (may_skip op) (lost k.hidden (ToByte i) (without_zero f)) (other_byte i (one_sets (flags_in op) d)) (i ∷ here_bytes)
+  drops_to_file rest op (ToByte i) = passes (right.carry_but i n.carry) rest (way_of op (f.known i)) (after_to_file k.hidden op (ToByte i) f) (one_writes op i f d) (i ∷ here_bytes)
   drops_to_file rest op a = false
 
   abbrev pub drops_store : List ListedRow → Aim → Bool
@@ -326,17 +346,17 @@ module _ (k : Sketch) (block : ListedBlock) (n : ListedNote) where
   drops_change rest (ToByte i) = expects_by (right.carry_but i n.carry) (ahead rest) (lost k.hidden (ToByte i) f) (other_byte i d) (i ∷ here_bytes)
   drops_change rest a = false
 
-  abbrev pub drops_test : List ListedRow → Aim → Bool
-  drops_test rest (ToByte i) = passes n.carry rest true f d here_bytes
-  drops_test rest a = false
+  abbrev pub drops_test : List ListedRow → BitOperation → Aim → ℕ → Bool
+  drops_test rest op (ToByte i) b = passes n.carry rest (way_of_bit op (f.known i) b) f d here_bytes
+  drops_test rest op a b = false
 
   abbrev pub drops_bit : List ListedRow → BitOperation → Operand → ℕ → Bool
   drops_bit rest bit_ops.Bcf (operands.Register Status) b = nat_lt b 3 && expects_by n.carry (ahead rest) (without_zero f) (with_flag b true d) here_bytes
   drops_bit rest bit_ops.Bsf (operands.Register Status) b = nat_lt b 3 && expects_by n.carry (ahead rest) (without_zero f) (with_flag b true d) here_bytes
-  drops_bit rest op (operands.Register Status) b = passes n.carry rest true f d here_bytes
+  drops_bit rest op (operands.Register Status) b = passes n.carry rest None f d here_bytes
   drops_bit rest bit_ops.Bcf operand b = drops_change rest (write operand)
   drops_bit rest bit_ops.Bsf operand b = drops_change rest (write operand)
-  drops_bit rest op operand b = drops_test rest (read operand)
+  drops_bit rest op operand b = drops_test rest op (read operand) b
 
   abbrev pub drops_plain : List ListedRow → PlainOperation → Bool
   drops_plain rest plains.Clrw = expects_by n.carry (ahead rest) (record f { number = Some 0; held = λ a. false; zero = true }) (record d { w = true; z = true }) here_bytes
@@ -358,10 +378,21 @@ module _ (k : Sketch) (block : ListedBlock) (n : ListedNote) where
   is_left_out here rest (syms.Goto target) = drops_goto here target
   is_left_out here rest s = false
 
-  abbrev pub puts_for : List ListedRow → FileOperation → Aim → LiteralOperation → ℕ → Bool
-  puts_for rest op (ToByte i) new v =
+  abbrev pub puts_same : List ListedRow → FileOperation → ℕ → LiteralOperation → ℕ → Bool
+  puts_same rest op i new v =
       is_operation (literal_for op) new && (is_number (f.known i) v && (not (uses_w op && n.apart.w)
       && expects (ahead rest) (after_to_w op (ToByte i) f) (right.literal_apart f d op i) here_bytes))
+
+  abbrev pub puts_number : List ListedRow → FileOperation → ℕ → ℕ → Bool
+  puts_number rest op i v = runs_on (way_of op (f.known i)) && (is_number (computed op f.number (f.known i)) v && expects (ahead rest) (after_to_w op (ToByte i) f) (same_w (one_sets (flags_in op) d)) here_bytes)
+
+  abbrev pub puts_byte : List ListedRow → FileOperation → ℕ → LiteralOperation → ℕ → Bool
+  puts_byte rest files.Movf i new v = puts_same rest files.Movf i new v
+  puts_byte rest op i literals.Movlw v = puts_number rest op i v
+  puts_byte rest op i new v = puts_same rest op i new v
+
+  abbrev pub puts_for : List ListedRow → FileOperation → Aim → LiteralOperation → ℕ → Bool
+  puts_for rest op (ToByte i) new v = puts_byte rest op i new v
   puts_for rest op a new v = false
 
   abbrev pub is_put : List ListedRow → LiteralOperation → ℕ → Sym → Bool
@@ -380,16 +411,57 @@ module _ (k : Sketch) (block : ListedBlock) (n : ListedNote) where
   is_narrowed rest (syms.Label label) = true
   is_narrowed rest s = false
 
+  abbrev pub clears_for : List ListedRow → Operand → Bool
+  clears_for rest operand = may_clear operand && (is_number f.number 0 && expects (ahead rest) (stored k.hidden (write operand) f) (same_byte (write operand) (record d { z = true })) here_bytes)
+
+  abbrev pub is_cleared : List ListedRow → Sym → Bool
+  is_cleared rest (syms.Movwf operand) = clears_for rest operand
+  is_cleared rest (syms.Label label) = true
+  is_cleared rest s = false
+
+  abbrev pub reads_for : List ListedRow → FileOperation → Aim → Aim → Bool
+  reads_for rest op (ToByte i) (ToByte j) =
+      uses op && (is_twin n.facts.twins i j && (is_same (ToByte j) && leads rest (way_of op (f.known i)) (after_to_w op (ToByte i) f) (same_w (both_set (flags_in op) d)) here_bytes))
+  reads_for rest op a b = false
+
+  abbrev pub reads_to : List ListedRow → FileOperation → Aim → Aim → Aim → Bool
+  reads_to rest op (ToByte i) (ToByte h) (ToByte j) =
+      uses op && (is_twin n.facts.twins i j && (is_same (ToByte j) && (not (may_skip op) && (nat_eq h i
+      && expects_by (Some i) (ahead rest) (lost k.hidden (ToByte i) (without_zero f)) (other_w (other_byte i (both_set (flags_in op) d))) (i ∷ here_bytes)))))
+  reads_to rest op a b c = false
+
+  abbrev pub tests_for : List ListedRow → BitOperation → ℕ → Aim → Aim → Bool
+  tests_for rest op bit (ToByte i) (ToByte j) = is_twin n.facts.twins i j && (is_same (ToByte j) && leads rest (way_of_bit op (f.known i) bit) f d here_bytes)
+  tests_for rest op bit a b = false
+
+  abbrev pub reads_bit : List ListedRow → BitOperation → ℕ → Aim → Aim → Bool
+  reads_bit rest bit_ops.Btfsc bit a b = tests_for rest bit_ops.Btfsc bit a b
+  reads_bit rest bit_ops.Btfss bit a b = tests_for rest bit_ops.Btfss bit a b
+  reads_bit rest op bit a b = false
+
+  abbrev pub is_read : List ListedRow → ℕ → Sym → Bool
+  is_read rest before (syms.File op operand into.W) = reads_for rest op (read operand) (read (operand_before before operand))
+  is_read rest before (syms.File op operand into.File) = reads_to rest op (write operand) (read operand) (read (operand_before before operand))
+  is_read rest before (syms.Bit op operand b) = reads_bit rest op b (read operand) (read (operand_before before operand))
+  is_read rest before (syms.Label label) = true
+  is_read rest before s = false
+
   abbrev pub is_right_row : ℕ → List ListedRow → Act → Sym → Bool
   is_right_row here rest Keeps s = is_kept rest s
   is_right_row here rest Drops s = is_left_out here rest s
   is_right_row here rest (Puts new v) s = is_put rest new v s
   is_right_row here rest Narrows s = is_narrowed rest s
+  is_right_row here rest Clears s = is_cleared rest s
+  is_right_row here rest (Reads before) s = is_read rest before s
 
 -- ---- notes
 abbrev pub all_known : (ℕ → Bool) → List KnownByte → Bool
 all_known test [] = true
 all_known test (b ∷ bs) = test b.byte && all_known test bs
+
+abbrev pub all_twins : (ℕ → Bool) → List KnownByte → Bool
+all_twins test [] = true
+all_twins test (b ∷ bs) = (test b.byte && test b.number) && all_twins test bs
 
 abbrev pub carries_near : DataLayout → Bool → Option ℕ → Bool
 carries_near l inside None = true
@@ -398,7 +470,7 @@ carries_near l inside (Some a) = is_near inside (owner l a)
 -- facts are of bytes that the other thread can't change, and what may differ is the thread's own
 abbrev pub is_note : DataLayout → Bool → ListedNote → Bool
 is_note l inside n =
-    all_of (λ a. is_near inside (owner l a)) n.facts.held && (all_known (λ a. is_near inside (owner l a)) n.facts.known && (all_of (λ a. is_own inside (owner l a)) n.apart.bytes && carries_near l inside n.carry))
+    all_of (λ a. is_near inside (owner l a)) n.facts.held && (all_known (λ a. is_near inside (owner l a)) n.facts.known && (all_twins (λ a. is_near inside (owner l a)) n.facts.twins && (all_of (λ a. is_own inside (owner l a)) n.apart.bytes && carries_near l inside n.carry)))
 
 abbrev pub is_right_at : Sketch → ListedBlock → ℕ → ListedRow → List ListedRow → Bool
 is_right_at k block j (Listed s act None) rest = true

@@ -1,4 +1,5 @@
 pub mod Rows
+pub mod Computed
 pub mod Changes
 pub mod Right
 pub mod Links

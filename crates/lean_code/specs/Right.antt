@@ -26,8 +26,9 @@ use Rattle.sym_code.specs.declared.code.Sym.{Sym}
 use Rattle.sym_code.specs.declared.code.Sym.TheVariants as syms
 use Rattle.sym_code.specs.declared.code.Target.{Target}
 use Rattle.sym_code.specs.declared.code.Target.TheVariants as targets
-use Rattle.lean_code.specs.Rows.{Facts, Apart, Note, nothing_known, Row, At, Act, Keeps, Drops, Puts, Narrows, olds, place_in, note_ahead, past, drops_first, keeps_first, goes_on, Lean, old_program}
-use Rattle.lean_code.specs.Changes.{Weaker, CoversFlags, Covers, Aim, ToByte, Through, aim, is_own, is_near, lost, without_zero, without_w, moved, after_to_w, learned, stored, flags_in, uses_w, uses_c, may_skip, literal_flags, literal_uses, is_retlw, literal_for, both_set, one_sets, same_w, other_w, same_byte, other_byte, one_moves, one_stores, is_number, one_ors, one_clears}
+use Rattle.lean_code.specs.Computed.{computed, file_for, way_of, way_of_bit}
+use Rattle.lean_code.specs.Rows.{Facts, Apart, Note, nothing_known, Row, At, Act, Keeps, Drops, Puts, Narrows, Clears, Reads, may_clear, operand_before, olds, place_in, note_ahead, past, drops_first, keeps_first, goes_on, Lean, old_program}
+use Rattle.lean_code.specs.Changes.{Weaker, CoversFlags, Covers, Aim, ToByte, Through, aim, is_own, is_near, lost, without_zero, without_w, moved, after_to_w, number_at, worked, learned, after_to_file, stored, flags_in, uses_w, uses_c, may_skip, literal_flags, literal_uses, is_retlw, literal_for, both_set, one_sets, same_w, other_w, same_byte, other_byte, one_moves, one_stores, is_number, one_works, one_writes, one_clears}
 
 -- ---- where the code goes on
 -- With these facts, and this apart, where something stands.
@@ -54,9 +55,11 @@ pub record LeadsBoth (rest : List Row) (f : Facts) (d : Apart) : Type 0 where
   pub skips : Expects (note_ahead (past rest)) f d
   pub keeps : keeps_first rest ≡ true
 
-abbrev pub Leads : List Row → Bool → Facts → Apart → Type 0
-Leads rest false f d = Expects (note_ahead rest) f d
-Leads rest true f d = LeadsBoth rest f d
+-- so where it is known whether it skips
+abbrev pub Leads : List Row → Option Bool → Facts → Apart → Type 0
+Leads rest None f d = LeadsBoth rest f d
+Leads rest (Some false) f d = Expects (note_ahead rest) f d
+Leads rest (Some true) f d = Expects (note_ahead (past rest)) f d × (keeps_first rest ≡ true)
 
 -- behind one that is left out
 pub record PassesBoth (carry : Option ℕ) (rest : List Row) (f : Facts) (d : Apart) : Type 0 where
@@ -64,9 +67,10 @@ pub record PassesBoth (carry : Option ℕ) (rest : List Row) (f : Facts) (d : Ap
   pub skips : ExpectsBy carry (note_ahead (past rest)) f d
   pub drops : drops_first rest ≡ true
 
-abbrev pub Passes : Option ℕ → List Row → Bool → Facts → Apart → Type 0
-Passes carry rest false f d = ExpectsBy carry (note_ahead rest) f d
-Passes carry rest true f d = PassesBoth carry rest f d
+abbrev pub Passes : Option ℕ → List Row → Option Bool → Facts → Apart → Type 0
+Passes carry rest None f d = PassesBoth carry rest f d
+Passes carry rest (Some false) f d = ExpectsBy carry (note_ahead rest) f d
+Passes carry rest (Some true) f d = ExpectsBy carry (note_ahead (past rest)) f d × (drops_first rest ≡ true)
 
 -- behind a call that leaves k, where these bytes may differ meanwhile
 abbrev pub Comes : Option (Option Note) → Note → (ℕ → Bool) → Type 0
@@ -99,14 +103,24 @@ flag_apart b d = if nat_eq b 0 then d.c else if nat_eq b 1 then d.dc else if nat
 abbrev pub with_flag : ℕ → Bool → Apart → Apart
 with_flag b v d = if nat_eq b 0 then record d { c = v } else if nat_eq b 1 then record d { dc = v } else if nat_eq b 2 then record d { z = v } else d
 
--- what is known behind an operation on W and a number
+-- what is known behind an operation on W and a number, which does what one on a byte does
+abbrev pub after_number : Facts → Option FileOperation → ℕ → Facts
+after_number f None k = without_w f
+after_number f (Some op) k = worked op (Some k) f
+
 abbrev pub after_literal : Facts → LiteralOperation → Literal → Facts
 after_literal f literals.Movlw (Number k) = record f { number = Some k; held = λ a. is_number (f.known a) k; zero = false }
+after_literal f op (Number k) = after_number f (file_for op) k
 after_literal f op value = without_w f
 
 -- what may differ behind one that only one of them does
+abbrev pub dropped_number : Facts → Apart → LiteralOperation → Option FileOperation → ℕ → Apart
+dropped_number f d op None k = other_w (one_sets (literal_flags op) d)
+dropped_number f d op (Some file) k = one_works file (Some k) f d
+
 abbrev pub dropped_literal : Facts → Apart → LiteralOperation → Literal → Apart
 dropped_literal f d literals.Movlw (Number k) = if is_number f.number k then d else other_w d
+dropped_literal f d op (Number k) = dropped_number f d op (file_for op) k
 dropped_literal f d op value = other_w (one_sets (literal_flags op) d)
 
 -- what may differ behind one that stands in place of an operation on a byte
@@ -135,16 +149,17 @@ module _ (x : Lean) (own : BlockName) (inside : Bool) (n : Note) where
 
   -- ---- both execute it
   abbrev pub KeepsFile : List Row → FileOperation → Operand → Into → Type 0
-  KeepsFile rest op operand into.W = Uses op × IsSame (read operand) × Leads rest (may_skip op) (after_to_w op (read operand) f) (same_w (both_set (flags_in op) d))
-  KeepsFile rest op operand into.File = Uses op × IsSame (write operand) × Leads rest (may_skip op) (lost x.hidden (write operand) (without_zero f)) (same_byte (write operand) (both_set (flags_in op) d))
+  KeepsFile rest op operand into.W = Uses op × IsSame (read operand) × Leads rest (way_of op (number_at (read operand) f)) (after_to_w op (read operand) f) (same_w (both_set (flags_in op) d))
+  KeepsFile rest op operand into.File =
+      Uses op × IsSame (write operand) × Leads rest (way_of op (number_at (write operand) f)) (after_to_file x.hidden op (write operand) f) (same_byte (write operand) (both_set (flags_in op) d))
 
   abbrev pub KeepsBit : List Row → BitOperation → Operand → ℕ → Type 0
   KeepsBit rest bit_ops.Bcf (operands.Register Status) b = Expects (note_ahead rest) (without_zero f) (with_flag b false d)
   KeepsBit rest bit_ops.Bsf (operands.Register Status) b = Expects (note_ahead rest) (without_zero f) (with_flag b false d)
-  KeepsBit rest op (operands.Register Status) b = (flag_apart b d ≡ false) × Leads rest true f d
+  KeepsBit rest op (operands.Register Status) b = (flag_apart b d ≡ false) × Leads rest None f d
   KeepsBit rest bit_ops.Bcf operand b = IsSame (write operand) × Expects (note_ahead rest) (lost x.hidden (write operand) f) d
   KeepsBit rest bit_ops.Bsf operand b = IsSame (write operand) × Expects (note_ahead rest) (lost x.hidden (write operand) f) d
-  KeepsBit rest op operand b = IsSame (read operand) × Leads rest true f d
+  KeepsBit rest op operand b = IsSame (read operand) × Leads rest (way_of_bit op (number_at (read operand) f) b) f d
 
   abbrev pub KeepsPlain : List Row → PlainOperation → Type 0
   KeepsPlain rest plains.Clrw = Expects (note_ahead rest) (record f { number = Some 0; held = λ a. false; zero = true }) (record d { w = false; z = false })
@@ -192,12 +207,11 @@ module _ (x : Lean) (own : BlockName) (inside : Bool) (n : Note) where
 
   abbrev pub DropsToW : List Row → FileOperation → Aim → Type 0
   DropsToW rest files.Movf (ToByte k) = DropsMove rest k n.carry
-  DropsToW rest files.Iorwf (ToByte k) = ExpectsBy n.carry (note_ahead rest) (after_to_w files.Iorwf (ToByte k) f) (one_ors f k d)
-  DropsToW rest op (ToByte k) = Passes n.carry rest (may_skip op) (after_to_w op (ToByte k) f) (other_w (one_sets (flags_in op) d))
+  DropsToW rest op (ToByte k) = Passes n.carry rest (way_of op (f.known k)) (after_to_w op (ToByte k) f) (one_works op (f.known k) f d)
   DropsToW rest op aim = ⊥
 
   abbrev pub DropsToFile : List Row → FileOperation → Aim → Type 0
-  DropsToFile rest op (ToByte k) = Passes (carry_but k n.carry) rest (may_skip op) (lost x.hidden (ToByte k) (without_zero f)) (other_byte k (one_sets (flags_in op) d))
+  DropsToFile rest op (ToByte k) = Passes (carry_but k n.carry) rest (way_of op (f.known k)) (after_to_file x.hidden op (ToByte k) f) (one_writes op k f d)
   DropsToFile rest op aim = ⊥
 
   abbrev pub DropsStore : List Row → Aim → Type 0
@@ -212,17 +226,17 @@ module _ (x : Lean) (own : BlockName) (inside : Bool) (n : Note) where
   DropsChange rest (ToByte k) = ExpectsBy (carry_but k n.carry) (note_ahead rest) (lost x.hidden (ToByte k) f) (other_byte k d)
   DropsChange rest aim = ⊥
 
-  abbrev pub DropsTest : List Row → Aim → Type 0
-  DropsTest rest (ToByte k) = Passes n.carry rest true f d
-  DropsTest rest aim = ⊥
+  abbrev pub DropsTest : List Row → BitOperation → Aim → ℕ → Type 0
+  DropsTest rest op (ToByte k) b = Passes n.carry rest (way_of_bit op (f.known k) b) f d
+  DropsTest rest op aim b = ⊥
 
   abbrev pub DropsBit : List Row → BitOperation → Operand → ℕ → Type 0
   DropsBit rest bit_ops.Bcf (operands.Register Status) b = (nat_lt b 3 ≡ true) × ExpectsBy n.carry (note_ahead rest) (without_zero f) (with_flag b true d)
   DropsBit rest bit_ops.Bsf (operands.Register Status) b = (nat_lt b 3 ≡ true) × ExpectsBy n.carry (note_ahead rest) (without_zero f) (with_flag b true d)
-  DropsBit rest op (operands.Register Status) b = Passes n.carry rest true f d
+  DropsBit rest op (operands.Register Status) b = Passes n.carry rest None f d
   DropsBit rest bit_ops.Bcf operand b = DropsChange rest (write operand)
   DropsBit rest bit_ops.Bsf operand b = DropsChange rest (write operand)
-  DropsBit rest op operand b = DropsTest rest (read operand)
+  DropsBit rest op operand b = DropsTest rest op (read operand) b
 
   abbrev pub DropsPlain : List Row → PlainOperation → Type 0
   DropsPlain rest plains.Clrw = ExpectsBy n.carry (note_ahead rest) (record f { number = Some 0; held = λ a. false; zero = true }) (record d { w = true; z = true })
@@ -247,8 +261,20 @@ module _ (x : Lean) (own : BlockName) (inside : Bool) (n : Note) where
   IsDropped here rest s = ⊥
 
   -- ---- an operation on W and a number in its place
+  abbrev pub PutsSame : List Row → FileOperation → ℕ → LiteralOperation → ℕ → Type 0
+  PutsSame rest op k new v = (literal_for op ≡ Some new) × (f.known k ≡ Some v) × (uses_w op ≡ true → d.w ≡ false) × Expects (note_ahead rest) (after_to_w op (ToByte k) f) (literal_apart f d op k)
+
+  -- the number that the operation makes, where it is known
+  abbrev pub PutsNumber : List Row → FileOperation → ℕ → ℕ → Type 0
+  PutsNumber rest op k v = (way_of op (f.known k) ≡ Some false) × (computed op f.number (f.known k) ≡ Some v) × Expects (note_ahead rest) (after_to_w op (ToByte k) f) (same_w (one_sets (flags_in op) d))
+
+  abbrev pub PutsByte : List Row → FileOperation → ℕ → LiteralOperation → ℕ → Type 0
+  PutsByte rest files.Movf k new v = PutsSame rest files.Movf k new v
+  PutsByte rest op k literals.Movlw v = PutsNumber rest op k v
+  PutsByte rest op k new v = PutsSame rest op k new v
+
   abbrev pub PutsFor : List Row → FileOperation → Aim → LiteralOperation → ℕ → Type 0
-  PutsFor rest op (ToByte k) new v = (literal_for op ≡ Some new) × (f.known k ≡ Some v) × (uses_w op ≡ true → d.w ≡ false) × Expects (note_ahead rest) (after_to_w op (ToByte k) f) (literal_apart f d op k)
+  PutsFor rest op (ToByte k) new v = PutsByte rest op k new v
   PutsFor rest op aim new v = ⊥
 
   abbrev pub IsPut : List Row → LiteralOperation → ℕ → Sym → Type 0
@@ -267,16 +293,56 @@ module _ (x : Lean) (own : BlockName) (inside : Bool) (n : Note) where
   IsNarrowed rest (syms.Label label) = Unit {0}
   IsNarrowed rest s = ⊥
 
+  -- ---- a byte that is cleared where W, which is 0, would be stored
+  -- W of the other machine needn't be 0. Z is set by one of them alone.
+  abbrev pub ClearsFor : List Row → Operand → Type 0
+  ClearsFor rest operand = (may_clear operand ≡ true) × (f.number ≡ Some 0) × Expects (note_ahead rest) (stored x.hidden (write operand) f) (same_byte (write operand) (record d { z = true }))
+
+  abbrev pub IsCleared : List Row → Sym → Type 0
+  IsCleared rest (syms.Movwf operand) = ClearsFor rest operand
+  IsCleared rest (syms.Label label) = Unit {0}
+  IsCleared rest s = ⊥
+
+  -- ---- another byte that is read, of which the operand's is a copy
+  abbrev pub ReadsFor : List Row → FileOperation → Aim → Aim → Type 0
+  ReadsFor rest op (ToByte k) (ToByte i) = Uses op × (f.twin k i ≡ true) × IsSame (ToByte i) × Leads rest (way_of op (f.known k)) (after_to_w op (ToByte k) f) (same_w (both_set (flags_in op) d))
+  ReadsFor rest op a b = ⊥
+
+  -- the result would go to the operand's byte
+  abbrev pub ReadsTo : List Row → FileOperation → Aim → Aim → Aim → Type 0
+  ReadsTo rest op (ToByte k) (ToByte j) (ToByte i) =
+      Uses op × (f.twin k i ≡ true) × IsSame (ToByte i) × (may_skip op ≡ false) × (j ≡ k) × ExpectsBy (Some k) (note_ahead rest) (lost x.hidden (ToByte k) (without_zero f)) (other_w (other_byte k (both_set (flags_in op) d)))
+  ReadsTo rest op a b c = ⊥
+
+  abbrev pub TestsFor : List Row → BitOperation → ℕ → Aim → Aim → Type 0
+  TestsFor rest op bit (ToByte k) (ToByte i) = (f.twin k i ≡ true) × IsSame (ToByte i) × Leads rest (way_of_bit op (f.known k) bit) f d
+  TestsFor rest op bit a b = ⊥
+
+  abbrev pub ReadsBit : List Row → BitOperation → ℕ → Aim → Aim → Type 0
+  ReadsBit rest bit_ops.Btfsc bit a b = TestsFor rest bit_ops.Btfsc bit a b
+  ReadsBit rest bit_ops.Btfss bit a b = TestsFor rest bit_ops.Btfss bit a b
+  ReadsBit rest op bit a b = ⊥
+
+  abbrev pub IsRead : List Row → ℕ → Sym → Type 0
+  IsRead rest before (syms.File op operand into.W) = ReadsFor rest op (read operand) (read (operand_before before operand))
+  IsRead rest before (syms.File op operand into.File) = ReadsTo rest op (write operand) (read operand) (read (operand_before before operand))
+  IsRead rest before (syms.Bit op operand b) = ReadsBit rest op b (read operand) (read (operand_before before operand))
+  IsRead rest before (syms.Label label) = Unit {0}
+  IsRead rest before s = ⊥
+
   abbrev pub IsRight : ℕ → List Row → Act → Sym → Type 0
   IsRight here rest Keeps s = IsKept rest s
   IsRight here rest Drops s = IsDropped here rest s
   IsRight here rest (Puts new v) s = IsPut rest new v s
   IsRight here rest Narrows s = IsNarrowed rest s
+  IsRight here rest Clears s = IsCleared rest s
+  IsRight here rest (Reads before) s = IsRead rest before s
 
 -- facts are of bytes that the other thread can't change, and what may differ is the thread's own
 pub record IsNote (x : Lean) (inside : Bool) (n : Note) : Type 0 where
   pub held : (a : ℕ) → n.facts.held a ≡ true → is_near inside (owner x.layout a) ≡ true
   pub known : (a k : ℕ) → n.facts.known a ≡ Some k → is_near inside (owner x.layout a) ≡ true
+  pub twin : (a b : ℕ) → n.facts.twin a b ≡ true → (is_near inside (owner x.layout a) ≡ true) × (is_near inside (owner x.layout b) ≡ true)
   pub bytes : (a : ℕ) → is_own inside (owner x.layout a) ≡ false → n.apart.bytes a ≡ false
   pub carry : (a : ℕ) → n.carry ≡ Some a → is_near inside (owner x.layout a) ≡ true
 

@@ -1,6 +1,8 @@
 -- Code of which some instructions are left out or become others, with what is known at each: what a pass that makes code smaller
 -- has to show.
-use Rattle.std.specs.Prelude.{ℕ, suc, zero, Bool, true, false, not, if◌then◌else◌, List, [], ◌∷◌, Option, Some, None}
+use Rattle.std.specs.Prelude.{ℕ, ◌-◌, suc, zero, Bool, true, false, not, if◌then◌else◌, List, [], ◌∷◌, Option, Some, None}
+use Rattle.core_code.specs.declared.code.Byte.{Byte}
+use Rattle.core_code.specs.declared.code.Byte.TheVariants as bytes
 use Rattle.sym_code.specs.Effect.{Setting}
 use Rattle.sym_code.specs.Layout.{DataLayout}
 use Rattle.sym_code.specs.Programs.{Program, labels_in_front}
@@ -8,6 +10,8 @@ use Rattle.sym_code.specs.declared.code.BlockName.{BlockName}
 use Rattle.sym_code.specs.declared.code.Into.TheVariants as into
 use Rattle.sym_code.specs.declared.code.Literal.TheVariants.{Number}
 use Rattle.sym_code.specs.declared.code.LiteralOperation.{LiteralOperation}
+use Rattle.sym_code.specs.declared.code.Operand.{Operand}
+use Rattle.sym_code.specs.declared.code.Operand.TheVariants as operands
 use Rattle.sym_code.specs.declared.code.Sym.{Sym}
 use Rattle.sym_code.specs.declared.code.Sym.TheVariants as syms
 
@@ -22,6 +26,8 @@ pub record Facts : Type 0 where
   pub zero : Bool
   -- the general byte holds this number
   pub known : ℕ → Option ℕ
+  -- the first general byte holds what the second one does, of which it is a copy
+  pub twin : ℕ → ℕ → Bool
 
 -- What may differ between the two machines: W, the flags, general bytes.
 pub record Apart : Type 0 where
@@ -38,7 +44,7 @@ pub record Note : Type 0 where
   pub carry : Option ℕ
 
 abbrev pub nothing_known : Facts
-nothing_known = record { number = None; held = λ a. false; zero = false; known = λ a. None }
+nothing_known = record { number = None; held = λ a. false; zero = false; known = λ a. None; twin = λ a b. false }
 
 -- ---- rows
 -- what becomes of an instruction
@@ -49,6 +55,10 @@ pub data Act : Type 0 where
   Puts : LiteralOperation → ℕ → Act
   -- its result goes to W
   Narrows : Act
+  -- the byte is cleared in which it stores W
+  Clears : Act
+  -- another byte of its frame is read, so many bytes before its own, and the result goes to W
+  Reads : ℕ → Act
 
 -- an instruction of the given code, and what is known before it; none where nothing comes there
 pub data Row : Type 0 where
@@ -60,6 +70,14 @@ old_of (At s act said) = s
 abbrev pub note_of : Row → Option Note
 note_of (At s act said) = said
 
+abbrev pub has_note : Option Note → Bool
+has_note None = false
+has_note (Some n) = true
+
+-- something may come there
+abbrev pub is_reached : Row → Bool
+is_reached row = has_note (note_of row)
+
 -- the given code
 abbrev pub olds : List Row → List Sym
 olds [] = []
@@ -70,6 +88,32 @@ abbrev pub narrowed : Sym → Sym
 narrowed (syms.File op operand to) = syms.File op operand into.W
 narrowed s = s
 
+-- A byte that may be cleared: on a device register CLRF could be taken for a read.
+abbrev pub may_clear : Operand → Bool
+may_clear (operands.Byte (bytes.Device address)) = false
+may_clear (operands.Byte byte) = true
+may_clear operand = false
+
+-- the byte is cleared in which W is stored
+abbrev pub cleared : Sym → Sym
+cleared (syms.Movwf operand) = syms.Clrf operand
+cleared s = s
+
+-- the byte so many bytes before it in its frame
+abbrev pub byte_before : ℕ → Byte → Byte
+byte_before n (bytes.Frame copy offset) = bytes.Frame copy (offset - n)
+byte_before n byte = byte
+
+abbrev pub operand_before : ℕ → Operand → Operand
+operand_before n (operands.Byte byte) = operands.Byte (byte_before n byte)
+operand_before n operand = operand
+
+-- an operation on that byte, or a test of it
+abbrev pub reads_before : ℕ → Sym → Sym
+reads_before n (syms.File op operand to) = syms.File op (operand_before n operand) into.W
+reads_before n (syms.Bit op operand bit) = syms.Bit op (operand_before n operand) bit
+reads_before n s = s
+
 -- a label always stays
 abbrev pub put_of : Sym → Act → Option Sym
 put_of (syms.Label label) act = Some (syms.Label label)
@@ -77,6 +121,8 @@ put_of s Keeps = Some s
 put_of s Drops = None
 put_of s (Puts op n) = Some (syms.Literal op (Number n))
 put_of s Narrows = Some (narrowed s)
+put_of s Clears = Some (cleared s)
+put_of s (Reads n) = Some (reads_before n s)
 
 abbrev pub in_front : Option Sym → List Sym → List Sym
 in_front None list = list

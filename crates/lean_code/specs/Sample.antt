@@ -19,7 +19,7 @@ use Rattle.lean_code.specs.Checked.{KnownByte, ListedNote, ListedRow, Listed, Sk
 
 abbrev said : Option ℕ → List ℕ → Bool → List KnownByte → Bool → Bool → Bool → Bool → List ℕ → Option ℕ → ListedNote
 said number held zero known w z dc c bytes carry =
-    record { facts = record { number = number; held = held; zero = zero; known = known }; apart = record { w = w; z = z; dc = dc; c = c; bytes = bytes }; carry = carry }
+    record { facts = record { number = number; held = held; zero = zero; known = known; twins = [] }; apart = record { w = w; z = z; dc = dc; c = c; bytes = bytes }; carry = carry }
 
 abbrev pub sample_rows : List ListedRow
 sample_rows =

@@ -1,5 +1,5 @@
 -- What code that was made smaller keeps, where of each instruction is given how much of it surely stays.
-use Rattle.std.specs.Prelude.{◌≡◌, ℕ, ◌≤◌, false, slice_get}
+use Rattle.std.specs.Prelude.{◌≡◌, ℕ, ◌≤◌, true, false, Some, slice_get}
 use Rattle.pic_world.specs.World.{Outside}
 use Rattle.run_links.specs.Runs.{Goes, Follows, IsSlow}
 use Rattle.sym_code.specs.Effect.{Memory}
@@ -9,11 +9,11 @@ use Rattle.sym_code.specs.Runs.{run_of, weighed_of}
 use Rattle.sym_code.specs.declared.code.BlockName.{BlockName}
 use Rattle.lean_code.specs.Links.{IsOpen, counts, IsCheaper}
 use Rattle.lean_code.specs.Right.{IsSound}
-use Rattle.lean_code.specs.Rows.{Lean, old_program, new_program, old_setting, new_setting}
+use Rattle.lean_code.specs.Rows.{Row, is_reached, Lean, old_program, new_program, old_setting, new_setting}
 
--- What surely stays is no more than what stays.
+-- What surely stays of an instruction to which something comes is no more than what stays of it.
 abbrev pub IsSure : Lean → (BlockName → ℕ → ℕ) → Type 0
-IsSure x sure = (name : BlockName) (j : ℕ) → sure name j ≤ counts (slice_get (x.rows name) j)
+IsSure x sure = (name : BlockName) (j : ℕ) (row : Row) → slice_get (x.rows name) j ≡ Some row → is_reached row ≡ true → sure name j ≤ counts (Some row)
 
 -- So the given code, of which only what surely stays counts, is followed like the one of which all that stays does.
 abbrev pub LeanWeighed : Type 0

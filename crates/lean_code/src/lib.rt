@@ -3,7 +3,8 @@
 //!
 //! In: nothing; the crate has definitions and their proofs. Out: nothing.
 //! The promise: code that is made by a certificate that passes the test follows the given code, under every schedule, costs no more
-//! and no less than the instructions that stay, has no more words, and uses no byte that the given code doesn't use.
+//! and no less than the instructions that stay, has no more words, and names no byte but those that the given code names and bytes before
+//! these in their frames.
 #![tactic(auto)]
 
 ghost use Rattle.lean_code.specs.Checked.{TestIsRight};
@@ -37,7 +38,7 @@ pub fn test_is_right()
     ensures { TestIsRight }
 {}
 
-/// The code that is made has no more words, and names nothing that the given code doesn't name.
+/// The code that is made has no more words, and names nothing that the given code doesn't name but bytes before others in their frames.
 pub fn rows_shrink()
     ensures shorter { RowsShrink }
     ensures kept { RowsKeep }

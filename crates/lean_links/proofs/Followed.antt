@@ -23,13 +23,13 @@ use Rattle.lean_code.proofs.Shrinking.{carried_is_cheaper}
 use Rattle.lean_code.proofs.Weighed.{lean_weighed, always_open}
 use Rattle.lean_code.specs.Checked.{Sketch, lean_of, is_lean}
 use Rattle.lean_code.specs.Admissible.{rows_at, IsAdmissible, AreByRows}
-use Rattle.lean_code.specs.Links.{counts, carried}
+use Rattle.lean_code.specs.Links.{carried}
 use Rattle.lean_code.specs.Rows.{Lean, olds, puts, old_program}
 use Rattle.lean_code.specs.Steady.{are_steady}
 use Rattle.lean_pass.specs.Made.{IsAsGiven, Kept, Made}
 use Rattle.lean_prices.proofs.Blocks.{lean_blocks_are_dear, lean_routines_are_priced}
 use Rattle.lean_prices.proofs.Named.{blocks_are_steady}
-use Rattle.lean_links.proofs.Counted.{marked_counts}
+use Rattle.lean_links.proofs.Counted.{surely, surely_is, marked_counts}
 use Rattle.lean_links.proofs.Named.{kept_named}
 use Rattle.lean_links.specs.Links.{setting_by, program_by, CodeFollows, AreFollowed, LeanBlocksFollow}
 
@@ -78,12 +78,12 @@ module _ (k : Sketch) (variables : ℕ → ℕ) (given lean : List SymBlock) (ne
   price = carried any new
 
   abbrev sure : BlockName → ℕ → ℕ
-  sure name j = counts (slice_get (rows_at k name) j)
+  sure name j = surely (slice_get (rows_at k name) j)
 
   code_follows : CodeFollows k.layout k.handler (λ name. olds (rows_at k name)) (λ name. puts (rows_at k name)) price sure new
   code_follows page limit o e r m n goes =
       let x = lean_of k limit page page in
-      lean_weighed x (test_is_right k tested limit page page) price new sure (carried_is_cheaper x new) (λ name j. omega arith) o e r m n goes (always_open x admissible.hidden e o (sym_start (old_program x) r m) n)
+      lean_weighed x (test_is_right k tested limit page page) price new sure (carried_is_cheaper x new) (λ name j row there reached. surely_is (rows_at k name) j row there reached) o e r m n goes (always_open x admissible.hidden e o (sym_start (old_program x) r m) n)
 
   blocks_follow : CodeFollows k.layout k.handler (block_in given) (block_in lean) price sure new
   blocks_follow =

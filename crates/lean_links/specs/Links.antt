@@ -48,7 +48,7 @@ pub record AreFollowed (l : DataLayout) (handler : Option ℕ) (variables : ℕ 
   -- what the instructions of the given blocks cost, at most and at least
   pub price : BlockName → ℕ → ℕ
   pub sure : BlockName → ℕ → ℕ
-  -- each that counts surely stays
+  -- each that counts is one at least
   pub sures : (name : BlockName) (j : ℕ) (s : Sym) → slice_get (block_in given name) j ≡ Some s → is_marked variables s ≡ true → 1 ≤ sure name j
   pub keeps : CodeFollows l handler (block_in given) (block_in lean) price sure new
   -- the bounds, where selects come behind

@@ -1,5 +1,5 @@
 -- The rules of the test are as the code cuts them.
-use Rattle.std.proofs.Common.{◌≡◌, ℕ, Bool, true, false, List, Option, Some, None, refl, ap}
+use Rattle.std.proofs.Common.{◌≡◌, ℕ, Bool, true, false, not, ◌&&◌, if◌then◌else◌, List, Option, Some, None, refl, ap}
 use Rattle.sym_code.specs.declared.code.BitOperation.{BitOperation}
 use Rattle.sym_code.specs.declared.code.BitOperation.TheVariants as bit_ops
 use Rattle.sym_code.specs.declared.code.BlockName.{BlockName}
@@ -7,14 +7,16 @@ use Rattle.sym_code.specs.declared.code.FileOperation.{FileOperation}
 use Rattle.sym_code.specs.declared.code.FileOperation.TheVariants as files
 use Rattle.sym_code.specs.declared.code.Into.{Into}
 use Rattle.sym_code.specs.declared.code.Into.TheVariants as into
+use Rattle.sym_code.specs.declared.code.LiteralOperation.{LiteralOperation}
+use Rattle.sym_code.specs.declared.code.LiteralOperation.TheVariants as literals
 use Rattle.sym_code.specs.declared.code.Operand.{Operand}
 use Rattle.sym_code.specs.declared.code.Operand.TheVariants as operands
 use Rattle.sym_code.specs.declared.code.Register.TheVariants.{Indf, Status, Fsr, Pclath}
 use Rattle.sym_code.specs.declared.code.Sym.TheVariants as syms
 use Rattle.sym_code.specs.declared.code.Target.TheVariants as targets
 use Rattle.lean_code.specs.Changes.{Aim, ToFsr, ToEvent, ToByte, Through, Nowhere}
-use Rattle.lean_code.specs.Checked.{ListedBlock, ListedNote, ListedRow, Sketch, block_in, keeps_bit, keeps_call, drops_bit, drops_to_w, is_left_out, narrows_for}
-use Rattle.lean_pass.specs.Rules.{aim_byte, calls, keeps_bit_by, drops_bit_by, drops_file, on_byte, on_bytes}
+use Rattle.lean_code.specs.Checked.{ListedBlock, ListedNote, ListedRow, Sketch, block_in, keeps_bit, keeps_call, drops_bit, drops_to_w, is_left_out, narrows_for, same_operation, puts_same, puts_number, puts_byte}
+use Rattle.lean_pass.specs.Rules.{is_move, aim_byte, calls, keeps_bit_by, drops_bit_by, drops_file, on_byte, on_bytes}
 
 module _ (k : Sketch) (block : ListedBlock) (n : ListedNote) where
   pub keeps_bit_is : (rest : List ListedRow) (op : BitOperation) (operand : Operand) (b : ℕ) → keeps_bit k block n rest op operand b ≡ keeps_bit_by k block n rest op operand b
@@ -131,6 +133,107 @@ module _ (k : Sketch) (block : ListedBlock) (n : ListedNote) where
   drops_to_w_is rest files.Subwf Nowhere = refl
   drops_to_w_is rest files.Swapf Nowhere = refl
   drops_to_w_is rest files.Xorwf Nowhere = refl
+
+  pub puts_byte_is : (rest : List ListedRow) (op : FileOperation) (i : ℕ) (new : LiteralOperation) (v : ℕ)
+      → puts_byte k block n rest op i new v ≡ (if same_operation literals.Movlw new && not (is_move op) then puts_number k block n rest op i v else puts_same k block n rest op i new v)
+  puts_byte_is rest files.Addwf i literals.Addlw v = refl
+  puts_byte_is rest files.Addwf i literals.Andlw v = refl
+  puts_byte_is rest files.Addwf i literals.Iorlw v = refl
+  puts_byte_is rest files.Addwf i literals.Movlw v = refl
+  puts_byte_is rest files.Addwf i literals.Retlw v = refl
+  puts_byte_is rest files.Addwf i literals.Sublw v = refl
+  puts_byte_is rest files.Addwf i literals.Xorlw v = refl
+  puts_byte_is rest files.Andwf i literals.Addlw v = refl
+  puts_byte_is rest files.Andwf i literals.Andlw v = refl
+  puts_byte_is rest files.Andwf i literals.Iorlw v = refl
+  puts_byte_is rest files.Andwf i literals.Movlw v = refl
+  puts_byte_is rest files.Andwf i literals.Retlw v = refl
+  puts_byte_is rest files.Andwf i literals.Sublw v = refl
+  puts_byte_is rest files.Andwf i literals.Xorlw v = refl
+  puts_byte_is rest files.Comf i literals.Addlw v = refl
+  puts_byte_is rest files.Comf i literals.Andlw v = refl
+  puts_byte_is rest files.Comf i literals.Iorlw v = refl
+  puts_byte_is rest files.Comf i literals.Movlw v = refl
+  puts_byte_is rest files.Comf i literals.Retlw v = refl
+  puts_byte_is rest files.Comf i literals.Sublw v = refl
+  puts_byte_is rest files.Comf i literals.Xorlw v = refl
+  puts_byte_is rest files.Decf i literals.Addlw v = refl
+  puts_byte_is rest files.Decf i literals.Andlw v = refl
+  puts_byte_is rest files.Decf i literals.Iorlw v = refl
+  puts_byte_is rest files.Decf i literals.Movlw v = refl
+  puts_byte_is rest files.Decf i literals.Retlw v = refl
+  puts_byte_is rest files.Decf i literals.Sublw v = refl
+  puts_byte_is rest files.Decf i literals.Xorlw v = refl
+  puts_byte_is rest files.Decfsz i literals.Addlw v = refl
+  puts_byte_is rest files.Decfsz i literals.Andlw v = refl
+  puts_byte_is rest files.Decfsz i literals.Iorlw v = refl
+  puts_byte_is rest files.Decfsz i literals.Movlw v = refl
+  puts_byte_is rest files.Decfsz i literals.Retlw v = refl
+  puts_byte_is rest files.Decfsz i literals.Sublw v = refl
+  puts_byte_is rest files.Decfsz i literals.Xorlw v = refl
+  puts_byte_is rest files.Incf i literals.Addlw v = refl
+  puts_byte_is rest files.Incf i literals.Andlw v = refl
+  puts_byte_is rest files.Incf i literals.Iorlw v = refl
+  puts_byte_is rest files.Incf i literals.Movlw v = refl
+  puts_byte_is rest files.Incf i literals.Retlw v = refl
+  puts_byte_is rest files.Incf i literals.Sublw v = refl
+  puts_byte_is rest files.Incf i literals.Xorlw v = refl
+  puts_byte_is rest files.Incfsz i literals.Addlw v = refl
+  puts_byte_is rest files.Incfsz i literals.Andlw v = refl
+  puts_byte_is rest files.Incfsz i literals.Iorlw v = refl
+  puts_byte_is rest files.Incfsz i literals.Movlw v = refl
+  puts_byte_is rest files.Incfsz i literals.Retlw v = refl
+  puts_byte_is rest files.Incfsz i literals.Sublw v = refl
+  puts_byte_is rest files.Incfsz i literals.Xorlw v = refl
+  puts_byte_is rest files.Iorwf i literals.Addlw v = refl
+  puts_byte_is rest files.Iorwf i literals.Andlw v = refl
+  puts_byte_is rest files.Iorwf i literals.Iorlw v = refl
+  puts_byte_is rest files.Iorwf i literals.Movlw v = refl
+  puts_byte_is rest files.Iorwf i literals.Retlw v = refl
+  puts_byte_is rest files.Iorwf i literals.Sublw v = refl
+  puts_byte_is rest files.Iorwf i literals.Xorlw v = refl
+  puts_byte_is rest files.Movf i literals.Addlw v = refl
+  puts_byte_is rest files.Movf i literals.Andlw v = refl
+  puts_byte_is rest files.Movf i literals.Iorlw v = refl
+  puts_byte_is rest files.Movf i literals.Movlw v = refl
+  puts_byte_is rest files.Movf i literals.Retlw v = refl
+  puts_byte_is rest files.Movf i literals.Sublw v = refl
+  puts_byte_is rest files.Movf i literals.Xorlw v = refl
+  puts_byte_is rest files.Rlf i literals.Addlw v = refl
+  puts_byte_is rest files.Rlf i literals.Andlw v = refl
+  puts_byte_is rest files.Rlf i literals.Iorlw v = refl
+  puts_byte_is rest files.Rlf i literals.Movlw v = refl
+  puts_byte_is rest files.Rlf i literals.Retlw v = refl
+  puts_byte_is rest files.Rlf i literals.Sublw v = refl
+  puts_byte_is rest files.Rlf i literals.Xorlw v = refl
+  puts_byte_is rest files.Rrf i literals.Addlw v = refl
+  puts_byte_is rest files.Rrf i literals.Andlw v = refl
+  puts_byte_is rest files.Rrf i literals.Iorlw v = refl
+  puts_byte_is rest files.Rrf i literals.Movlw v = refl
+  puts_byte_is rest files.Rrf i literals.Retlw v = refl
+  puts_byte_is rest files.Rrf i literals.Sublw v = refl
+  puts_byte_is rest files.Rrf i literals.Xorlw v = refl
+  puts_byte_is rest files.Subwf i literals.Addlw v = refl
+  puts_byte_is rest files.Subwf i literals.Andlw v = refl
+  puts_byte_is rest files.Subwf i literals.Iorlw v = refl
+  puts_byte_is rest files.Subwf i literals.Movlw v = refl
+  puts_byte_is rest files.Subwf i literals.Retlw v = refl
+  puts_byte_is rest files.Subwf i literals.Sublw v = refl
+  puts_byte_is rest files.Subwf i literals.Xorlw v = refl
+  puts_byte_is rest files.Swapf i literals.Addlw v = refl
+  puts_byte_is rest files.Swapf i literals.Andlw v = refl
+  puts_byte_is rest files.Swapf i literals.Iorlw v = refl
+  puts_byte_is rest files.Swapf i literals.Movlw v = refl
+  puts_byte_is rest files.Swapf i literals.Retlw v = refl
+  puts_byte_is rest files.Swapf i literals.Sublw v = refl
+  puts_byte_is rest files.Swapf i literals.Xorlw v = refl
+  puts_byte_is rest files.Xorwf i literals.Addlw v = refl
+  puts_byte_is rest files.Xorwf i literals.Andlw v = refl
+  puts_byte_is rest files.Xorwf i literals.Iorlw v = refl
+  puts_byte_is rest files.Xorwf i literals.Movlw v = refl
+  puts_byte_is rest files.Xorwf i literals.Retlw v = refl
+  puts_byte_is rest files.Xorwf i literals.Sublw v = refl
+  puts_byte_is rest files.Xorwf i literals.Xorlw v = refl
 
   pub narrows_is : (rest : List ListedRow) (op : FileOperation) (a b : Aim) → narrows_for k block n rest op a b ≡ on_bytes (narrows_for k block n rest op) (aim_byte a) (aim_byte b)
   narrows_is rest op (ToByte i) (ToByte j) = refl

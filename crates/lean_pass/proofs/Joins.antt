@@ -1,4 +1,4 @@
--- Row after row it is tested whether skips and the instructions behind them stay or go together.
+-- Row after row skips and the instructions behind them are tested.
 use Rattle.std.proofs.Common.{◌≡◌, Bool, true, false, ◌&&◌, List, [], ◌∷◌, sym, ap, ◌∙◌}
 use Rattle.lean_code.specs.Checked.{rows_in}
 use Rattle.lean_code.specs.Steady.{is_steady_row, is_steady}

@@ -2,6 +2,7 @@ pub mod Entries
 pub mod Along
 pub mod Grounds
 pub mod Cuts
+mod Copying
 pub mod Whole
 pub mod Putting
 pub mod Joins

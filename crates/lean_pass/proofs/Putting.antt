@@ -61,10 +61,14 @@ put_as (syms.Label label) acts.Keeps = refl
 put_as (syms.Label label) acts.Drops = refl
 put_as (syms.Label label) (acts.Puts op value) = refl
 put_as (syms.Label label) acts.Narrows = refl
+put_as (syms.Label label) acts.Clears = refl
+put_as (syms.Label label) (acts.Reads before) = refl
 put_as s acts.Keeps = refl
 put_as s acts.Drops = refl
 put_as s (acts.Puts op value) = refl
 put_as s acts.Narrows = refl
+put_as s acts.Clears = refl
+put_as s (acts.Reads before) = refl
 
 abbrev formed_if : Option Sym → Bool
 formed_if None = true
@@ -76,6 +80,8 @@ formed_by s acts.Keeps e = e
 formed_by s acts.Drops e = refl
 formed_by s (acts.Puts op value) e = refl
 formed_by s acts.Narrows e = e
+formed_by s acts.Clears e = e
+formed_by s (acts.Reads before) e = e
 
 pub put_formed : (s new : Sym) (act : Act) → is_well_formed s ≡ true → Some new ≡ put_of s act → is_well_formed new ≡ true
 put_formed s new act formed is = ap formed_if is ∙ formed_by s act formed

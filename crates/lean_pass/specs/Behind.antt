@@ -17,6 +17,8 @@ use Rattle.lean_pass.specs.declared.behind.Here.{Here}
 use Rattle.lean_pass.specs.declared.behind.Known.{Known}
 use Rattle.lean_pass.specs.declared.behind.Known.TheVariants as knowns
 use Rattle.lean_pass.specs.declared.behind.Marks.{Marks}
+use Rattle.lean_pass.specs.declared.behind.Twins.{Twins}
+use Rattle.lean_pass.specs.declared.behind.Twins.TheVariants as twins
 
 -- ---- where the code stands
 abbrev pub sketch_at : Here → listed.Sketch
@@ -43,7 +45,7 @@ held_by hidden f helds.Same = f.held
 held_by hidden f (helds.Less k) = λ a. if nat_eq a k then false else f.held a
 held_by hidden f helds.Hidden = λ a. if hidden a then f.held a else false
 held_by hidden f helds.Nothing = λ a. false
-held_by hidden f (helds.Only k) = λ a. nat_eq a k
+held_by hidden f (helds.Only k) = λ a. if nat_eq a k then true else f.twin k a
 held_by hidden f (helds.Like n) = λ a. changes.is_number (f.known a) n
 held_by hidden f (helds.More k) = λ a. if nat_eq a k then true else f.held a
 
@@ -53,8 +55,15 @@ known_by hidden f (knowns.Put k number) = λ a. if nat_eq a k then number else f
 known_by hidden f knowns.Hidden = λ a. if hidden a then f.known a else None
 known_by hidden f knowns.Nothing = λ a. None
 
+abbrev pub twins_by : (ℕ → Bool) → Facts → Twins → ℕ → ℕ → Bool
+twins_by hidden f twins.Same = f.twin
+twins_by hidden f (twins.Less k) = changes.twin_but k f.twin
+twins_by hidden f twins.Hidden = λ a b. if hidden a then (if hidden b then f.twin a b else false) else false
+twins_by hidden f twins.Nothing = λ a b. false
+twins_by hidden f (twins.Stored k) = changes.twin_stored k f
+
 abbrev pub facts_by : (ℕ → Bool) → Facts → Behind → Facts
-facts_by hidden f b = record { number = b.number; held = held_by hidden f b.held; zero = b.zero; known = known_by hidden f b.known }
+facts_by hidden f b = record { number = b.number; held = held_by hidden f b.held; zero = b.zero; known = known_by hidden f b.known; twin = twins_by hidden f b.twins }
 
 -- ---- what may differ
 abbrev pub flags_of : Flags → changes.Flags

@@ -3,6 +3,7 @@ use Rattle.std.specs.Prelude.{ℕ, Bool, true, false, not, ◌&&◌, nat_lt, if�
 use Rattle.sym_code.specs.declared.code.BitOperation.{BitOperation}
 use Rattle.sym_code.specs.declared.code.BitOperation.TheVariants as bit_ops
 use Rattle.sym_code.specs.declared.code.FileOperation.{FileOperation}
+use Rattle.sym_code.specs.declared.code.FileOperation.TheVariants as files
 use Rattle.sym_code.specs.declared.code.Into.{Into}
 use Rattle.sym_code.specs.declared.code.Into.TheVariants as into
 use Rattle.sym_code.specs.declared.code.Literal.{Literal}
@@ -10,8 +11,9 @@ use Rattle.sym_code.specs.declared.code.LiteralOperation.{LiteralOperation}
 use Rattle.sym_code.specs.declared.code.Operand.{Operand}
 use Rattle.sym_code.specs.declared.code.Operand.TheVariants as operands
 use Rattle.sym_code.specs.declared.code.Register.TheVariants.{Status}
-use Rattle.lean_code.specs.Changes.{Aim, ToByte, lost, without_zero, after_to_w, stored, learned, flags_in, may_skip, literal_flags, literal_uses, is_retlw, both_set, one_sets, same_w, other_w, same_byte}
-use Rattle.lean_code.specs.Checked.{ListedBlock, ListedNote, ListedRow, Sketch, all_of, among, ahead, block_in, comes, drops_change, drops_test, drops_to_file, drops_to_w, enters, expects, expects_by, is_same, leads, passes, read, same_side, uses, write, facts_in, apart_in}
+use Rattle.lean_code.specs.Changes.{Aim, ToByte, lost, without_zero, number_at, after_to_w, after_to_file, stored, learned, is_number, flags_in, literal_flags, literal_uses, is_retlw, both_set, one_works, same_w, same_byte}
+use Rattle.lean_code.specs.Computed.{way_of, way_of_bit}
+use Rattle.lean_code.specs.Checked.{ListedBlock, ListedNote, ListedRow, Sketch, all_of, among, ahead, block_in, comes, drops_change, drops_test, drops_to_file, drops_to_w, enters, expects, expects_by, is_same, leads, passes, read, reads_for, reads_to, same_side, uses, write, facts_in, apart_in}
 use Rattle.lean_code.specs.Right as right
 use Rattle.lean_code.specs.Right.{flag_apart, with_flag}
 
@@ -19,29 +21,33 @@ abbrev pub is_status : Operand → Bool
 is_status (operands.Register Status) = true
 is_status operand = false
 
+abbrev pub is_move : FileOperation → Bool
+is_move files.Movf = true
+is_move op = false
+
 abbrev pub aim_byte : Aim → Option ℕ
 aim_byte (ToByte k) = Some k
 aim_byte aim = None
 
 module _ (k : Sketch) (block : ListedBlock) (n : ListedNote) where
   abbrev pub keeps_to_w : List ListedRow → FileOperation → Aim → Bool
-  keeps_to_w rest op a = uses k block n op && (is_same k block n a && leads rest (may_skip op) (after_to_w op a (facts_in n.facts)) (same_w (both_set (flags_in op) (apart_in n.apart))) n.apart.bytes)
+  keeps_to_w rest op a = uses k block n op && (is_same k block n a && leads rest (way_of op (number_at a (facts_in n.facts))) (after_to_w op a (facts_in n.facts)) (same_w (both_set (flags_in op) (apart_in n.apart))) n.apart.bytes)
 
   abbrev pub keeps_to_file : List ListedRow → FileOperation → Aim → Bool
   keeps_to_file rest op a =
-      uses k block n op && (is_same k block n a && leads rest (may_skip op) (lost k.hidden a (without_zero (facts_in n.facts))) (same_byte a (both_set (flags_in op) (apart_in n.apart))) n.apart.bytes)
+      uses k block n op && (is_same k block n a && leads rest (way_of op (number_at a (facts_in n.facts))) (after_to_file k.hidden op a (facts_in n.facts)) (same_byte a (both_set (flags_in op) (apart_in n.apart))) n.apart.bytes)
 
   abbrev pub keeps_change : List ListedRow → Aim → Bool
   keeps_change rest a = is_same k block n a && expects (ahead rest) (lost k.hidden a (facts_in n.facts)) (apart_in n.apart) n.apart.bytes
 
-  abbrev pub keeps_test : List ListedRow → Aim → Bool
-  keeps_test rest a = is_same k block n a && leads rest true (facts_in n.facts) (apart_in n.apart) n.apart.bytes
+  abbrev pub keeps_test : List ListedRow → BitOperation → Aim → ℕ → Bool
+  keeps_test rest op a b = is_same k block n a && leads rest (way_of_bit op (number_at a (facts_in n.facts)) b) (facts_in n.facts) (apart_in n.apart) n.apart.bytes
 
   abbrev pub keeps_flag : List ListedRow → ℕ → Bool
   keeps_flag rest b = expects (ahead rest) (without_zero (facts_in n.facts)) (with_flag b false (apart_in n.apart)) n.apart.bytes
 
   abbrev pub keeps_flag_test : List ListedRow → ℕ → Bool
-  keeps_flag_test rest b = not (flag_apart b (apart_in n.apart)) && leads rest true (facts_in n.facts) (apart_in n.apart) n.apart.bytes
+  keeps_flag_test rest b = not (flag_apart b (apart_in n.apart)) && leads rest None (facts_in n.facts) (apart_in n.apart) n.apart.bytes
 
   abbrev pub calls : List ListedRow → ListedBlock → Bool
   calls rest callee =
@@ -53,15 +59,19 @@ module _ (k : Sketch) (block : ListedBlock) (n : ListedNote) where
   abbrev pub keeps_clear : List ListedRow → Aim → Bool
   keeps_clear rest a = expects (ahead rest) (learned k.hidden a (Some 0) (without_zero (facts_in n.facts))) (same_byte a (record (apart_in n.apart) { z = false })) n.apart.bytes
 
+  abbrev pub clears_zero : List ListedRow → Aim → Bool
+  clears_zero rest a =
+      is_number (facts_in n.facts).number 0 && expects (ahead rest) (stored k.hidden a (facts_in n.facts)) (same_byte a (record (apart_in n.apart) { z = true })) n.apart.bytes
+
   abbrev pub keeps_literal : List ListedRow → LiteralOperation → Literal → Bool
   keeps_literal rest op value =
       not (is_retlw op) && (not (literal_uses op && n.apart.w) && expects (ahead rest) (right.after_literal (facts_in n.facts) op value) (same_w (both_set (literal_flags op) (apart_in n.apart))) n.apart.bytes)
 
   abbrev pub drops_result : List ListedRow → FileOperation → ℕ → Bool
-  drops_result rest op i = passes n.carry rest (may_skip op) (after_to_w op (ToByte i) (facts_in n.facts)) (other_w (one_sets (flags_in op) (apart_in n.apart))) n.apart.bytes
+  drops_result rest op i = passes n.carry rest (way_of op ((facts_in n.facts).known i)) (after_to_w op (ToByte i) (facts_in n.facts)) (one_works op ((facts_in n.facts).known i) (facts_in n.facts) (apart_in n.apart)) n.apart.bytes
 
-  abbrev pub drops_skip : List ListedRow → Bool
-  drops_skip rest = passes n.carry rest true (facts_in n.facts) (apart_in n.apart) n.apart.bytes
+  abbrev pub drops_skip : List ListedRow → Option Bool → Bool
+  drops_skip rest way = passes n.carry rest way (facts_in n.facts) (apart_in n.apart) n.apart.bytes
 
   abbrev pub drops_flag : List ListedRow → ℕ → Bool
   drops_flag rest b = nat_lt b 3 && expects_by n.carry (ahead rest) (without_zero (facts_in n.facts)) (with_flag b true (apart_in n.apart)) n.apart.bytes
@@ -73,17 +83,21 @@ module _ (k : Sketch) (block : ListedBlock) (n : ListedNote) where
   drops_file rest op operand into.W = drops_to_w k block n rest op (read k block n operand)
   drops_file rest op operand into.File = drops_to_file k block n rest op (write k block n operand)
 
+  abbrev pub reads_file : List ListedRow → FileOperation → Operand → Into → Aim → Bool
+  reads_file rest op operand into.W origin = reads_for k block n rest op (read k block n operand) origin
+  reads_file rest op operand into.File origin = reads_to k block n rest op (write k block n operand) (read k block n operand) origin
+
   abbrev pub keeps_bit_by : List ListedRow → BitOperation → Operand → ℕ → Bool
   keeps_bit_by rest bit_ops.Bcf operand b = if is_status operand then keeps_flag rest b else keeps_change rest (write k block n operand)
   keeps_bit_by rest bit_ops.Bsf operand b = if is_status operand then keeps_flag rest b else keeps_change rest (write k block n operand)
-  keeps_bit_by rest bit_ops.Btfsc operand b = if is_status operand then keeps_flag_test rest b else keeps_test rest (read k block n operand)
-  keeps_bit_by rest bit_ops.Btfss operand b = if is_status operand then keeps_flag_test rest b else keeps_test rest (read k block n operand)
+  keeps_bit_by rest bit_ops.Btfsc operand b = if is_status operand then keeps_flag_test rest b else keeps_test rest bit_ops.Btfsc (read k block n operand) b
+  keeps_bit_by rest bit_ops.Btfss operand b = if is_status operand then keeps_flag_test rest b else keeps_test rest bit_ops.Btfss (read k block n operand) b
 
   abbrev pub drops_bit_by : List ListedRow → BitOperation → Operand → ℕ → Bool
   drops_bit_by rest bit_ops.Bcf operand b = if is_status operand then drops_flag rest b else drops_change k block n rest (write k block n operand)
   drops_bit_by rest bit_ops.Bsf operand b = if is_status operand then drops_flag rest b else drops_change k block n rest (write k block n operand)
-  drops_bit_by rest bit_ops.Btfsc operand b = if is_status operand then drops_skip rest else drops_test k block n rest (read k block n operand)
-  drops_bit_by rest bit_ops.Btfss operand b = if is_status operand then drops_skip rest else drops_test k block n rest (read k block n operand)
+  drops_bit_by rest bit_ops.Btfsc operand b = if is_status operand then drops_skip rest None else drops_test k block n rest bit_ops.Btfsc (read k block n operand) b
+  drops_bit_by rest bit_ops.Btfss operand b = if is_status operand then drops_skip rest None else drops_test k block n rest bit_ops.Btfss (read k block n operand) b
 
 -- of a general byte, and of nothing else
 abbrev pub on_byte : (Aim → Bool) → Option ℕ → Bool
@@ -94,3 +108,12 @@ abbrev pub on_bytes : (Aim → Aim → Bool) → Option ℕ → Option ℕ → B
 on_bytes test None o = false
 on_bytes test (Some i) None = false
 on_bytes test (Some i) (Some j) = test (ToByte i) (ToByte j)
+
+abbrev pub on_two : (Aim → Aim → Aim → Bool) → ℕ → Option ℕ → Option ℕ → Bool
+on_two test i None o = false
+on_two test i (Some h) None = false
+on_two test i (Some h) (Some j) = test (ToByte i) (ToByte h) (ToByte j)
+
+abbrev pub on_three : (Aim → Aim → Aim → Bool) → Option ℕ → Option ℕ → Option ℕ → Bool
+on_three test None o p = false
+on_three test (Some i) o p = on_two test i o p

@@ -28,7 +28,7 @@ abbrev pub entry : Option Bool → Bool
 entry None = false
 entry (Some b) = b
 
--- the bytes from i on that hold numbers
+-- the bytes from i on that hold numbers, or that are copies, each with the number of the other byte
 abbrev pub knowns : ℕ → List (Option ℕ) → List KnownByte
 knowns i [] = []
 knowns i (None ∷ rest) = knowns (i + 1) rest
@@ -40,7 +40,7 @@ known_entry (Some n) = n
 
 -- ---- notes
 abbrev pub facts_of : Facts → listed.ListedFacts
-facts_of f = record { number = f.number; held = set_of f.held; zero = f.zero; known = knowns 0 f.known.items }
+facts_of f = record { number = f.number; held = set_of f.held; zero = f.zero; known = knowns 0 f.known.items; twins = knowns 0 f.twins.items }
 
 abbrev pub apart_of : Apart → listed.ListedApart
 apart_of d = record { w = d.w; z = d.z; dc = d.dc; c = d.c; bytes = set_of d.bytes }
@@ -54,6 +54,8 @@ act_of acts.Keeps = certified.Keeps
 act_of acts.Drops = certified.Drops
 act_of (acts.Puts op value) = certified.Puts op value
 act_of acts.Narrows = certified.Narrows
+act_of acts.Clears = certified.Clears
+act_of (acts.Reads before) = certified.Reads before
 
 abbrev pub row_of : Row → listed.ListedRow
 row_of row = listed.Listed row.sym (act_of row.act) (option_map note_of row.note)

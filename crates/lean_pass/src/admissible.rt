@@ -1,9 +1,10 @@
-//! The tests of what those need that stand before and behind: what counts stays, the start block stays as it is, numbers are bytes, and
-//! each block ends by a word.
+//! The tests of what those need that stand before and behind: what counts stays where something comes, the start block stays as it is,
+//! numbers are bytes, and each block ends by a word.
 
 ghost use Rattle.std.specs.Prelude.{◌≡◌, ◌&&◌, true};
 ghost use Rattle.lean_code.specs.Checked as listed;
 ghost use Rattle.lean_code.specs.Admissible as stated;
+ghost use Rattle.lean_code.specs.Rows as certified;
 ghost use Rattle.lean_code.specs.Rows.{puts};
 ghost use Rattle.lean_pass.specs.Tests as tests;
 ghost use Rattle.lean_pass.specs.Views.{act_of, row_of, rows_of, block_of, blocks_of, variables_of};
@@ -13,10 +14,20 @@ use crate::rows::{Act, ByteSet, LeanBlock, Row};
 use crate::walk::{first_row, is_dropped, is_label, same_name};
 use sym_code::BlockName;
 
+// Whether something may come to a row.
+fn is_reached(row: &Row) -> bool
+    ensures { result ≡ certified.is_reached (listed.row_in (row_of row.now)) }
+{
+    match &row.note {
+        Some(_) => true,
+        None => false,
+    }
+}
+
 fn loses_mark(variables: &[u64], row: &Row) -> bool
     ensures { result ≡ stated.loses_mark (variables_of variables.now) (listed.row_in (row_of row.now)) }
 {
-    is_dropped(row) && is_marked(variables, row.sym)
+    is_reached(row) && (is_dropped(row) && is_marked(variables, row.sym))
 }
 
 fn is_byte_act(act: Act) -> bool
@@ -27,6 +38,8 @@ fn is_byte_act(act: Act) -> bool
         Act::Keeps => true,
         Act::Drops => true,
         Act::Narrows => true,
+        Act::Clears => true,
+        Act::Reads { .. } => true,
     }
 }
 
@@ -38,6 +51,8 @@ fn is_keep(act: Act) -> bool
         Act::Drops => false,
         Act::Puts { .. } => false,
         Act::Narrows => false,
+        Act::Clears => false,
+        Act::Reads { .. } => false,
     }
 }
 

@@ -3,15 +3,17 @@
 ghost use Rattle.std.specs.Prelude.{ℕ, ◌≡◌, ◌&&◌, ◌||◌, not, true, false, nat_eq, Some, None, if◌then◌else◌};
 ghost use Rattle.sym_code.specs.Programs as programs;
 ghost use Rattle.lean_code.specs.Changes as changes;
+ghost use Rattle.lean_code.specs.Computed as numbers;
 ghost use Rattle.lean_code.specs.Checked as listed;
 ghost use Rattle.lean_code.specs.Right as right;
 ghost use Rattle.lean_pass.specs.Behind as stated;
 ghost use Rattle.lean_pass.specs.Behind.{facts_at, apart_at, hidden_at, marks_at, flags_of, facts_by, apart_by};
 ghost use Rattle.lean_pass.specs.Owners.{aim_of};
 
+use crate::computing::{computed, file_for, leaves_w, same_known};
 use crate::owners::{Aim, Ground};
 use crate::rows::{LeanBlock, Note, Sketch};
-use crate::sets::number_at;
+use crate::sets::{number_at, origin_at};
 use sym_code::{FileOperation, Literal, LiteralOperation};
 
 /// Which bytes W is what they hold, behind an instruction.
@@ -24,6 +26,7 @@ pub enum Held {
     /// As before, of those that aren't reached through FSR.
     Hidden,
     Nothing,
+    /// This one, and those of which it is a copy.
     Only(usize),
     /// Those that are known to hold this number.
     Like(u8),
@@ -43,6 +46,20 @@ pub enum Known {
     Nothing,
 }
 
+/// Which bytes are copies of others, behind an instruction.
+#[derive(Clone, Copy, PartialEq, Eq, Debug)]
+pub enum Twins {
+    /// As before.
+    Same,
+    /// As before, but for one, which is neither.
+    Less(usize),
+    /// As before, of those that aren't reached through FSR.
+    Hidden,
+    Nothing,
+    /// As before, but that this one is now a copy of those that hold W.
+    Stored(usize),
+}
+
 /// What is known behind an instruction.
 #[derive(Clone, Copy, PartialEq, Eq, Debug)]
 pub struct Behind {
@@ -50,6 +67,7 @@ pub struct Behind {
     pub held: Held,
     pub zero: bool,
     pub known: Known,
+    pub twins: Twins,
 }
 
 /// The flags that an instruction writes.
@@ -139,39 +157,6 @@ pub fn flags_in(op: FileOperation) -> Flags
     }
 }
 
-pub fn uses_w(op: FileOperation) -> bool
-    ensures { result ≡ changes.uses_w op }
-{
-    match op {
-        FileOperation::Addwf => true,
-        FileOperation::Andwf => true,
-        FileOperation::Iorwf => true,
-        FileOperation::Subwf => true,
-        FileOperation::Xorwf => true,
-        _ => false,
-    }
-}
-
-pub fn uses_c(op: FileOperation) -> bool
-    ensures { result ≡ changes.uses_c op }
-{
-    match op {
-        FileOperation::Rlf => true,
-        FileOperation::Rrf => true,
-        _ => false,
-    }
-}
-
-pub fn may_skip(op: FileOperation) -> bool
-    ensures { result ≡ changes.may_skip op }
-{
-    match op {
-        FileOperation::Decfsz => true,
-        FileOperation::Incfsz => true,
-        _ => false,
-    }
-}
-
 pub fn literal_flags(op: LiteralOperation) -> Flags
     ensures { flags_of result ≡ changes.literal_flags op }
 {
@@ -198,40 +183,6 @@ pub fn literal_flags(op: LiteralOperation) -> Flags
         LiteralOperation::Andlw => zero,
         LiteralOperation::Iorlw => zero,
         LiteralOperation::Xorlw => zero,
-    }
-}
-
-pub fn literal_uses(op: LiteralOperation) -> bool
-    ensures { result ≡ changes.literal_uses op }
-{
-    match op {
-        LiteralOperation::Movlw => false,
-        LiteralOperation::Retlw => false,
-        _ => true,
-    }
-}
-
-pub fn is_retlw(op: LiteralOperation) -> bool
-    ensures { result ≡ changes.is_retlw op }
-{
-    match op {
-        LiteralOperation::Retlw => true,
-        _ => false,
-    }
-}
-
-/// The operation on W and a number that does the same as one on W and a byte that holds it.
-pub fn literal_for(op: FileOperation) -> Option<LiteralOperation>
-    ensures { result ≡ changes.literal_for op }
-{
-    match op {
-        FileOperation::Addwf => Some(LiteralOperation::Addlw),
-        FileOperation::Andwf => Some(LiteralOperation::Andlw),
-        FileOperation::Iorwf => Some(LiteralOperation::Iorlw),
-        FileOperation::Movf => Some(LiteralOperation::Movlw),
-        FileOperation::Subwf => Some(LiteralOperation::Sublw),
-        FileOperation::Xorwf => Some(LiteralOperation::Xorlw),
-        _ => None,
     }
 }
 
@@ -346,6 +297,16 @@ impl<'a> Here<'a> {
         number_at(&self.note.facts.known, byte)
     }
 
+    /// Whether a byte is a copy of another one.
+    pub fn is_twin(&self, copy: usize, origin: usize) -> bool
+        ensures { result ≡ (facts_at self.now).twin copy origin }
+    {
+        match origin_at(&self.note.facts.twins, copy) {
+            None => false,
+            Some(other) => (other as usize) == origin,
+        }
+    }
+
     /// Only one of them reads a byte to W.
     pub fn one_moves(&self, byte: usize) -> Differs
         ensures { apart_by (apart_at self.now) result ≡ changes.one_moves (facts_at self.now) byte (apart_at self.now) }
@@ -375,25 +336,41 @@ impl<'a> Here<'a> {
         }
     }
 
-    /// Only one of them joins W with a byte.
-    pub fn one_ors(&self, byte: usize) -> Differs
-        ensures { apart_by (apart_at self.now) result ≡ changes.one_ors (facts_at self.now) byte (apart_at self.now) }
+    /// W stays what it is behind an operation on a byte of which this is known.
+    fn stays(&self, op: FileOperation, byte: Option<u8>) -> bool
+        ensures { result ≡ changes.stays op byte (facts_at self.now) }
     {
-        let marks = self.marks();
-        if is_number(self.number_of(byte), 0) {
+        let number = self.note.facts.number;
+        leaves_w(op, byte) || same_known(computed(op, number, byte), number)
+    }
+
+    /// Only one of them does an operation on W and a byte of which this is known.
+    pub fn one_works(&self, op: FileOperation, byte: Option<u8>) -> Differs
+        ensures { apart_by (apart_at self.now) result ≡ changes.one_works op byte (facts_at self.now) (apart_at self.now) }
+    {
+        let flags = flags_in(op);
+        let before = self.marks();
+        let marks = one_sets(flags, before);
+        if self.stays(op, byte) {
             self.differing(Marks {
-                w: marks.w,
-                z: if self.note.facts.zero { marks.z } else { true },
-                dc: marks.dc,
-                c: marks.c,
+                z: flags.z && !self.note.facts.zero || before.z,
+                ..marks
             })
         } else {
-            self.differing(Marks {
-                w: true,
-                z: true,
-                dc: marks.dc,
-                c: marks.c,
-            })
+            self.differing(with_w(true, marks))
+        }
+    }
+
+    /// Only one of them writes the result of an operation to a byte.
+    pub fn one_result(&self, op: FileOperation, byte: usize) -> Differs
+        ensures { apart_by (apart_at self.now) result ≡ changes.one_writes op byte (facts_at self.now) (apart_at self.now) }
+    {
+        let marks = one_sets(flags_in(op), self.marks());
+        let known = self.number_of(byte);
+        if same_known(computed(op, self.note.facts.number, known), known) {
+            self.differing(marks)
+        } else {
+            self.one_writes(byte, marks)
         }
     }
 
@@ -455,30 +432,43 @@ impl<'a> Here<'a> {
         }
     }
 
+    fn dropped_number(&self, op: LiteralOperation, number: u8) -> Differs
+        ensures { apart_by (apart_at self.now) result ≡ right.dropped_number (facts_at self.now) (apart_at self.now) op (numbers.file_for op) number }
+    {
+        match file_for(op) {
+            None => self.differing(with_w(true, one_sets(literal_flags(op), self.marks()))),
+            Some(file) => self.one_works(file, Some(number)),
+        }
+    }
+
+    fn dropped_move(&self, number: u8) -> Differs
+        ensures { apart_by (apart_at self.now) result ≡ right.dropped_literal (facts_at self.now) (apart_at self.now) LiteralOperation.Movlw (Literal.Number number) }
+    {
+        let marks = self.marks();
+        if is_number(self.note.facts.number, number) {
+            self.differing(marks)
+        } else {
+            self.differing(with_w(true, marks))
+        }
+    }
+
     /// What may differ behind an operation on W and a number that only one of them does.
     pub fn dropped_literal(&self, op: LiteralOperation, value: Literal) -> Differs
         ensures { apart_by (apart_at self.now) result ≡ right.dropped_literal (facts_at self.now) (apart_at self.now) op value }
     {
-        let marks = self.marks();
-        let other = self.differing(with_w(true, one_sets(literal_flags(op), marks)));
-        match op {
-            LiteralOperation::Movlw => match value {
-                Literal::Number(number) => {
-                    if is_number(self.note.facts.number, number) {
-                        self.differing(marks)
-                    } else {
-                        self.differing(with_w(true, marks))
-                    }
-                }
-                Literal::Low(_) => other,
-                Literal::High(_) => other,
+        let other = self.differing(with_w(true, one_sets(literal_flags(op), self.marks())));
+        match value {
+            Literal::Low(_) => other,
+            Literal::High(_) => other,
+            Literal::Number(number) => match op {
+                LiteralOperation::Movlw => self.dropped_move(number),
+                LiteralOperation::Addlw => self.dropped_number(op, number),
+                LiteralOperation::Andlw => self.dropped_number(op, number),
+                LiteralOperation::Iorlw => self.dropped_number(op, number),
+                LiteralOperation::Retlw => self.dropped_number(op, number),
+                LiteralOperation::Sublw => self.dropped_number(op, number),
+                LiteralOperation::Xorlw => self.dropped_number(op, number),
             },
-            LiteralOperation::Addlw => other,
-            LiteralOperation::Andlw => other,
-            LiteralOperation::Iorlw => other,
-            LiteralOperation::Retlw => other,
-            LiteralOperation::Sublw => other,
-            LiteralOperation::Xorlw => other,
         }
     }
 
@@ -532,6 +522,7 @@ impl<'a> Here<'a> {
             held: Held::Same,
             zero,
             known: Known::Same,
+            twins: Twins::Same,
         }
     }
 
@@ -545,12 +536,14 @@ impl<'a> Here<'a> {
                 held: Held::Less(byte),
                 zero,
                 known: Known::Put(byte, None),
+                twins: Twins::Less(byte),
             },
             Aim::Through => Behind {
                 number: self.note.facts.number,
                 held: Held::Hidden,
                 zero,
                 known: Known::Hidden,
+                twins: Twins::Hidden,
             },
             Aim::ToFsr => self.unchanged(zero),
             Aim::ToEvent => self.unchanged(zero),
@@ -567,6 +560,7 @@ impl<'a> Here<'a> {
             held: Held::Nothing,
             zero: false,
             known: Known::Same,
+            twins: Twins::Same,
         }
     }
 
@@ -579,6 +573,7 @@ impl<'a> Here<'a> {
             held: Held::Nothing,
             zero: true,
             known: Known::Same,
+            twins: Twins::Same,
         };
         match aim {
             Aim::ToByte(byte) => Behind {
@@ -586,6 +581,7 @@ impl<'a> Here<'a> {
                 held: Held::Only(byte),
                 zero: true,
                 known: Known::Same,
+                twins: Twins::Same,
             },
             Aim::ToFsr => unknown,
             Aim::ToEvent => unknown,
@@ -594,21 +590,43 @@ impl<'a> Here<'a> {
         }
     }
 
-    fn joined(&self, aim: Aim) -> Behind
-        ensures { facts_by (hidden_at self.now) (facts_at self.now) result ≡ changes.after_to_w FileOperation.Iorwf (aim_of aim) (facts_at self.now) }
+    // A result is in W, with what Z says of it.
+    fn with_number(&self, number: Option<u8>, zero: bool) -> Behind
+        ensures { facts_by (hidden_at self.now) (facts_at self.now) result ≡ changes.with_number number zero (facts_at self.now) }
+    {
+        Behind {
+            number,
+            held: match number {
+                None => Held::Nothing,
+                Some(number) => Held::Like(number),
+            },
+            zero,
+            known: Known::Same,
+            twins: Twins::Same,
+        }
+    }
+
+    // An operation on W and a byte of which this is known.
+    fn worked(&self, op: FileOperation, byte: Option<u8>) -> Behind
+        ensures { facts_by (hidden_at self.now) (facts_at self.now) result ≡ changes.worked op byte (facts_at self.now) }
+    {
+        if leaves_w(op, byte) {
+            self.unchanged(true)
+        } else {
+            self.with_number(computed(op, self.note.facts.number, byte), flags_in(op).z)
+        }
+    }
+
+    /// What is known of the byte that is read.
+    pub fn number_at(&self, aim: Aim) -> Option<u8>
+        ensures { result ≡ changes.number_at (aim_of aim) (facts_at self.now) }
     {
         match aim {
-            Aim::ToByte(byte) => {
-                if is_number(self.number_of(byte), 0) {
-                    self.unchanged(true)
-                } else {
-                    self.without_w()
-                }
-            }
-            Aim::ToFsr => self.without_w(),
-            Aim::ToEvent => self.without_w(),
-            Aim::Through => self.without_w(),
-            Aim::Nowhere => self.without_w(),
+            Aim::ToByte(byte) => self.number_of(byte),
+            Aim::ToFsr => None,
+            Aim::ToEvent => None,
+            Aim::Through => None,
+            Aim::Nowhere => None,
         }
     }
 
@@ -616,22 +634,52 @@ impl<'a> Here<'a> {
     pub fn after_to_w(&self, op: FileOperation, aim: Aim) -> Behind
         ensures { facts_by (hidden_at self.now) (facts_at self.now) result ≡ changes.after_to_w op (aim_of aim) (facts_at self.now) }
     {
+        let byte = self.number_at(aim);
         match op {
             FileOperation::Movf => self.moved(aim),
-            FileOperation::Iorwf => self.joined(aim),
-            FileOperation::Addwf => self.without_w(),
-            FileOperation::Andwf => self.without_w(),
-            FileOperation::Comf => self.without_w(),
-            FileOperation::Decf => self.without_w(),
-            FileOperation::Decfsz => self.without_w(),
-            FileOperation::Incf => self.without_w(),
-            FileOperation::Incfsz => self.without_w(),
-            FileOperation::Rlf => self.without_w(),
-            FileOperation::Rrf => self.without_w(),
-            FileOperation::Subwf => self.without_w(),
-            FileOperation::Swapf => self.without_w(),
-            FileOperation::Xorwf => self.without_w(),
+            FileOperation::Addwf => self.worked(op, byte),
+            FileOperation::Andwf => self.worked(op, byte),
+            FileOperation::Comf => self.worked(op, byte),
+            FileOperation::Decf => self.worked(op, byte),
+            FileOperation::Decfsz => self.worked(op, byte),
+            FileOperation::Incf => self.worked(op, byte),
+            FileOperation::Incfsz => self.worked(op, byte),
+            FileOperation::Iorwf => self.worked(op, byte),
+            FileOperation::Rlf => self.worked(op, byte),
+            FileOperation::Rrf => self.worked(op, byte),
+            FileOperation::Subwf => self.worked(op, byte),
+            FileOperation::Swapf => self.worked(op, byte),
+            FileOperation::Xorwf => self.worked(op, byte),
         }
+    }
+
+    // A number that may be known is written.
+    fn learned(&self, aim: Aim, number: Option<u8>) -> Behind
+        ensures { facts_by (hidden_at self.now) (facts_at self.now) result ≡ changes.learned (hidden_at self.now) (aim_of aim) number (changes.without_zero (facts_at self.now)) }
+    {
+        match aim {
+            Aim::ToByte(byte) => Behind {
+                number: self.note.facts.number,
+                held: Held::Less(byte),
+                zero: false,
+                known: Known::Put(byte, number),
+                twins: Twins::Less(byte),
+            },
+            Aim::ToFsr => self.lost(aim, false),
+            Aim::ToEvent => self.lost(aim, false),
+            Aim::Through => self.lost(aim, false),
+            Aim::Nowhere => self.lost(aim, false),
+        }
+    }
+
+    /// Behind an operation whose result is written.
+    pub fn after_to_file(&self, op: FileOperation, aim: Aim) -> Behind
+        ensures { facts_by (hidden_at self.now) (facts_at self.now) result ≡ changes.after_to_file (hidden_at self.now) op (aim_of aim) (facts_at self.now) }
+    {
+        self.learned(
+            aim,
+            computed(op, self.note.facts.number, self.number_at(aim)),
+        )
     }
 
     /// W is stored.
@@ -644,6 +692,7 @@ impl<'a> Here<'a> {
                 held: Held::More(byte),
                 zero: self.note.facts.zero,
                 known: Known::Put(byte, self.note.facts.number),
+                twins: Twins::Stored(byte),
             },
             Aim::ToFsr => self.lost(aim, self.note.facts.zero),
             Aim::ToEvent => self.lost(aim, self.note.facts.zero),
@@ -656,18 +705,7 @@ impl<'a> Here<'a> {
     pub fn cleared(&self, aim: Aim) -> Behind
         ensures { facts_by (hidden_at self.now) (facts_at self.now) result ≡ changes.learned (hidden_at self.now) (aim_of aim) (Some 0) (changes.without_zero (facts_at self.now)) }
     {
-        match aim {
-            Aim::ToByte(byte) => Behind {
-                number: self.note.facts.number,
-                held: Held::Less(byte),
-                zero: false,
-                known: Known::Put(byte, Some(0)),
-            },
-            Aim::ToFsr => self.lost(aim, false),
-            Aim::ToEvent => self.lost(aim, false),
-            Aim::Through => self.lost(aim, false),
-            Aim::Nowhere => self.lost(aim, false),
-        }
+        self.learned(aim, Some(0))
     }
 
     /// W is cleared.
@@ -679,6 +717,16 @@ impl<'a> Here<'a> {
             held: Held::Nothing,
             zero: true,
             known: Known::Same,
+            twins: Twins::Same,
+        }
+    }
+
+    fn after_number(&self, op: LiteralOperation, number: u8) -> Behind
+        ensures { facts_by (hidden_at self.now) (facts_at self.now) result ≡ right.after_number (facts_at self.now) (numbers.file_for op) number }
+    {
+        match file_for(op) {
+            None => self.without_w(),
+            Some(file) => self.worked(file, Some(number)),
         }
     }
 
@@ -686,23 +734,18 @@ impl<'a> Here<'a> {
     pub fn after_literal(&self, op: LiteralOperation, value: Literal) -> Behind
         ensures { facts_by (hidden_at self.now) (facts_at self.now) result ≡ right.after_literal (facts_at self.now) op value }
     {
-        match op {
-            LiteralOperation::Movlw => match value {
-                Literal::Number(number) => Behind {
-                    number: Some(number),
-                    held: Held::Like(number),
-                    zero: false,
-                    known: Known::Same,
-                },
-                Literal::Low(_) => self.without_w(),
-                Literal::High(_) => self.without_w(),
+        match value {
+            Literal::Low(_) => self.without_w(),
+            Literal::High(_) => self.without_w(),
+            Literal::Number(number) => match op {
+                LiteralOperation::Movlw => self.with_number(Some(number), false),
+                LiteralOperation::Addlw => self.after_number(op, number),
+                LiteralOperation::Andlw => self.after_number(op, number),
+                LiteralOperation::Iorlw => self.after_number(op, number),
+                LiteralOperation::Retlw => self.after_number(op, number),
+                LiteralOperation::Sublw => self.after_number(op, number),
+                LiteralOperation::Xorlw => self.after_number(op, number),
             },
-            LiteralOperation::Addlw => self.without_w(),
-            LiteralOperation::Andlw => self.without_w(),
-            LiteralOperation::Iorlw => self.without_w(),
-            LiteralOperation::Retlw => self.without_w(),
-            LiteralOperation::Sublw => self.without_w(),
-            LiteralOperation::Xorlw => self.without_w(),
         }
     }
 }

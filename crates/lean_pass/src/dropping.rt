@@ -11,11 +11,10 @@ ghost use Rattle.lean_pass.specs.Owners.{aim_of};
 ghost use Rattle.lean_pass.specs.Rules as rules;
 ghost use Rattle.lean_pass.specs.Views.{act_of, apart_of, block_of, note_of, rows_of, set_of};
 
-use crate::behind::{
-    Differs, Here, Marks, both_set, flags_in, is_number, is_retlw, literal_for, may_skip, one_sets,
-    uses_w, with_w,
-};
+use crate::behind::{Differs, Here, Marks, both_set, flags_in, is_number, one_sets, with_w};
+use crate::computing::{computed, runs_on, way_of, way_of_bit};
 use crate::keeping::is_status;
+use crate::operations::{is_retlw, literal_for, may_skip, uses_w};
 use crate::owners::Aim;
 use crate::rows::{Act, Row};
 use crate::walk::{label_at, place_of};
@@ -24,8 +23,8 @@ use sym_code::{
     Sym, Target,
 };
 
-// The general byte where an operand leads.
-fn aim_byte(aim: Aim) -> Option<usize>
+/// The general byte where an operand leads.
+pub fn aim_byte(aim: Aim) -> Option<usize>
     ensures { result ≡ rules.aim_byte (aim_of aim) }
 {
     match aim {
@@ -83,6 +82,15 @@ fn is_movlw(op: LiteralOperation) -> bool
     }
 }
 
+fn is_move(op: FileOperation) -> bool
+    ensures { result ≡ rules.is_move op }
+{
+    match op {
+        FileOperation::Movf => true,
+        _ => false,
+    }
+}
+
 fn is_sublw(op: LiteralOperation) -> bool
     ensures { result ≡ listed.same_operation LiteralOperation.Sublw op }
 {
@@ -125,8 +133,8 @@ fn is_operation(wanted: Option<LiteralOperation>, new: LiteralOperation) -> bool
 }
 
 impl<'a> Here<'a> {
-    // What may differ behind an operation on a byte whose result goes to W on one machine.
-    fn narrowed(&self, op: FileOperation, byte: usize) -> Differs
+    /// What may differ behind an operation on a byte whose result goes to W on one machine.
+    pub fn narrowed(&self, op: FileOperation, byte: usize) -> Differs
         ensures { apart_by (apart_at self.now) result ≡ changes.other_w (changes.other_byte byte (changes.both_set (changes.flags_in op) (apart_at self.now))) }
     {
         self.one_writes(byte, with_w(true, both_set(flags_in(op), self.marks())))
@@ -159,25 +167,25 @@ impl<'a> Here<'a> {
         }
     }
 
-    fn drops_or(&self, rest: &[Row], byte: usize) -> bool
-        ensures { result ≡ listed.drops_to_w (sketch_at self.now) (block_at self.now) (note_at self.now) (rows_of rest.now) FileOperation.Iorwf (changes.ToByte byte) }
-    {
-        let facts = self.after_to_w(FileOperation::Iorwf, Aim::ToByte(byte));
-        self.expects_by(self.note.carry, rest, facts, self.one_ors(byte), None)
-    }
-
     fn drops_result(&self, rest: &[Row], op: FileOperation, byte: usize) -> bool
         ensures { result ≡ rules.drops_result (sketch_at self.now) (block_at self.now) (note_at self.now) (rows_of rest.now) op byte }
     {
-        let facts = self.after_to_w(op, Aim::ToByte(byte));
-        let apart = self.differing(with_w(true, one_sets(flags_in(op), self.marks())));
-        self.passes(self.note.carry, rest, may_skip(op), facts, apart, None)
+        let known = self.number_of(byte);
+        self.passes(
+            self.note.carry,
+            rest,
+            way_of(op, known),
+            self.after_to_w(op, Aim::ToByte(byte)),
+            self.one_works(op, known),
+            None,
+        )
     }
 
     fn drops_byte_to_w(&self, rest: &[Row], op: FileOperation, byte: usize) -> bool
         ensures { result ≡ listed.drops_to_w (sketch_at self.now) (block_at self.now) (note_at self.now) (rows_of rest.now) op (changes.ToByte byte) }
     {
         match op {
+            FileOperation::Movf => self.drops_move(rest, byte),
             FileOperation::Addwf => self.drops_result(rest, op, byte),
             FileOperation::Andwf => self.drops_result(rest, op, byte),
             FileOperation::Comf => self.drops_result(rest, op, byte),
@@ -185,8 +193,7 @@ impl<'a> Here<'a> {
             FileOperation::Decfsz => self.drops_result(rest, op, byte),
             FileOperation::Incf => self.drops_result(rest, op, byte),
             FileOperation::Incfsz => self.drops_result(rest, op, byte),
-            FileOperation::Iorwf => self.drops_or(rest, byte),
-            FileOperation::Movf => self.drops_move(rest, byte),
+            FileOperation::Iorwf => self.drops_result(rest, op, byte),
             FileOperation::Rlf => self.drops_result(rest, op, byte),
             FileOperation::Rrf => self.drops_result(rest, op, byte),
             FileOperation::Subwf => self.drops_result(rest, op, byte),
@@ -210,14 +217,12 @@ impl<'a> Here<'a> {
     {
         match aim {
             Aim::ToByte(byte) => {
-                let apart = self.one_writes(byte, one_sets(flags_in(op), self.marks()));
-                let facts = self.lost(aim, false);
                 self.passes(
                     carry_but(byte, self.note.carry),
                     rest,
-                    may_skip(op),
-                    facts,
-                    apart,
+                    way_of(op, self.number_of(byte)),
+                    self.after_to_file(op, aim),
+                    self.one_result(op, byte),
                     Some(byte),
                 )
             }
@@ -289,25 +294,25 @@ impl<'a> Here<'a> {
         }
     }
 
-    fn drops_skip(&self, rest: &[Row]) -> bool
-        ensures { result ≡ rules.drops_skip (sketch_at self.now) (block_at self.now) (note_at self.now) (rows_of rest.now) }
+    fn drops_skip(&self, rest: &[Row], way: Option<bool>) -> bool
+        ensures { result ≡ rules.drops_skip (sketch_at self.now) (block_at self.now) (note_at self.now) (rows_of rest.now) way }
     {
         let facts = self.unchanged(self.note.facts.zero);
         self.passes(
             self.note.carry,
             rest,
-            true,
+            way,
             facts,
             self.differing(self.marks()),
             None,
         )
     }
 
-    fn drops_test(&self, rest: &[Row], aim: Aim) -> bool
-        ensures { result ≡ listed.drops_test (sketch_at self.now) (block_at self.now) (note_at self.now) (rows_of rest.now) (aim_of aim) }
+    fn drops_test(&self, rest: &[Row], op: BitOperation, aim: Aim, bit: u8) -> bool
+        ensures { result ≡ listed.drops_test (sketch_at self.now) (block_at self.now) (note_at self.now) (rows_of rest.now) op (aim_of aim) bit }
     {
         match aim {
-            Aim::ToByte(_) => self.drops_skip(rest),
+            Aim::ToByte(byte) => self.drops_skip(rest, way_of_bit(op, self.number_of(byte), bit)),
             Aim::ToFsr => false,
             Aim::ToEvent => false,
             Aim::Through => false,
@@ -345,14 +350,14 @@ impl<'a> Here<'a> {
                 self.drops_change(rest, self.write(operand))
             },
             BitOperation::Btfsc => if status {
-                self.drops_skip(rest)
+                self.drops_skip(rest, None)
             } else {
-                self.drops_test(rest, self.read(operand))
+                self.drops_test(rest, op, self.read(operand), bit)
             },
             BitOperation::Btfss => if status {
-                self.drops_skip(rest)
+                self.drops_skip(rest, None)
             } else {
-                self.drops_test(rest, self.read(operand))
+                self.drops_test(rest, op, self.read(operand), bit)
             },
         }
     }
@@ -456,6 +461,55 @@ impl<'a> Here<'a> {
         }
     }
 
+    fn puts_same(
+        &self,
+        rest: &[Row],
+        op: FileOperation,
+        byte: usize,
+        new: LiteralOperation,
+        value: u8,
+    ) -> bool
+        ensures { result ≡ listed.puts_same (sketch_at self.now) (block_at self.now) (note_at self.now) (rows_of rest.now) op byte new value }
+    {
+        is_operation(literal_for(op), new)
+            && (is_number(self.number_of(byte), value)
+                && (!(uses_w(op) && self.note.apart.w)
+                    && self.expects(
+                        rest,
+                        self.after_to_w(op, Aim::ToByte(byte)),
+                        self.literal_apart(op, byte),
+                    )))
+    }
+
+    // The number that the operation makes, where it is known.
+    fn puts_number(&self, rest: &[Row], op: FileOperation, byte: usize, value: u8) -> bool
+        ensures { result ≡ listed.puts_number (sketch_at self.now) (block_at self.now) (note_at self.now) (rows_of rest.now) op byte value }
+    {
+        let known = self.number_of(byte);
+        let apart = self.differing(with_w(false, one_sets(flags_in(op), self.marks())));
+        runs_on(way_of(op, known))
+            && (is_number(computed(op, self.note.facts.number, known), value)
+                && self.expects(rest, self.after_to_w(op, Aim::ToByte(byte)), apart))
+    }
+
+    #[tactic(auto, using(crate::proofs::Cuts::puts_byte_is))]
+    fn puts_byte(
+        &self,
+        rest: &[Row],
+        op: FileOperation,
+        byte: usize,
+        new: LiteralOperation,
+        value: u8,
+    ) -> bool
+        ensures { result ≡ listed.puts_byte (sketch_at self.now) (block_at self.now) (note_at self.now) (rows_of rest.now) op byte new value }
+    {
+        if is_movlw(new) && !is_move(op) {
+            self.puts_number(rest, op, byte, value)
+        } else {
+            self.puts_same(rest, op, byte, new, value)
+        }
+    }
+
     fn puts_for(
         &self,
         rest: &[Row],
@@ -467,16 +521,7 @@ impl<'a> Here<'a> {
         ensures { result ≡ listed.puts_for (sketch_at self.now) (block_at self.now) (note_at self.now) (rows_of rest.now) op (aim_of aim) new value }
     {
         match aim {
-            Aim::ToByte(byte) => {
-                is_operation(literal_for(op), new)
-                    && (is_number(self.number_of(byte), value)
-                        && (!(uses_w(op) && self.note.apart.w)
-                            && self.expects(
-                                rest,
-                                self.after_to_w(op, aim),
-                                self.literal_apart(op, byte),
-                            )))
-            }
+            Aim::ToByte(byte) => self.puts_byte(rest, op, byte, new, value),
             Aim::ToFsr => false,
             Aim::ToEvent => false,
             Aim::Through => false,
@@ -549,6 +594,8 @@ impl<'a> Here<'a> {
             Act::Drops => self.is_left_out(at, rest, sym),
             Act::Puts { op, value } => self.is_put(rest, op, value, sym),
             Act::Narrows => self.is_narrowed(rest, sym),
+            Act::Clears => self.is_cleared(rest, sym),
+            Act::Reads { before } => self.is_read(rest, before, sym),
         }
     }
 }

@@ -11,10 +11,9 @@ ghost use Rattle.lean_pass.specs.Owners.{aim_of};
 ghost use Rattle.lean_pass.specs.Rules as rules;
 ghost use Rattle.lean_pass.specs.Views.{act_of, apart_of, block_of, note_of, rows_of, set_of};
 
-use crate::behind::{
-    Here, Marks, both_set, flags_in, is_retlw, literal_flags, literal_uses, may_skip, uses_c,
-    uses_w, with_w,
-};
+use crate::behind::{Here, Marks, both_set, flags_in, literal_flags, with_w};
+use crate::computing::{way_of, way_of_bit};
+use crate::operations::{is_retlw, literal_uses, uses_c, uses_w};
 use crate::owners::Aim;
 use crate::reading::same_number;
 use crate::rows::{Apart, ByteSet, LeanBlock, Note, Row};
@@ -81,7 +80,12 @@ impl<'a> Here<'a> {
         let apart = self.differing(with_w(false, both_set(flags_in(op), self.marks())));
         self.uses(op)
             && (self.is_same(aim)
-                && self.leads(rest, may_skip(op), self.after_to_w(op, aim), apart))
+                && self.leads(
+                    rest,
+                    way_of(op, self.number_at(aim)),
+                    self.after_to_w(op, aim),
+                    apart,
+                ))
     }
 
     fn keeps_to_file(&self, rest: &[Row], op: FileOperation, aim: Aim) -> bool
@@ -89,7 +93,13 @@ impl<'a> Here<'a> {
     {
         let apart = self.both_write(aim, both_set(flags_in(op), self.marks()));
         self.uses(op)
-            && (self.is_same(aim) && self.leads(rest, may_skip(op), self.lost(aim, false), apart))
+            && (self.is_same(aim)
+                && self.leads(
+                    rest,
+                    way_of(op, self.number_at(aim)),
+                    self.after_to_file(op, aim),
+                    apart,
+                ))
     }
 
     fn keeps_file(&self, rest: &[Row], op: FileOperation, operand: Operand, into: Into) -> bool
@@ -112,13 +122,13 @@ impl<'a> Here<'a> {
             )
     }
 
-    fn keeps_test(&self, rest: &[Row], aim: Aim) -> bool
-        ensures { result ≡ rules.keeps_test (sketch_at self.now) (block_at self.now) (note_at self.now) (rows_of rest.now) (aim_of aim) }
+    fn keeps_test(&self, rest: &[Row], op: BitOperation, aim: Aim, bit: u8) -> bool
+        ensures { result ≡ rules.keeps_test (sketch_at self.now) (block_at self.now) (note_at self.now) (rows_of rest.now) op (aim_of aim) bit }
     {
         self.is_same(aim)
             && self.leads(
                 rest,
-                true,
+                way_of_bit(op, self.number_at(aim), bit),
                 self.unchanged(self.note.facts.zero),
                 self.differing(self.marks()),
             )
@@ -136,7 +146,7 @@ impl<'a> Here<'a> {
         !self.flag_apart(bit)
             && self.leads(
                 rest,
-                true,
+                None,
                 self.unchanged(self.note.facts.zero),
                 self.differing(self.marks()),
             )
@@ -161,12 +171,12 @@ impl<'a> Here<'a> {
             BitOperation::Btfsc => if status {
                 self.keeps_flag_test(rest, bit)
             } else {
-                self.keeps_test(rest, self.read(operand))
+                self.keeps_test(rest, op, self.read(operand), bit)
             },
             BitOperation::Btfss => if status {
                 self.keeps_flag_test(rest, bit)
             } else {
-                self.keeps_test(rest, self.read(operand))
+                self.keeps_test(rest, op, self.read(operand), bit)
             },
         }
     }

@@ -12,6 +12,7 @@ ghost use Rattle.lean_pass.specs.Made as stated;
 ghost use Rattle.lean_pass.specs.Tests.{has_none};
 ghost use Rattle.lean_pass.specs.Views.{act_of, row_of, rows_of, block_of, blocks_of, sketch_of, variables_of};
 
+use crate::copies::operand_before;
 use crate::owners::no_block;
 use crate::rows::{Act, LeanBlock, Row, Sketch};
 use crate::search::{BlockPlan, Plan};
@@ -33,6 +34,33 @@ fn narrowed(sym: Sym) -> Sym
     }
 }
 
+fn cleared(sym: Sym) -> Sym
+    ensures { result ≡ certified.cleared sym }
+{
+    match sym {
+        Sym::Movwf(file) => Sym::Clrf(file),
+        _ => sym,
+    }
+}
+
+fn reads_before(before: u16, sym: Sym) -> Sym
+    ensures { result ≡ certified.reads_before before sym }
+{
+    match sym {
+        Sym::File { op, file, .. } => Sym::File {
+            op,
+            file: operand_before(before, file),
+            into: Into::W,
+        },
+        Sym::Bit { op, file, bit } => Sym::Bit {
+            op,
+            file: operand_before(before, file),
+            bit,
+        },
+        _ => sym,
+    }
+}
+
 // What stands in an instruction's place in the code that is made. A label always stays.
 fn put_of(sym: Sym, act: Act) -> Option<Sym>
     ensures { result ≡ stated.put_of sym act }
@@ -48,6 +76,8 @@ fn put_of(sym: Sym, act: Act) -> Option<Sym>
             value: Literal::Number(value),
         }),
         Act::Narrows => Some(narrowed(sym)),
+        Act::Clears => Some(cleared(sym)),
+        Act::Reads { before } => Some(reads_before(before, sym)),
     }
 }
 

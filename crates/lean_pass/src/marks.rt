@@ -1,4 +1,4 @@
-//! Which instructions count as steps of the source. None of them is left out.
+//! Which instructions count as steps of the source. None of them is left out where something comes.
 
 ghost use Rattle.std.specs.Prelude.{ℕ, ◌≡◌, ◌||◌};
 ghost use Rattle.core_code.specs.Cost as costs;

@@ -373,6 +373,7 @@ pub fn no_block(alloc: Global) -> LeanBlock
                 },
                 zero: false,
                 known: Vec::new(alloc),
+                twins: Vec::new(alloc),
             },
             apart: Apart {
                 w: true,

@@ -54,7 +54,11 @@ impl<'a> Here<'a> {
                 }
             }
             Held::Nothing => false,
-            Held::Only(other) => byte == other,
+            Held::Only(other) => if byte == other {
+                true
+            } else {
+                self.is_twin(other, byte)
+            },
             Held::Like(number) => is_number(self.number_of(byte), number),
             Held::More(other) => if byte == other {
                 true
@@ -150,7 +154,9 @@ impl<'a> Here<'a> {
     {
         gives_number(facts.number, wanted.number)
             && (self.are_held(facts.held, &wanted.held.has, 0)
-                && ((!wanted.zero || facts.zero) && self.are_known(facts.known, &wanted.known, 0)))
+                && ((!wanted.zero || facts.zero)
+                    && (self.are_known(facts.known, &wanted.known, 0)
+                        && self.are_copies(facts.twins, &wanted.twins, 0))))
     }
 
     fn is_covered(&self, wanted: &ByteSet, bytes: Bytes, byte: usize) -> bool
@@ -256,16 +262,21 @@ impl<'a> Here<'a> {
         self.expects_by(None, rows, facts, apart, None)
     }
 
-    /// Behind an instruction that both execute.
-    pub fn leads(&self, rest: &[Row], can: bool, facts: Behind, apart: Differs) -> bool
-        ensures { result ≡ listed.leads (rows_of rest.now) can (facts_by (hidden_at self.now) (facts_at self.now) facts) (apart_by (apart_at self.now) apart) (note_at self.now).apart.bytes }
+    /// Behind an instruction that both execute, and that skips, runs on, or may do both.
+    pub fn leads(&self, rest: &[Row], way: Option<bool>, facts: Behind, apart: Differs) -> bool
+        ensures { result ≡ listed.leads (rows_of rest.now) way (facts_by (hidden_at self.now) (facts_at self.now) facts) (apart_by (apart_at self.now) apart) (note_at self.now).apart.bytes }
     {
-        self.expects(rest, facts, apart)
-            && if can {
-                self.expects(past(rest), facts, apart) && keeps_first(rest)
-            } else {
-                true
-            }
+        match way {
+            None => self.expects(rest, facts, apart) && self.leads_past(rest, facts, apart),
+            Some(true) => self.leads_past(rest, facts, apart),
+            Some(false) => self.expects(rest, facts, apart),
+        }
+    }
+
+    fn leads_past(&self, rest: &[Row], facts: Behind, apart: Differs) -> bool
+        ensures { result ≡ listed.leads (rows_of rest.now) (Some true) (facts_by (hidden_at self.now) (facts_at self.now) facts) (apart_by (apart_at self.now) apart) (note_at self.now).apart.bytes }
+    {
+        self.expects(past(rest), facts, apart) && keeps_first(rest)
     }
 
     /// Behind one that is left out.
@@ -273,19 +284,32 @@ impl<'a> Here<'a> {
         &self,
         carry: Option<usize>,
         rest: &[Row],
-        can: bool,
+        way: Option<bool>,
         facts: Behind,
         apart: Differs,
         more: Option<usize>,
     ) -> bool
-        ensures { result ≡ listed.passes carry (rows_of rest.now) can (facts_by (hidden_at self.now) (facts_at self.now) facts) (apart_by (apart_at self.now) apart) (candidates self.now more) }
+        ensures { result ≡ listed.passes carry (rows_of rest.now) way (facts_by (hidden_at self.now) (facts_at self.now) facts) (apart_by (apart_at self.now) apart) (candidates self.now more) }
     {
-        self.expects_by(carry, rest, facts, apart, more)
-            && if can {
-                self.expects_by(carry, past(rest), facts, apart, more) && drops_first(rest)
-            } else {
-                true
-            }
+        match way {
+            None => self.expects_by(carry, rest, facts, apart, more)
+                && self.passes_past(carry, rest, facts, apart, more),
+            Some(true) => self.passes_past(carry, rest, facts, apart, more),
+            Some(false) => self.expects_by(carry, rest, facts, apart, more),
+        }
+    }
+
+    fn passes_past(
+        &self,
+        carry: Option<usize>,
+        rest: &[Row],
+        facts: Behind,
+        apart: Differs,
+        more: Option<usize>,
+    ) -> bool
+        ensures { result ≡ listed.passes carry (rows_of rest.now) (Some true) (facts_by (hidden_at self.now) (facts_at self.now) facts) (apart_by (apart_at self.now) apart) (candidates self.now more) }
+    {
+        self.expects_by(carry, past(rest), facts, apart, more) && drops_first(rest)
     }
 
     /// Whether what is read doesn't differ.

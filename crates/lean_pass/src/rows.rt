@@ -17,6 +17,10 @@ pub enum Act {
     Puts { op: LiteralOperation, value: u8 },
     /// Its result goes to W.
     Narrows,
+    /// The byte is cleared in which it stores W.
+    Clears,
+    /// Another byte of its frame is read, so many bytes before its own, and the result goes to W.
+    Reads { before: u16 },
 }
 
 /// What is true of the machine that runs the given code.
@@ -30,6 +34,8 @@ pub struct Facts {
     pub zero: bool,
     /// The bytes that hold numbers, by their own numbers.
     pub known: Vec<Option<u8>>,
+    /// Of the bytes that are copies, by their numbers, the byte of which each is one.
+    pub twins: Vec<Option<u16>>,
 }
 
 /// What may differ between the machine that runs the given code and the one that runs the code that is made.

@@ -43,6 +43,23 @@ pub fn number_at(known: &[Option<u8>], byte: usize) -> Option<u8>
     known_in(known, byte)
 }
 
+fn origin_in(twins: &[Option<u16>], byte: usize) -> Option<u16>
+    ensures { result ≡ known_entry (slice_get twins.now byte) }
+{
+    match twins.get(byte) {
+        Some(origin) => *origin,
+        None => None,
+    }
+}
+
+/// The byte of which one is a copy, where that is known.
+#[tactic(auto, using(crate::proofs::Entries::number_known))]
+pub fn origin_at(twins: &[Option<u16>], byte: usize) -> Option<u16>
+    ensures { result ≡ listed.number_in byte (knowns 0 twins.now) }
+{
+    origin_in(twins, byte)
+}
+
 /// Whether the bytes of a list, which begins with this one, are all in a set.
 pub fn are_in(list: &[bool], first: usize, set: &ByteSet) -> bool
     requires { first + length list.now < 2 ^ 64 }

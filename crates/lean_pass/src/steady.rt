@@ -1,11 +1,11 @@
-//! The test that skips and the instructions behind them stay or go together.
+//! The test of skips: with one that stays the instruction behind it stays, and one that doesn't stands before one that goes too, or leads on.
 
 ghost use Rattle.std.specs.Prelude.{◌≡◌};
 ghost use Rattle.lean_code.specs.Checked as listed;
 ghost use Rattle.lean_code.specs.Steady as stated;
 ghost use Rattle.lean_pass.specs.Views.{act_of, rows_of, blocks_of};
 
-use crate::behind::{is_retlw, may_skip};
+use crate::operations::{is_retlw, may_skip};
 use crate::rows::{Act, LeanBlock, Row};
 use crate::walk::{first_row, is_dropped, is_label};
 use sym_code::{BitOperation, Sym};
@@ -50,14 +50,37 @@ fn next_goes(rows: &[Row]) -> bool
     }
 }
 
+/// Whether the instruction leads to the one behind it.
+pub fn leads_on(sym: Sym) -> bool
+    ensures { result ≡ stated.leads_on sym }
+{
+    match sym {
+        Sym::Goto(_) => false,
+        Sym::Plain(_) => false,
+        Sym::Literal { op, .. } => !is_retlw(op),
+        _ => true,
+    }
+}
+
+fn next_leads_on(rows: &[Row]) -> bool
+    ensures { result ≡ stated.next_leads_on (listed.rows_in (rows_of rows.now)) }
+{
+    match rows {
+        [] => true,
+        [row, _rest @ ..] => leads_on(row.sym),
+    }
+}
+
 fn is_steady_skip(act: Act, rest: &[Row]) -> bool
     ensures { result ≡ stated.is_steady_skip (act_of act) (listed.rows_in (rows_of rest.now)) }
 {
     match act {
         Act::Keeps => next_stays(rest),
-        Act::Drops => next_goes(rest),
-        Act::Puts { .. } => false,
+        Act::Drops => next_goes(rest) || next_leads_on(rest),
+        Act::Puts { op, .. } => !is_retlw(op) && next_leads_on(rest),
         Act::Narrows => false,
+        Act::Clears => false,
+        Act::Reads { .. } => next_stays(rest),
     }
 }
 
@@ -69,6 +92,8 @@ fn puts_return(act: Act) -> bool
         Act::Keeps => false,
         Act::Drops => false,
         Act::Narrows => false,
+        Act::Clears => false,
+        Act::Reads { .. } => false,
     }
 }
 
@@ -96,7 +121,7 @@ fn is_steady(rows: &[Row]) -> bool
     true
 }
 
-/// Whether in each block a skip and the instruction behind it stay or go together.
+/// Whether in each block the skips, and the instructions behind them, are such.
 pub fn are_steady(blocks: &[LeanBlock]) -> bool
     ensures { result ≡ stated.are_steady (blocks_of blocks.now) }
 {

@@ -9,7 +9,7 @@ ghost use Rattle.code_place.specs.Layouts.{layout_of};
 ghost use Rattle.lean_pass.specs.Tests as stated;
 ghost use Rattle.lean_pass.specs.Views.{act_of, trues, knowns, set_of, note_of, row_of, rows_of, block_of, blocks_of, sketch_of};
 
-use crate::behind::{Behind, Held, Here, Known};
+use crate::behind::{Behind, Held, Here, Known, Twins};
 use crate::owners::{Ground, grounded};
 use crate::reading::same_number;
 use crate::rows::{ByteSet, LeanBlock, Note, Row, Sketch};
@@ -86,8 +86,9 @@ impl<'a> Ground<'a> {
     {
         self.are_near(inside, &note.facts.held.has, 0)
             && (self.are_known_near(inside, &note.facts.known, 0)
-                && (self.are_own(inside, &note.apart.bytes.has, 0)
-                    && self.carries_near(inside, note.carry)))
+                && (self.are_twins_near(inside, &note.facts.twins, 0)
+                    && (self.are_own(inside, &note.apart.bytes.has, 0)
+                        && self.carries_near(inside, note.carry))))
     }
 
     fn noted_right(
@@ -185,6 +186,7 @@ impl<'a> Ground<'a> {
             held: Held::Nothing,
             zero: false,
             known: Known::Nothing,
+            twins: Twins::Nothing,
         };
         here.gives(nothing, &note.facts)
             && (is_within(rest, &note.apart.bytes) && same_number(note.carry, None))

@@ -172,7 +172,7 @@ fn statics_are_written_each_time(rt: HostRuntime) -> Result<(), AllocError> {
     Ok(())
 }
 
-// Nor is a local variable's access left out, or a jump; a temporary byte's is.
+// Nor is a local variable's access left out, or a jump; a temporary byte's is, and all to which nothing comes.
 #[test]
 fn what_counts_stays(rt: HostRuntime) -> Result<(), AllocError> {
     let given = [
@@ -200,13 +200,6 @@ fn what_counts_stays(rt: HostRuntime) -> Result<(), AllocError> {
         goto(Label::Inner(0)),
         Sym::Label(Label::Inner(0)),
         load(1),
-        goto(Label::Halt),
-        Sym::Bit {
-            op: BitOperation::Btfsc,
-            file: Operand::Register(Register::Status),
-            bit: 0,
-        },
-        goto(Label::Inner(0)),
         goto(Label::Halt),
     ];
     let made = main_with(rt.alloc(), 1, &given)?;
@@ -320,5 +313,58 @@ fn a_store_through_fsr_keeps_no_temporary(rt: HostRuntime) -> Result<(), AllocEr
         code_of(made.get(0)),
         &[load(5), through, goto(Label::Halt)][..]
     );
+    Ok(())
+}
+
+// A byte is cleared where 0 is stored.
+#[test]
+fn a_zero_needs_no_w(rt: HostRuntime) -> Result<(), AllocError> {
+    let given = [
+        load(0),
+        Sym::Movwf(ticks()),
+        Sym::Movwf(ticks()),
+        goto(Label::Halt),
+    ];
+    let made = main_of(rt.alloc(), &given)?;
+    assert_eq!(rt;
+        code_of(made.get(0)),
+        &[Sym::Clrf(ticks()), Sym::Clrf(ticks()), goto(Label::Halt)][..]
+    );
+    Ok(())
+}
+
+// Variables are read in the places of their copies.
+#[test]
+fn a_copy_of_a_variable_is_not_stored(rt: HostRuntime) -> Result<(), AllocError> {
+    let given = [
+        to_w(FileOperation::Movf, ticks()),
+        Sym::Movwf(temporary(0)),
+        to_w(FileOperation::Movf, ticks()),
+        Sym::Movwf(temporary(1)),
+        to_w(FileOperation::Movf, temporary(0)),
+        Sym::Movwf(temporary(3)),
+        to_w(FileOperation::Movf, temporary(1)),
+        Sym::Movwf(temporary(4)),
+        to_w(FileOperation::Movf, temporary(3)),
+        Sym::Movwf(ticks()),
+        to_w(FileOperation::Addwf, temporary(4)),
+        Sym::Movwf(ticks()),
+        goto(Label::Halt),
+    ];
+    let wanted = [
+        to_w(FileOperation::Movf, ticks()),
+        Sym::Movwf(temporary(0)),
+        to_w(FileOperation::Movf, ticks()),
+        Sym::Movwf(temporary(1)),
+        to_w(FileOperation::Movf, temporary(0)),
+        to_w(FileOperation::Movf, temporary(1)),
+        to_w(FileOperation::Movf, temporary(0)),
+        Sym::Movwf(ticks()),
+        to_w(FileOperation::Addwf, temporary(1)),
+        Sym::Movwf(ticks()),
+        goto(Label::Halt),
+    ];
+    let made = main_with(rt.alloc(), 2, &given)?;
+    assert_eq!(rt; code_of(made.get(0)), &wanted[..]);
     Ok(())
 }

@@ -37,6 +37,8 @@ pub fn stays_out(sym: Sym, act: Act) -> bool
         Act::Keeps => false,
         Act::Puts { .. } => false,
         Act::Narrows => false,
+        Act::Clears => false,
+        Act::Reads { .. } => false,
     }
 }
 

@@ -1,5 +1,6 @@
 -- The blocks of a program that a certificate makes.
 use Rattle.std.proofs.Common.{◌≡◌, ◌/◌, true, false, List, sym, subst, ap, ◌∙◌}
+use Rattle.std.specs.List.{All}
 use Rattle.sym_code.specs.Layout.{frame}
 use Rattle.sym_code.specs.Programs.{block_in}
 use Rattle.sym_code.specs.declared.code.BlockName.TheVariants.{Copy}
@@ -7,7 +8,7 @@ use Rattle.sym_code.specs.declared.code.Sym.{Sym}
 use Rattle.code_place.specs.Layouts.{layout_of}
 use Rattle.math_helpers.proofs.Shapes.{code_is_own}
 use Rattle.math_helpers.specs.Routines.{helper_code}
-use Rattle.math_helpers.specs.Shape.{frame_size, ArePriced}
+use Rattle.math_helpers.specs.Shape.{IsOwn, frame_size, ArePriced}
 use Rattle.select_wide.specs.Links.{AreDear}
 use Rattle.bank_page.specs.Links.{price_in}
 use Rattle.bank_prices.proofs.Owned.{AllTame, all_tame}
@@ -31,6 +32,6 @@ lean_routines_are_priced x placed lean made has h root c code is steady whole fi
     let tight : is_tight false (olds rows) ≡ true = ap (is_tight false) code ∙ tight_code h root c in
     let made_priced : ArePriced price (puts rows) =
     list_is_priced placed lean made has c (frame_size h) (puts rows) is whole fits
-    (λ there. tame_made placed (Copy c) bank rows (subst (λ (l : List Sym). AllTame placed (Copy c) bank l) (sym code) (all_tame placed root c (frame_size h) bank (Copy c) there (helper_code h root c) (code_is_own h root c))))
+    (λ there. tame_made placed (Copy c) bank root c (frame_size h) there rows (subst (λ (l : List Sym). All (IsOwn root c (frame_size h)) l) (sym code) (code_is_own h root c)) (subst (λ (l : List Sym). AllTame placed (Copy c) bank l) (sym code) (all_tame placed root c (frame_size h) bank (Copy c) there (helper_code h root c) (code_is_own h root c))))
     (tight_made rows steady tight) in
     subst (λ (l : List Sym). ArePriced (carried_by rows price) l) code (lean_is_priced price rows steady made_priced)

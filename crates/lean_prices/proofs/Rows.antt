@@ -1,5 +1,7 @@
 -- Of rows that stand one behind the other with no label among them: what is made of them has none, and ends with no skip.
 use Rattle.std.proofs.Common.{◌≡◌, ℕ, zero, suc, ◌≤◌, Bool, true, false, not, ◌&&◌, if◌then◌else◌, List, [], ◌∷◌, ◌++◌, length, take, Option, Some, None, refl, sym, ap, ◌∙◌, true≢false, arith}
+use Rattle.core_code.specs.declared.code.Byte.{Byte}
+use Rattle.core_code.specs.declared.code.Byte.TheVariants as bytes
 use Rattle.sym_code.specs.declared.code.BitOperation.TheVariants.{Btfsc, Btfss}
 use Rattle.sym_code.specs.declared.code.FileOperation.TheVariants.{Decfsz, Incfsz}
 use Rattle.sym_code.specs.declared.code.Literal.{Literal}
@@ -10,10 +12,10 @@ use Rattle.sym_code.specs.declared.code.Operand.TheVariants as operands
 use Rattle.sym_code.specs.declared.code.Sym.{Sym}
 use Rattle.sym_code.specs.declared.code.Sym.TheVariants as syms
 use Rattle.math_helpers.specs.Shape.{is_skip, is_straight}
-use Rattle.select_wide.specs.Links.{IsNear, AreNear}
+use Rattle.select_wide.specs.Links.{IsNearByte, IsNear, AreNear}
 use Rattle.lean_code.specs.Changes.{is_retlw}
-use Rattle.lean_code.specs.Rows.{Note, Act, Keeps, Drops, Puts, Narrows, narrowed, Row, At, old_of, olds, put_by, in_front, puts, is_label, is_none}
-use Rattle.lean_code.specs.Steady.{skips, next_stays, is_steady_skip, puts_return, is_steady_row, is_steady}
+use Rattle.lean_code.specs.Rows.{Note, Act, Keeps, Drops, Puts, Narrows, narrowed, Clears, cleared, Reads, byte_before, reads_before, Row, At, old_of, olds, put_by, in_front, puts, is_label, is_none}
+use Rattle.lean_code.specs.Steady.{skips, next_stays, next_leads_on, is_steady_skip, puts_return, is_steady_row, is_steady}
 
 pub never : {A : Type 0} → false ≡ true → A
 never e = absurd (true≢false (sym e))
@@ -91,6 +93,28 @@ narrowed_skip (syms.File Incfsz operand to) = refl
 narrowed_skip (syms.File op operand to) = refl
 narrowed_skip s = refl
 
+cleared_label : (s : Sym) → is_label s ≡ false → is_label (cleared s) ≡ false
+cleared_label (syms.Movwf operand) l = refl
+cleared_label s l = l
+
+cleared_skip : (s : Sym) → is_skip (cleared s) ≡ is_skip s
+cleared_skip (syms.Movwf operand) = refl
+cleared_skip s = refl
+
+read_label : (n : ℕ) (s : Sym) → is_label s ≡ false → is_label (reads_before n s) ≡ false
+read_label n (syms.File op operand to) l = refl
+read_label n (syms.Bit op operand bit) l = refl
+read_label n s l = l
+
+read_skip : (n : ℕ) (s : Sym) → is_skip (reads_before n s) ≡ is_skip s
+read_skip n (syms.File Decfsz operand to) = refl
+read_skip n (syms.File Incfsz operand to) = refl
+read_skip n (syms.File op operand to) = refl
+read_skip n (syms.Bit Btfsc operand bit) = refl
+read_skip n (syms.Bit Btfss operand bit) = refl
+read_skip n (syms.Bit op operand bit) = refl
+read_skip n s = refl
+
 pub same_skip : (s : Sym) → skips s ≡ is_skip s
 same_skip (syms.File Decfsz operand to) = refl
 same_skip (syms.File Incfsz operand to) = refl
@@ -118,11 +142,14 @@ false_by false h = refl
 narrows_skip : (s : Sym) (said : Option Note) (rest : List Row) → is_steady (At s Narrows said ∷ rest) ≡ true → is_skip (narrowed s) ≡ false
 narrows_skip s said rest e = narrowed_skip s ∙ false_by (is_skip s) (skip_act s Narrows said rest e)
 
+clears_skip : (s : Sym) (said : Option Note) (rest : List Row) → is_steady (At s Clears said ∷ rest) ≡ true → is_skip (cleared s) ≡ false
+clears_skip s said rest e = cleared_skip s ∙ false_by (is_skip s) (skip_act s Clears said rest e)
+
 pub puts_no_return : (s : Sym) (op : LiteralOperation) (n : ℕ) (said : Option Note) (rest : List Row) → is_steady (At s (Puts op n) said ∷ rest) ≡ true → is_retlw op ≡ false
 puts_no_return s op n said rest e = by_skip (skips s) (steady_first s (Puts op n) said rest e)
   where
-    by_skip : (b : Bool) → (if b then false else not (is_retlw op)) ≡ true → is_retlw op ≡ false
-    by_skip true e = never e
+    by_skip : (b : Bool) → (if b then not (is_retlw op) && next_leads_on rest else not (is_retlw op)) ≡ true → is_retlw op ≡ false
+    by_skip true e = not_true (is_retlw op) (and_first (not (is_retlw op)) (next_leads_on rest) e)
     by_skip false e = not_true (is_retlw op) e
 
 -- ---- straight rows
@@ -150,6 +177,11 @@ straight_made (At s (Puts op n) said ∷ ys) zs e f =
     put_front (syms.Literal op (Number n)) (puts ys) refl (λ none. refl) (straight_made ys zs (straight_later s (olds ys) e) (steady_later s (Puts op n) said (ys ++ zs) f))
 straight_made (At s Narrows said ∷ ys) zs e f =
     put_front (narrowed s) (puts ys) (narrowed_label s (straight_first s (olds ys) e)) (λ none. narrows_skip s said (ys ++ zs) f) (straight_made ys zs (straight_later s (olds ys) e) (steady_later s Narrows said (ys ++ zs) f))
+straight_made (At s Clears said ∷ ys) zs e f =
+    put_front (cleared s) (puts ys) (cleared_label s (straight_first s (olds ys) e)) (λ none. clears_skip s said (ys ++ zs) f) (straight_made ys zs (straight_later s (olds ys) e) (steady_later s Clears said (ys ++ zs) f))
+straight_made (At s (Reads n) said ∷ ys) zs e f =
+    put_front (reads_before n s) (puts ys) (read_label n s (straight_first s (olds ys) e)) (λ none. read_skip n s ∙ kept_skip s ys zs e (skip_act s (Reads n) said (ys ++ zs) f) none)
+    (straight_made ys zs (straight_later s (olds ys) e) (steady_later s (Reads n) said (ys ++ zs) f))
 
 -- ---- instructions that ask for no bank but that of one frame
 near_literal : (c size : ℕ) (op : LiteralOperation) (value : Literal) → is_retlw op ≡ false → IsNear c size (syms.Literal op value)
@@ -161,6 +193,23 @@ near_narrowed c size (syms.File op (operands.Byte byte) to) h = h
 near_narrowed c size (syms.File op operand to) h = absurd h
 near_narrowed c size s h = h
 
+near_cleared : (c size : ℕ) (s : Sym) → IsNear c size s → IsNear c size (cleared s)
+near_cleared c size (syms.Movwf (operands.Byte byte)) h = h
+near_cleared c size (syms.Movwf operand) h = absurd h
+near_cleared c size s h = h
+
+near_byte : (c size n : ℕ) (byte : Byte) → IsNearByte c size byte → IsNearByte c size (byte_before n byte)
+near_byte c size n (bytes.Frame d k) h = let below = h.1 in (h.0, omega arith)
+near_byte c size n (bytes.Result r k) h = h
+near_byte c size n byte h = absurd h
+
+near_read : (c size n : ℕ) (s : Sym) → IsNear c size s → IsNear c size (reads_before n s)
+near_read c size n (syms.File op (operands.Byte byte) to) h = near_byte c size n byte h
+near_read c size n (syms.File op operand to) h = absurd h
+near_read c size n (syms.Bit op (operands.Byte byte) bit) h = near_byte c size n byte h
+near_read c size n (syms.Bit op (operands.Saved cell) bit) h = absurd h
+near_read c size n s h = h
+
 pub near_made : (c size : ℕ) (ys zs : List Row) → is_steady (ys ++ zs) ≡ true → AreNear c size (olds ys) → AreNear c size (puts ys)
 near_made c size [] zs e h = tt
 near_made c size (At (syms.Label label) act said ∷ ys) zs e h = absurd h.0
@@ -169,3 +218,5 @@ near_made c size (At s Drops said ∷ ys) zs e h = near_made c size ys zs (stead
 near_made c size (At s (Puts op n) said ∷ ys) zs e h =
     (near_literal c size op (Number n) (puts_no_return s op n said (ys ++ zs) e), near_made c size ys zs (steady_later s (Puts op n) said (ys ++ zs) e) h.1)
 near_made c size (At s Narrows said ∷ ys) zs e h = (near_narrowed c size s h.0, near_made c size ys zs (steady_later s Narrows said (ys ++ zs) e) h.1)
+near_made c size (At s Clears said ∷ ys) zs e h = (near_cleared c size s h.0, near_made c size ys zs (steady_later s Clears said (ys ++ zs) e) h.1)
+near_made c size (At s (Reads n) said ∷ ys) zs e h = (near_read c size n s h.0, near_made c size ys zs (steady_later s (Reads n) said (ys ++ zs) e) h.1)

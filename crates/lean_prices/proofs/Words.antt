@@ -1,6 +1,7 @@
 -- What is made of rows needs no more words, with all selects that it may need, than the rows.
-use Rattle.std.proofs.Common.{◌≡◌, ◌+◌, ◌≤◌, Bool, true, false, ◌||◌, if◌then◌else◌, List, [], ◌∷◌, refl, sym, arith}
+use Rattle.std.proofs.Common.{◌≡◌, ℕ, ◌+◌, ◌≤◌, Bool, true, false, ◌||◌, if◌then◌else◌, List, [], ◌∷◌, refl, sym, ◌∙◌, arith}
 use Rattle.std.proofs.lemmas.List.Sums.{sum_by-cons}
+use Rattle.core_code.specs.declared.code.Byte.TheVariants as bytes
 use Rattle.sym_code.specs.Words as words
 use Rattle.sym_code.specs.Words.{most_of_one, most_of_operand, is_common}
 use Rattle.sym_code.specs.declared.code.Literal.TheVariants.{Number}
@@ -8,8 +9,8 @@ use Rattle.sym_code.specs.declared.code.Operand.{Operand}
 use Rattle.sym_code.specs.declared.code.Operand.TheVariants as operands
 use Rattle.sym_code.specs.declared.code.Sym.{Sym}
 use Rattle.sym_code.specs.declared.code.Sym.TheVariants as syms
-use Rattle.math_helpers.specs.Shape.{accesses_frame, jumps, select_words, words_from, most_words}
-use Rattle.lean_code.specs.Rows.{Keeps, Drops, Puts, Narrows, narrowed, Row, At, olds, puts, is_label}
+use Rattle.math_helpers.specs.Shape.{is_in_frame, accesses_frame, jumps, select_words, words_from, most_words}
+use Rattle.lean_code.specs.Rows.{Keeps, Drops, Puts, Narrows, narrowed, Clears, cleared, Reads, operand_before, reads_before, Row, At, olds, puts, is_label}
 use Rattle.lean_prices.proofs.Rows.{never}
 
 -- ---- two selects for each byte in a bank, and for each jump and call
@@ -34,6 +35,23 @@ narrowed_most : (s : Sym) → most_of_one (narrowed s) ≤ most_of_one s
 narrowed_most (syms.File op operand to) = omega arith
 narrowed_most s = omega arith
 
+cleared_most : (s : Sym) → most_of_one (cleared s) ≤ most_of_one s
+cleared_most (syms.Movwf operand) = omega arith
+cleared_most s = omega arith
+
+operand_most : (n : ℕ) (operand : Operand) → most_of_operand (operand_before n operand) ≡ most_of_operand operand
+operand_most n (operands.Byte (bytes.Frame copy offset)) = refl
+operand_most n (operands.Byte (bytes.Static object offset)) = refl
+operand_most n (operands.Byte (bytes.Result root k)) = refl
+operand_most n (operands.Byte (bytes.Device address)) = refl
+operand_most n (operands.Register register) = refl
+operand_most n (operands.Saved cell) = refl
+
+read_most : (n : ℕ) (s : Sym) → most_of_one (reads_before n s) ≤ most_of_one s
+read_most n (syms.File op operand to) = let same = operand_most n operand in omega arith
+read_most n (syms.Bit op operand bit) = let same = operand_most n operand in omega arith
+read_most n s = omega arith
+
 more : (s t : Sym) (list made : List Sym) → most_of_one t ≤ most_of_one s → words.most_words made ≤ words.most_words list → words.most_words (t ∷ made) ≤ words.most_words (s ∷ list)
 more s t list made one before =
     let a = sum_by-cons most_of_one s list in
@@ -50,6 +68,8 @@ most_fewer (At s Keeps said ∷ rows) = more s s (olds rows) (puts rows) (omega 
 most_fewer (At s Drops said ∷ rows) = less s (olds rows) (puts rows) (most_fewer rows)
 most_fewer (At s (Puts op n) said ∷ rows) = more s (syms.Literal op (Number n)) (olds rows) (puts rows) (one_word s refl) (most_fewer rows)
 most_fewer (At s Narrows said ∷ rows) = more s (narrowed s) (olds rows) (puts rows) (narrowed_most s) (most_fewer rows)
+most_fewer (At s Clears said ∷ rows) = more s (cleared s) (olds rows) (puts rows) (cleared_most s) (most_fewer rows)
+most_fewer (At s (Reads n) said ∷ rows) = more s (reads_before n s) (olds rows) (puts rows) (read_most n s) (most_fewer rows)
 
 -- ---- the selects of the frame's bank and of the page where they aren't selected
 -- an access that stays, or becomes none: what was selected by it may have to be selected later on
@@ -117,6 +137,41 @@ narrowed_word : (s : Sym) → is_label s ≡ false → is_label (narrowed s) ≡
 narrowed_word (syms.File op operand to) l = refl
 narrowed_word s l = l
 
+cleared_frame : (s : Sym) → accesses_frame (cleared s) ≡ true → accesses_frame s ≡ true
+cleared_frame (syms.Movwf operand) e = e
+cleared_frame s e = e
+
+cleared_jumps : (s : Sym) → jumps (cleared s) ≡ true → jumps s ≡ true
+cleared_jumps (syms.Movwf operand) e = e
+cleared_jumps s e = e
+
+cleared_word : (s : Sym) → is_label s ≡ false → is_label (cleared s) ≡ false
+cleared_word (syms.Movwf operand) l = refl
+cleared_word s l = l
+
+operand_frame : (n : ℕ) (operand : Operand) → is_in_frame (operand_before n operand) ≡ is_in_frame operand
+operand_frame n (operands.Byte (bytes.Frame copy offset)) = refl
+operand_frame n (operands.Byte (bytes.Static object offset)) = refl
+operand_frame n (operands.Byte (bytes.Result root k)) = refl
+operand_frame n (operands.Byte (bytes.Device address)) = refl
+operand_frame n (operands.Register register) = refl
+operand_frame n (operands.Saved cell) = refl
+
+read_frame : (n : ℕ) (s : Sym) → accesses_frame (reads_before n s) ≡ true → accesses_frame s ≡ true
+read_frame n (syms.File op operand to) e = sym (operand_frame n operand) ∙ e
+read_frame n (syms.Bit op operand bit) e = sym (operand_frame n operand) ∙ e
+read_frame n s e = e
+
+read_jumps : (n : ℕ) (s : Sym) → jumps (reads_before n s) ≡ true → jumps s ≡ true
+read_jumps n (syms.File op operand to) e = e
+read_jumps n (syms.Bit op operand bit) e = e
+read_jumps n s e = e
+
+read_word : (n : ℕ) (s : Sym) → is_label s ≡ false → is_label (reads_before n s) ≡ false
+read_word n (syms.File op operand to) l = refl
+read_word n (syms.Bit op operand bit) l = refl
+read_word n s l = l
+
 few_from : (rows : List Row) → Fewer (olds rows) (puts rows)
 few_from [] b p c q = omega arith
 few_from (At (syms.Label label) act said ∷ rows) b p c q = let later = few_from rows false false false false in omega arith
@@ -124,6 +179,8 @@ few_from (At s Keeps said ∷ rows) b p c q = stays s s (olds rows) (puts rows) 
 few_from (At s Drops said ∷ rows) b p c q = goes s (olds rows) (puts rows) refl (few_from rows) b p c q
 few_from (At s (Puts op n) said ∷ rows) b p c q = stays s (syms.Literal op (Number n)) (olds rows) (puts rows) refl refl (λ e. never e) (λ e. never e) (few_from rows) b p c q
 few_from (At s Narrows said ∷ rows) b p c q = stays s (narrowed s) (olds rows) (puts rows) refl (narrowed_word s refl) (narrowed_frame s) (narrowed_jumps s) (few_from rows) b p c q
+few_from (At s Clears said ∷ rows) b p c q = stays s (cleared s) (olds rows) (puts rows) refl (cleared_word s refl) (cleared_frame s) (cleared_jumps s) (few_from rows) b p c q
+few_from (At s (Reads n) said ∷ rows) b p c q = stays s (reads_before n s) (olds rows) (puts rows) refl (read_word n s refl) (read_frame n s) (read_jumps n s) (few_from rows) b p c q
 
 pub routine_fewer : (rows : List Row) → most_words (puts rows) ≤ most_words (olds rows)
 routine_fewer rows = let few = few_from rows false false false false in omega arith

@@ -7,7 +7,7 @@
 
 ghost use Rattle.lean_prices.specs.Prices.{BlocksAreSteady, LeanIsDear, LeanIsPriced, LeanBlocksAreDear, LeanRoutinesArePriced};
 
-/// In each block of a certificate that passes the test of skips, a skip and the instruction behind it stay or go together.
+/// Each block of a certificate that passes the test of skips is steady.
 pub fn blocks_are_steady()
     ensures { BlocksAreSteady }
 {}

@@ -4,12 +4,15 @@ use crate::marks::is_marked;
 use crate::owners::Ground;
 use crate::rows::Act;
 use crate::search::bits::Bits;
-use crate::search::effects::{Effect, effect_of, no_effect, no_flags};
+use crate::search::effects::{Effect, effect_of, no_effect, zero_flag};
 use crate::search::known::Knowledge;
 use crate::walk::{is_label, same_label, same_name};
+use core_code::Byte;
 use pic_world::Root;
 use std::alloc::{AllocError, Global};
-use sym_code::{BlockName, Label, LiteralOperation, PlainOperation, Sym, SymBlock, Target};
+use sym_code::{
+    BlockName, Label, LiteralOperation, Operand, PlainOperation, Sym, SymBlock, Target,
+};
 
 /// Where the code goes on behind an instruction.
 #[derive(Clone, Copy, PartialEq, Eq, Debug)]
@@ -26,6 +29,13 @@ pub enum Way {
     Restore,
 }
 
+/// The numbers of bytes that stand side by side.
+#[derive(Clone, Copy, PartialEq, Eq, Debug)]
+pub struct Span {
+    pub first: usize,
+    pub end: usize,
+}
+
 /// An instruction of a block.
 #[derive(Clone, Copy)]
 pub struct Place {
@@ -33,14 +43,18 @@ pub struct Place {
     pub effect: Effect,
     pub way: Way,
     pub act: Act,
-    /// It counts, or is the last word of its block: it isn't left out.
+    /// It counts, or is the last word of its block: it isn't left out where something comes.
     pub fixed: bool,
+    /// It is the last word of its block.
+    pub last: bool,
     /// It is left out, and W of the code that is made holds its result.
     pub carried: bool,
     /// It is left out since what it writes is so already.
     pub needless: bool,
     /// The place of the first of the skips that stand one behind the other up to here.
     pub group: usize,
+    /// Where it stores W in a temporary byte: the variables of the same frame.
+    pub variables: Span,
 }
 
 /// W, flags and bytes: those that are read further on before they are written, or those that may differ.
@@ -141,20 +155,51 @@ impl Place {
                 to_w: self.carried,
                 ..no_effect()
             },
-            Act::Puts { op, .. } => Effect {
-                reads: None,
-                sets: match op {
-                    LiteralOperation::Movlw => no_flags(),
-                    _ => self.effect.sets,
+            Act::Puts { op, .. } => match op {
+                LiteralOperation::Movlw => Effect {
+                    to_w: true,
+                    ..no_effect()
                 },
-                ..self.effect
+                _ => Effect {
+                    reads: None,
+                    ..self.effect
+                },
             },
             Act::Narrows => Effect {
                 writes: None,
                 to_w: true,
                 ..self.effect
             },
+            Act::Clears => Effect {
+                uses_w: false,
+                sets: zero_flag(),
+                ..self.effect
+            },
+            Act::Reads { before } => Effect {
+                reads: self.read_before(before),
+                writes: None,
+                to_w: self.effect.to_w || self.effect.writes.is_some(),
+                ..self.effect
+            },
         }
+    }
+
+    // The byte so many bytes before its own.
+    fn read_before(&self, before: u16) -> Option<usize> {
+        match self.effect.reads {
+            Some(byte) => Some(byte.saturating_sub(before as usize)),
+            None => None,
+        }
+    }
+
+    /// It may skip what stands behind it, and stays.
+    pub fn stays_skip(&self) -> bool {
+        self.effect.skips
+            && match self.act {
+                Act::Keeps => true,
+                Act::Reads { .. } => true,
+                _ => false,
+            }
     }
 
     pub fn is_label(&self) -> bool {
@@ -228,6 +273,33 @@ fn way_of(blocks: &[SymBlock], list: &[Sym], sym: Sym) -> Way {
     }
 }
 
+// The variables of the frame in whose temporary byte W is stored.
+fn variables_near(variables: &[u64], effect: Effect, sym: Sym) -> Span {
+    let none = Span { first: 0, end: 0 };
+    let Sym::Movwf(file) = sym else {
+        return none;
+    };
+    let Operand::Byte(byte) = file else {
+        return none;
+    };
+    let Byte::Frame { copy, offset } = byte else {
+        return none;
+    };
+    let Some(number) = effect.writes else {
+        return none;
+    };
+    let Some(bytes) = variables.get(copy as usize) else {
+        return none;
+    };
+    let first = number.saturating_sub(offset as usize);
+    let end = first.saturating_add((*bytes).min(368) as usize);
+    if number < end {
+        none
+    } else {
+        Span { first, end }
+    }
+}
+
 // The place of the last instruction, in front of labels.
 fn last_word(list: &[Sym]) -> usize {
     let mut last = 0;
@@ -264,9 +336,11 @@ fn places_of(
             way,
             act: Act::Keeps,
             fixed: at == last || is_marked(variables, *sym),
+            last: at == last,
             carried: false,
             needless: false,
             group,
+            variables: variables_near(variables, effect, *sym),
         })?;
     }
     Ok(places)
@@ -327,6 +401,18 @@ impl Body {
         match self.known.get(at) {
             Some(known) => known.reached,
             None => false,
+        }
+    }
+
+    /// Whether the instruction of a place skips, as far as that is known.
+    pub fn way_at(&self, at: usize, place: &Place) -> Option<bool> {
+        match self.known.get(at) {
+            Some(known) => if known.reached {
+                known.way(place.sym, place.effect.reads)
+            } else {
+                None
+            },
+            None => None,
         }
     }
 

@@ -1,11 +1,15 @@
 //! Which instructions are left out, and which become others.
 
-use crate::behind::{is_number, literal_for};
+use crate::behind::is_number;
+use crate::clearing::may_clear;
+use crate::computing::{file_for, same_known};
+use crate::operations::literal_for;
 use crate::rows::Act;
 use crate::search::bodies::{Body, Live, Place, Summary, Way};
 use crate::search::effects::Effect;
-use crate::search::known::Knowledge;
-use sym_code::{FileOperation, Into, Literal, LiteralOperation, Sym};
+use crate::search::known::{BYTES, Knowledge};
+use crate::steady::leads_on;
+use sym_code::{FileOperation, Into, Literal, LiteralOperation, Operand, Sym};
 
 // Nothing that it writes is live behind it.
 fn is_dead(effect: Effect, after: Live) -> bool {
@@ -31,32 +35,50 @@ pub enum Aims {
     SameZero,
 }
 
-// A move or a join to W that leaves W as it is.
+// An operation on a byte that leaves W as it is.
 fn leaves_w(op: FileOperation, byte: usize, known: &Knowledge) -> bool {
     match op {
         FileOperation::Movf => known.held.has(byte),
-        FileOperation::Iorwf => is_number(known.value(byte), 0),
-        _ => false,
+        _ => known.stays(op, known.value(byte)),
     }
 }
 
+// An operation that leaves the byte as it is.
+fn leaves_byte(op: FileOperation, byte: usize, known: &Knowledge) -> bool {
+    let value = known.value(byte);
+    same_known(known.result(op, value), value)
+}
+
 fn is_number_in_w(op: LiteralOperation, value: Literal, known: &Knowledge) -> bool {
-    match op {
-        LiteralOperation::Movlw => match value {
-            Literal::Number(number) => is_number(known.number, number),
-            _ => false,
-        },
-        _ => false,
+    let Literal::Number(number) = value else {
+        return false;
+    };
+    match file_for(op) {
+        Some(file) => known.stays(file, Some(number)),
+        None => op == LiteralOperation::Movlw && is_number(known.number, number),
+    }
+}
+
+fn is_needless_file(
+    place: &Place,
+    op: FileOperation,
+    into: Into,
+    known: &Knowledge,
+    differs: Live,
+) -> bool {
+    let Some(byte) = place.effect.reads else {
+        return false;
+    };
+    match into {
+        Into::W => !differs.w && leaves_w(op, byte, known),
+        Into::File => !differs.bytes.has(byte) && leaves_byte(op, byte, known),
     }
 }
 
 // What it writes is so already on both machines.
 fn is_needless(place: &Place, known: &Knowledge, differs: Live) -> bool {
     match place.sym {
-        Sym::File { op, into, .. } => match place.effect.reads {
-            Some(byte) => into == Into::W && !differs.w && leaves_w(op, byte, known),
-            None => false,
-        },
+        Sym::File { op, into, .. } => is_needless_file(place, op, into, known, differs),
         Sym::Literal { op, value } => !differs.w && is_number_in_w(op, value, known),
         Sym::Movwf(_) => match place.effect.writes {
             Some(byte) => !differs.bytes.has(byte) && known.held.has(byte),
@@ -70,6 +92,28 @@ fn is_needless(place: &Place, known: &Knowledge, differs: Live) -> bool {
     }
 }
 
+// No flag that it writes is live behind it, but for Z, of which is asked apart.
+fn leaves_carries(effect: Effect, after: Live) -> bool {
+    !(effect.sets.dc && after.dc) && !(effect.sets.c && after.c)
+}
+
+fn leaves_flags(effect: Effect, after: Live) -> bool {
+    !(effect.sets.z && after.z) && leaves_carries(effect, after)
+}
+
+// The number that an operation makes, which may stand in its place.
+fn number_for(place: &Place, op: FileOperation, known: &Knowledge, after: Live) -> Option<Act> {
+    let byte = known.value(place.effect.reads?);
+    let value = known.result(op, byte)?;
+    if op == FileOperation::Movf || !leaves_flags(place.effect, after) {
+        return None;
+    }
+    Some(Act::Puts {
+        op: LiteralOperation::Movlw,
+        value,
+    })
+}
+
 // The operation on a number that may stand in its place.
 fn put_for(op: FileOperation, byte: usize, known: &Knowledge, after: Live) -> Option<Act> {
     let value = known.value(byte)?;
@@ -80,11 +124,51 @@ fn put_for(op: FileOperation, byte: usize, known: &Knowledge, after: Live) -> Op
     Some(Act::Puts { op: new, value })
 }
 
+// The byte may be cleared where 0 is stored.
+fn clear_for(file: Operand, known: &Knowledge, after: Live) -> Option<Act> {
+    if may_clear(file) && is_number(known.number, 0) && !after.z {
+        Some(Act::Clears)
+    } else {
+        None
+    }
+}
+
 fn put_at(place: &Place, known: &Knowledge, after: Live) -> Option<Act> {
     match place.sym {
         Sym::File { op, into, .. } => match into {
             Into::File => None,
-            Into::W => put_for(op, place.effect.reads?, known, after),
+            Into::W => match number_for(place, op, known, after) {
+                Some(act) => Some(act),
+                None => put_for(op, place.effect.reads?, known, after),
+            },
+        },
+        Sym::Movwf(file) => clear_for(file, known, after),
+        _ => None,
+    }
+}
+
+// The byte that may be read in the place of its copy.
+fn read_for(byte: usize, known: &Knowledge, differs: Live) -> Option<Act> {
+    let origin = known.origin(byte)?;
+    if differs.bytes.has(origin) || byte <= origin || byte >= BYTES {
+        return None;
+    }
+    Some(Act::Reads {
+        before: (byte - origin) as u16,
+    })
+}
+
+fn read_at(place: &Place, known: &Knowledge, differs: Live) -> Option<Act> {
+    match place.sym {
+        Sym::File { .. } => if place.effect.writes.is_none() {
+            read_for(place.effect.reads?, known, differs)
+        } else {
+            None
+        },
+        Sym::Bit { .. } => if place.effect.writes.is_none() {
+            read_for(place.effect.reads?, known, differs)
+        } else {
+            None
         },
         _ => None,
     }
@@ -121,18 +205,6 @@ impl Body {
         at
     }
 
-    // Whether something of such a run has to stay.
-    fn is_group_fixed(&self, group: usize, last: usize) -> bool {
-        for at in group..last.saturating_add(1) {
-            if let Some(place) = self.place(at) {
-                if place.fixed {
-                    return true;
-                }
-            }
-        }
-        false
-    }
-
     // Whether a run of skips with the instruction behind them can go as a whole.
     fn is_group_dead(&self, group: usize, last: usize, after: Live) -> bool {
         for at in group..last.saturating_add(1) {
@@ -156,9 +228,13 @@ impl Body {
         let differs = self.differs_at(at);
         match aims {
             Aims::Dead => false,
-            Aims::Same => !(place.effect.sets.z && after.z) && is_needless(place, &known, differs),
+            Aims::Same => leaves_flags(place.effect, after) && is_needless(place, &known, differs),
             Aims::SameZero => {
-                place.effect.to_w && known.zero && !differs.z && is_needless(place, &known, differs)
+                place.effect.to_w
+                    && known.zero
+                    && !differs.z
+                    && leaves_carries(place.effect, after)
+                    && is_needless(place, &known, differs)
             }
         }
     }
@@ -175,18 +251,38 @@ impl Body {
     }
 
     fn choose_alone(&mut self, at: usize, place: &Place, aims: Aims, after: Live) -> bool {
-        let alone = place.group == at && !place.effect.skips;
-        if alone && self.may_go(at, place, aims, after) {
+        let alone = !place.effect.skips || self.runs_on(at, place);
+        if alone && place.group == at && self.may_go(at, place, aims, after) {
             self.leave_out(at, aims != Aims::Dead);
+            self.part(at, place.group);
             return true;
         }
-        if place.act == Act::Keeps && aims == Aims::Same {
-            if let Some(act) = put_at(place, &self.known_at(at), after) {
+        place.act == Act::Keeps
+            && aims == Aims::Same
+            && (alone && self.put(at, place, after) || self.read_another(at, place))
+    }
+
+    // Another operation stands in its place.
+    fn put(&mut self, at: usize, place: &Place, after: Live) -> bool {
+        match put_at(place, &self.known_at(at), after) {
+            Some(act) => {
                 self.act(at, act);
-                return true;
+                self.part(at, place.group);
+                true
             }
+            None => false,
         }
-        false
+    }
+
+    // Another byte is read in its place.
+    fn read_another(&mut self, at: usize, place: &Place) -> bool {
+        match read_at(place, &self.known_at(at), self.differs_at(at)) {
+            Some(act) => {
+                self.act(at, act);
+                true
+            }
+            None => false,
+        }
     }
 
     fn leave_out(&mut self, at: usize, needless: bool) {
@@ -196,20 +292,71 @@ impl Body {
         }
     }
 
-    // Where nothing comes, a run of skips with the instruction behind them goes as a whole, too.
+    // Where nothing comes, a run of skips with the instruction behind them goes as a whole, too: what counts and what doesn't. The last
+    // word of the block waits for `shorten`.
     fn leave_unreached(&mut self, at: usize, group: usize) -> bool {
-        let goes = !self.is_group_fixed(group, self.group_end(at, group));
-        if goes {
-            self.act(at, Act::Drops);
+        let last = self.group_end(at, group);
+        let ends = match self.place(last) {
+            Some(end) => end.last,
+            None => true,
+        };
+        if ends {
+            return false;
         }
-        goes
+        if !self.comes_to(group) {
+            self.act(at, Act::Drops);
+            return true;
+        }
+        // A skip that is always gone goes with what stands behind it.
+        let pair = last == at && at == group.saturating_add(1) && self.is_decided(group);
+        if pair {
+            self.drop_group(group, at);
+        }
+        pair
+    }
+
+    // The instruction surely doesn't skip, and the one behind it leads on.
+    fn runs_on(&self, at: usize, place: &Place) -> bool {
+        let leads = match self.place(at.saturating_add(1)) {
+            Some(next) => leads_on(next.sym),
+            None => false,
+        };
+        leads && self.way_at(at, place) == Some(false)
+    }
+
+    // What stands behind a skip that doesn't stay is a run of its own.
+    fn part(&mut self, at: usize, group: usize) {
+        let next = at.saturating_add(1);
+        for later in next..self.places.len() {
+            if self.places[later].group != group {
+                return;
+            }
+            self.places[later].group = next;
+        }
+    }
+
+    // The instruction is a test that surely skips.
+    fn is_decided(&self, at: usize) -> bool {
+        match self.place(at) {
+            Some(place) => {
+                let way = self.way_at(at, &place);
+                !place.fixed
+                    && place.effect.silent
+                    && place.effect.skips
+                    && place.effect.writes.is_none()
+                    && !place.effect.to_w
+                    && way == Some(true)
+            }
+            None => false,
+        }
     }
 
     fn choose(&mut self, at: usize, place: &Place, aims: Aims, after: Live) -> bool {
-        if !self.known_at(at).reached {
-            return self.leave_unreached(at, place.group);
+        let reached = self.comes_to(at);
+        if !reached && self.leave_unreached(at, place.group) {
+            return true;
         }
-        let ends_group = !place.effect.skips && self.is_last(at, place.group);
+        let ends_group = !place.stays_skip() && self.is_last(at, place.group);
         if aims == Aims::Dead
             && place.group < at
             && ends_group
@@ -218,13 +365,15 @@ impl Body {
             self.drop_group(place.group, at);
             return true;
         }
-        self.choose_alone(at, place, aims, after)
+        reached && self.choose_alone(at, place, aims, after)
     }
 
     fn is_open(place: &Place) -> bool {
         match place.act {
             Act::Keeps => !place.is_label(),
             Act::Puts { .. } => true,
+            Act::Clears => true,
+            Act::Reads { .. } => place.effect.writes.is_none(),
             _ => false,
         }
     }
@@ -242,6 +391,29 @@ impl Body {
             self.renew(at, own, summaries);
         }
         changed
+    }
+
+    // Whether a word of the code that is made stands right in front of a place, and no label.
+    fn follows_word(&self, at: usize) -> bool {
+        for before in (0..at).rev() {
+            if let Some(place) = self.place(before) {
+                if !place.is_dropped() {
+                    return !place.is_label();
+                }
+            }
+        }
+        false
+    }
+
+    /// Leaves out the last word, with the skips in front of it, where nothing comes and the block ends by a word all the same.
+    pub fn shorten(&mut self) {
+        for at in 0..self.places.len() {
+            if let Some(place) = self.place(at) {
+                if place.last && !self.comes_to(at) && self.follows_word(place.group) {
+                    self.drop_group(place.group, at);
+                }
+            }
+        }
     }
 
     // The place of the move to W of a byte behind which the byte isn't wanted.
@@ -290,7 +462,7 @@ impl Body {
         if fits { Some(at) } else { None }
     }
 
-    fn narrow_at(&mut self, at: usize, own: usize, summaries: &[Summary]) -> bool {
+    fn narrow_at(&mut self, at: usize, own: usize, summaries: &[Summary], copies: bool) -> bool {
         let Some(place) = self.place(at) else {
             return false;
         };
@@ -307,9 +479,12 @@ impl Body {
         if place.effect.reads != Some(byte) || !self.known_at(at).reached {
             return false;
         }
+        let Some(act) = self.narrowed_at(at, byte, copies) else {
+            return false;
+        };
         match self.move_behind(at, byte, own, summaries) {
             Some(moved) => {
-                self.act(at, Act::Narrows);
+                self.act(at, act);
                 self.act(moved, Act::Drops);
                 if moved < self.places.len() {
                     self.places[moved].carried = true;
@@ -320,11 +495,20 @@ impl Body {
         }
     }
 
-    /// Lets results go to W whose bytes aren't wanted. Answers whether any did.
-    pub fn narrow(&mut self, own: usize, summaries: &[Summary]) -> bool {
+    // How the result of a place goes to W: of the byte of which the operand is a copy, or else of the operand itself.
+    fn narrowed_at(&self, at: usize, byte: usize, copies: bool) -> Option<Act> {
+        if copies {
+            read_for(byte, &self.known_at(at), self.differs_at(at))
+        } else {
+            Some(Act::Narrows)
+        }
+    }
+
+    /// Lets results go to W whose bytes aren't wanted, of copies or of others. Answers whether any did.
+    pub fn narrow(&mut self, own: usize, summaries: &[Summary], copies: bool) -> bool {
         let mut changed = false;
         for at in 0..self.places.len() {
-            changed = self.narrow_at(at, own, summaries) || changed;
+            changed = self.narrow_at(at, own, summaries, copies) || changed;
         }
         changed
     }

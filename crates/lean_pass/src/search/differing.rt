@@ -1,9 +1,10 @@
 //! What may differ between the machine that runs the given code and the one that runs what is made of it, by what is left out so far.
 
 use crate::rows::Act;
+use crate::search::bits::Bits;
 use crate::search::bodies::{Body, Live, Place, Summary, Way};
 use crate::search::effects::Effect;
-use sym_code::LiteralOperation;
+use sym_code::{BlockName, LiteralOperation};
 
 // Both write this.
 fn both(effect: Effect, before: Live) -> Live {
@@ -46,6 +47,8 @@ fn dropped(place: &Place, before: Live) -> Live {
     if place.needless {
         return Live {
             z: before.z || place.effect.sets.z,
+            dc: before.dc || place.effect.sets.dc,
+            c: before.c || place.effect.sets.c,
             ..before
         };
     }
@@ -53,10 +56,17 @@ fn dropped(place: &Place, before: Live) -> Live {
 }
 
 fn put(place: &Place, op: LiteralOperation, before: Live) -> Live {
-    let after = both(place.effect, before);
-    Live {
-        z: after.z || op == LiteralOperation::Movlw,
-        ..after
+    if op == LiteralOperation::Movlw {
+        let sets = place.effect.sets;
+        Live {
+            w: false,
+            z: before.z || sets.z,
+            dc: before.dc || sets.dc,
+            c: before.c || sets.c,
+            ..before
+        }
+    } else {
+        both(place.effect, before)
     }
 }
 
@@ -69,14 +79,32 @@ fn narrowed(place: &Place, before: Live) -> Live {
     after
 }
 
-// Behind a call nothing differs but what did before and what may where the called block returns.
+// Only one of them sets Z.
+fn cleared(place: &Place, before: Live) -> Live {
+    Live {
+        z: true,
+        ..both(place.effect, before)
+    }
+}
+
+// Another byte is read, and the result goes to W.
+fn read(place: &Place, before: Live) -> Live {
+    match place.effect.writes {
+        Some(_) => narrowed(place, before),
+        None => both(place.effect, before),
+    }
+}
+
+// Behind a call nothing differs but what did before, and what may where the called block returns of the bytes that it names.
 fn behind_call(callee: Option<usize>, before: Live, summaries: &[Summary]) -> Live {
     let Some(callee) = callee else {
         return Live::all();
     };
     match summaries.get(callee) {
         Some(summary) => Live {
-            bytes: before.bytes.join(summary.returned.bytes),
+            bytes: before
+                .bytes
+                .join(summary.returned.bytes.meet(summary.named)),
             ..summary.returned
         },
         None => Live::all(),
@@ -92,6 +120,8 @@ fn behind(place: &Place, before: Live, summaries: &[Summary]) -> Live {
         Act::Drops => dropped(place, before),
         Act::Puts { op, .. } => put(place, op, before),
         Act::Narrows => narrowed(place, before),
+        Act::Clears => cleared(place, before),
+        Act::Reads { .. } => read(place, before),
     }
 }
 
@@ -101,6 +131,14 @@ fn more(live: &mut Live, other: Live) -> bool {
     let changed = all != *live;
     *live = all;
     changed
+}
+
+// Nothing differs yet where main begins.
+fn is_main(name: BlockName) -> bool {
+    match name {
+        BlockName::Start => false,
+        BlockName::Copy(copy) => copy == 0,
+    }
 }
 
 impl Body {
@@ -121,8 +159,9 @@ impl Body {
 
     fn differ_next(&mut self, at: usize, place: &Place, after: Live) -> bool {
         let next = at.saturating_add(1);
-        let on = self.differ(next, after);
-        if place.effect.skips {
+        let way = self.way_at(at, place);
+        let on = way != Some(true) && self.differ(next, after);
+        if place.effect.skips && way != Some(false) {
             let past = self.word_from(next).saturating_add(1);
             self.differ(past, after) || on
         } else {
@@ -171,7 +210,18 @@ impl Body {
             *live = Live::nothing();
         }
         if self.begins {
-            self.differ(0, Live::all());
+            let first = if is_main(self.name) {
+                Bits::none()
+            } else {
+                Bits::all()
+            };
+            self.differ(
+                0,
+                Live {
+                    bytes: first,
+                    ..Live::all()
+                },
+            );
         }
     }
 }

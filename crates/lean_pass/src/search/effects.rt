@@ -1,9 +1,8 @@
 //! What instructions read and write.
 
-use crate::behind::{
-    Flags, flags_in, is_retlw, literal_flags, literal_uses, may_skip, uses_c, uses_w,
-};
+use crate::behind::{Flags, flags_in, literal_flags};
 use crate::keeping::is_status;
+use crate::operations::{is_retlw, literal_uses, may_skip, uses_c, uses_w};
 use crate::owners::{Aim, Ground};
 use sym_code::{
     BitOperation, FileOperation, Into, LiteralOperation, Operand, PlainOperation, Sym,
@@ -28,6 +27,14 @@ pub struct Effect {
 pub fn no_flags() -> Flags {
     Flags {
         z: false,
+        dc: false,
+        c: false,
+    }
+}
+
+pub fn zero_flag() -> Flags {
+    Flags {
+        z: true,
         dc: false,
         c: false,
     }
@@ -149,11 +156,7 @@ fn plain_effect(op: PlainOperation) -> Effect {
     match op {
         PlainOperation::Clrw => Effect {
             to_w: true,
-            sets: Flags {
-                z: true,
-                dc: false,
-                c: false,
-            },
+            sets: zero_flag(),
             silent: true,
             ..no_effect()
         },

@@ -1,9 +1,11 @@
 //! What is known of the machine that runs the given code.
 
-use crate::behind::is_number;
+use crate::behind::{flags_in, is_number};
+use crate::computing::{computed, file_for, leaves_w, same_known, way_of, way_of_bit};
 use crate::keeping::is_status;
 use crate::owners::{Aim, Ground};
 use crate::search::bits::Bits;
+use crate::search::bodies::{Place, Span};
 use sym_code::{
     FileOperation, Into, Literal, LiteralOperation, PlainOperation, Sym, is_bit_write, is_file,
 };
@@ -20,6 +22,9 @@ pub struct Knowledge {
     pub zero: bool,
     pub known: Bits,
     pub values: [u8; 368],
+    /// The bytes that are copies of variables, and of which.
+    pub copies: Bits,
+    pub origins: [u16; 368],
 }
 
 fn same_number(one: Option<u8>, other: Option<u8>) -> bool {
@@ -38,6 +43,8 @@ impl Knowledge {
             zero: false,
             known: Bits::none(),
             values: [0; 368],
+            copies: Bits::none(),
+            origins: [0; 368],
         }
     }
 
@@ -76,14 +83,17 @@ impl Knowledge {
             return other.reached;
         }
         let before = (self.number.is_some(), self.held, self.zero, self.known);
+        let copies = self.copies;
         if !same_number(self.number, other.number) {
             self.number = None;
         }
         self.held = self.held.meet(other.held);
         self.zero = self.zero && other.zero;
         self.known = self.known.meet(other.known);
+        self.copies = self.copies.meet(other.copies);
         self.forget_others(other);
-        self.number.is_some() != before.0
+        self.copies != copies
+            || self.number.is_some() != before.0
             || self.held != before.1
             || self.zero != before.2
             || self.known != before.3
@@ -94,6 +104,46 @@ impl Knowledge {
         for byte in 0..BYTES {
             if self.known.has(byte) && self.values[byte] != other.values[byte] {
                 self.known.take(byte);
+            }
+            if self.copies.has(byte) && self.origins[byte] != other.origins[byte] {
+                self.copies.take(byte);
+            }
+        }
+    }
+
+    /// The byte of which one is a copy.
+    pub fn twin(&self, byte: usize) -> Option<u16> {
+        if byte < BYTES && self.copies.has(byte) {
+            Some(self.origins[byte])
+        } else {
+            None
+        }
+    }
+
+    pub fn origin(&self, byte: usize) -> Option<usize> {
+        match self.twin(byte) {
+            Some(origin) => Some(origin as usize),
+            None => None,
+        }
+    }
+
+    // A byte becomes another one, so nothing is a copy of it any longer.
+    fn forget_copies(&mut self, written: usize) {
+        self.copies.take(written);
+        for byte in 0..BYTES {
+            if self.origins[byte] as usize == written {
+                self.copies.take(byte);
+            }
+        }
+    }
+
+    // W is stored in a byte: it may be a copy of a variable from now on.
+    fn copy(&mut self, byte: usize, variables: Span) {
+        for origin in variables.first..variables.end {
+            if origin < BYTES && byte < BYTES && origin != byte && self.held.has(origin) {
+                self.copies.put(byte);
+                self.origins[byte] = origin as u16;
+                return;
             }
         }
     }
@@ -120,10 +170,12 @@ impl Knowledge {
             Aim::ToByte(byte) => {
                 self.held.take(byte);
                 self.known.take(byte);
+                self.forget_copies(byte);
             }
             Aim::Through => {
                 self.held = Bits::none();
                 self.known = Bits::none();
+                self.copies = Bits::none();
             }
             _ => {}
         }
@@ -135,29 +187,76 @@ impl Knowledge {
         if let Aim::ToByte(byte) = aim {
             self.number = self.value(byte);
             self.held.put(byte);
+            if let Some(origin) = self.origin(byte) {
+                self.held.put(origin);
+            }
+        }
+    }
+
+    // What is known of the byte that an operand leads to.
+    fn number_at(&self, aim: Aim) -> Option<u8> {
+        match aim {
+            Aim::ToByte(byte) => self.value(byte),
+            _ => None,
+        }
+    }
+
+    /// What an operation on W and a byte of which this is known makes.
+    pub fn result(&self, op: FileOperation, byte: Option<u8>) -> Option<u8> {
+        computed(op, self.number, byte)
+    }
+
+    /// W stays what it is behind such an operation.
+    pub fn stays(&self, op: FileOperation, byte: Option<u8>) -> bool {
+        leaves_w(op, byte) || same_known(self.result(op, byte), self.number)
+    }
+
+    fn with_number(&mut self, number: Option<u8>, zero: bool) {
+        self.number = number;
+        self.held = match number {
+            Some(number) => self.holding(number),
+            None => Bits::none(),
+        };
+        self.zero = zero;
+    }
+
+    fn worked(&mut self, op: FileOperation, byte: Option<u8>) {
+        if leaves_w(op, byte) {
+            self.zero = true;
+        } else {
+            let number = self.result(op, byte);
+            self.with_number(number, flags_in(op).z);
         }
     }
 
     fn to_w(&mut self, op: FileOperation, aim: Aim) {
         match op {
             FileOperation::Movf => self.moved(aim),
-            FileOperation::Iorwf => match aim {
-                Aim::ToByte(byte) => {
-                    if is_number(self.value(byte), 0) {
-                        self.zero = true;
-                    } else {
-                        self.without_w();
-                    }
-                }
-                _ => self.without_w(),
-            },
-            _ => self.without_w(),
+            _ => {
+                let byte = self.number_at(aim);
+                self.worked(op, byte);
+            }
         }
     }
 
-    fn stored(&mut self, aim: Aim) {
+    // A number that may be known is written.
+    fn written(&mut self, aim: Aim, number: Option<u8>) {
+        self.zero = false;
         match aim {
             Aim::ToByte(byte) => {
+                self.held.take(byte);
+                self.forget_copies(byte);
+                self.learn(byte, number);
+            }
+            _ => self.lost(aim),
+        }
+    }
+
+    fn stored(&mut self, aim: Aim, variables: Span) {
+        match aim {
+            Aim::ToByte(byte) => {
+                self.forget_copies(byte);
+                self.copy(byte, variables);
                 self.held.put(byte);
                 let number = self.number;
                 self.learn(byte, number);
@@ -166,24 +265,17 @@ impl Knowledge {
         }
     }
 
-    fn cleared(&mut self, aim: Aim) {
-        self.zero = false;
-        match aim {
-            Aim::ToByte(byte) => {
-                self.held.take(byte);
-                self.learn(byte, Some(0));
-            }
-            _ => self.lost(aim),
-        }
-    }
-
     fn literal(&mut self, op: LiteralOperation, value: Literal) {
-        self.without_w();
-        if let LiteralOperation::Movlw = op {
-            if let Literal::Number(number) = value {
-                self.number = Some(number);
-                self.held = self.holding(number);
-            }
+        let Literal::Number(number) = value else {
+            self.without_w();
+            return;
+        };
+        match op {
+            LiteralOperation::Movlw => self.with_number(Some(number), false),
+            _ => match file_for(op) {
+                Some(file) => self.worked(file, Some(number)),
+                None => self.without_w(),
+            },
         }
     }
 
@@ -191,21 +283,34 @@ impl Knowledge {
         match into {
             Into::W => self.to_w(op, aim),
             Into::File => {
-                self.zero = false;
-                self.lost(aim);
+                let number = self.result(op, self.number_at(aim));
+                self.written(aim, number);
             }
         }
     }
 
-    /// What is known behind an instruction.
-    pub fn pass(&mut self, ground: &Ground, inside: bool, sym: Sym) {
+    /// Whether an instruction that may skip does so, as far as that is known. Given is the byte that it reads.
+    pub fn way(&self, sym: Sym, reads: Option<usize>) -> Option<bool> {
+        let byte = match reads {
+            Some(byte) => self.value(byte),
+            None => None,
+        };
         match sym {
+            Sym::File { op, .. } => way_of(op, byte),
+            Sym::Bit { op, bit, .. } => way_of_bit(op, byte, bit),
+            _ => Some(false),
+        }
+    }
+
+    /// What is known behind an instruction.
+    pub fn pass(&mut self, ground: &Ground, inside: bool, place: &Place) {
+        match place.sym {
             Sym::File { op, file, into } => {
                 let writes = is_file(into);
                 self.file(op, ground.aim(inside, writes, file), into);
             }
-            Sym::Movwf(file) => self.stored(ground.aim(inside, true, file)),
-            Sym::Clrf(file) => self.cleared(ground.aim(inside, true, file)),
+            Sym::Movwf(file) => self.stored(ground.aim(inside, true, file), place.variables),
+            Sym::Clrf(file) => self.written(ground.aim(inside, true, file), Some(0)),
             Sym::Bit { op, file, .. } => {
                 if is_bit_write(op) {
                     if is_status(file) {

@@ -30,10 +30,10 @@ impl Body {
         }
     }
 
-    fn go_next(&mut self, at: usize, place: &Place, known: &Knowledge) -> bool {
+    fn go_next(&mut self, at: usize, place: &Place, known: &Knowledge, way: Option<bool>) -> bool {
         let next = at.saturating_add(1);
-        let on = self.come(next, known);
-        if place.effect.skips {
+        let on = way != Some(true) && self.come(next, known);
+        if place.effect.skips && way != Some(false) {
             let past = self.word_from(next).saturating_add(1);
             self.come(past, known) || on
         } else {
@@ -46,6 +46,7 @@ impl Body {
         at: usize,
         place: &Place,
         known: &Knowledge,
+        way: Option<bool>,
         ends: &[Knowledge],
     ) -> bool {
         match place.way {
@@ -53,11 +54,11 @@ impl Body {
                 Some(target) => self.come(target, known),
                 None => false,
             },
-            Way::Call(callee) => self.go_next(at, place, &ends_at(ends, callee)),
+            Way::Call(callee) => self.go_next(at, place, &ends_at(ends, callee), Some(false)),
             Way::Return => self.ends.come(known),
             Way::Stop => false,
             Way::Restore => false,
-            _ => self.go_next(at, place, known),
+            _ => self.go_next(at, place, known, way),
         }
     }
 
@@ -70,8 +71,9 @@ impl Body {
         if !known.reached {
             return false;
         }
-        known.pass(ground, self.inside, place.sym);
-        self.go_behind(at, place, &known, ends)
+        let way = known.way(place.sym, place.effect.reads);
+        known.pass(ground, self.inside, place);
+        self.go_behind(at, place, &known, way, ends)
     }
 
     fn go_through(&mut self, ground: &Ground, ends: &[Knowledge]) -> bool {

@@ -53,11 +53,14 @@ impl Body {
             Way::Stop => Live::nothing(),
             Way::Restore => summary_at(summaries, own).front,
             _ => {
-                if place.effect.skips {
-                    let past = self.word_from(next).saturating_add(1);
-                    self.live_at(next).join(self.live_at(past))
-                } else {
+                let past = self.word_from(next).saturating_add(1);
+                let way = self.way_at(at, place);
+                if !place.effect.skips || way == Some(false) {
                     self.live_at(next)
+                } else if way == Some(true) {
+                    self.live_at(past)
+                } else {
+                    self.live_at(next).join(self.live_at(past))
                 }
             }
         }

@@ -78,6 +78,14 @@ fn values_of(alloc: Global, known: &Knowledge) -> Result<Vec<Option<u8>>, AllocE
     Ok(values)
 }
 
+fn twins_of(alloc: Global, known: &Knowledge) -> Result<Vec<Option<u16>>, AllocError> {
+    let mut twins = Vec::new(alloc);
+    for byte in 0..length_of(known.copies) {
+        twins.push(known.twin(byte))?;
+    }
+    Ok(twins)
+}
+
 fn note_of(
     alloc: Global,
     known: &Knowledge,
@@ -91,6 +99,7 @@ fn note_of(
             held: set_of(alloc, known.held)?,
             zero: known.zero,
             known: values_of(alloc, known)?,
+            twins: twins_of(alloc, known)?,
         },
         apart: Apart {
             w: !live.w,
@@ -107,6 +116,7 @@ fn note_of(
 fn carried(place: &Place, carry: Option<usize>) -> Option<usize> {
     match place.act {
         Act::Narrows => place.effect.writes,
+        Act::Reads { .. } => place.effect.writes,
         Act::Drops => if place.carried { None } else { carry },
         _ => None,
     }
@@ -182,13 +192,22 @@ fn search_all(bodies: &mut [Body], summaries: &mut [Summary]) -> bool {
     find_live(bodies, summaries)
 }
 
+fn shorten_all(bodies: &mut [Body]) {
+    for body in bodies.iter_mut() {
+        if is_searched(body.name) {
+            body.shorten();
+        }
+    }
+}
+
 // One kind at a time. Answers whether anything went.
 fn search_once(bodies: &mut [Body], summaries: &mut [Summary]) -> bool {
     improve_all(bodies, Aims::Dead, summaries)
         || (find_differing(bodies, summaries)
             && (improve_all(bodies, Aims::Same, summaries)
                 || improve_all(bodies, Aims::SameZero, summaries)))
-        || narrow_all(bodies, summaries)
+        || narrow_all(bodies, summaries, true)
+        || narrow_all(bodies, summaries, false)
 }
 
 fn improve_all(bodies: &mut [Body], aims: Aims, summaries: &[Summary]) -> bool {
@@ -201,11 +220,12 @@ fn improve_all(bodies: &mut [Body], aims: Aims, summaries: &[Summary]) -> bool {
     changed
 }
 
-fn narrow_all(bodies: &mut [Body], summaries: &[Summary]) -> bool {
+// First of copies, since what is read in their place may no longer go.
+fn narrow_all(bodies: &mut [Body], summaries: &[Summary], copies: bool) -> bool {
     let mut changed = false;
     for own in 0..bodies.len() {
         if is_searched(bodies[own].name) {
-            changed = bodies[own].narrow(own, summaries) || changed;
+            changed = bodies[own].narrow(own, summaries, copies) || changed;
         }
     }
     changed
@@ -272,6 +292,7 @@ pub fn search(
     if !found {
         return Ok(None);
     }
+    shorten_all(&mut bodies);
     Ok(Some(Plans {
         blocks: all_plans(alloc, &bodies, &summaries, main, isr)?,
         rest: set_of(alloc, rest_of(&bodies, &summaries, handler, isr))?,
