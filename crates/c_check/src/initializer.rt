@@ -13,7 +13,8 @@ ghost use Rattle.c_operate.specs.Terms.{operand_of};
 ghost use Rattle.c_check.specs.Views.{any_slot, begun_of, list_closed};
 
 use crate::parts::{put_text, put_value};
-use crate::slots::{Sink, Slot, count_items, has_more, part};
+use crate::slot::Slot;
+use crate::slots::{Sink, count_items, has_more, part};
 use c_operate::checker::Checker;
 use c_operate::error::{CheckError, Kind, refused};
 use c_operate::term::{Operand, used};
@@ -70,7 +71,7 @@ fn initialize(
             others,
             ..
         } => {
-            let part = part(&checker.types, slot, 0)?;
+            let part = part(&checker.types, slot, 0);
             initialize(first, checker, part, true, sink)?;
             let count = items(others, checker, slot, sink)?;
             close_list(&checker.types, slot, count, sink, *opening)
@@ -91,7 +92,7 @@ fn items(
 {
     let mut count: usize = 1;
     for next in others {
-        let part = part(&checker.types, slot, count)?;
+        let part = part(&checker.types, slot, count);
         initialize(&next.init, checker, part, true, sink)?;
         count += 1;
     }
@@ -108,7 +109,7 @@ fn close_list(
 ) -> Result<(), CheckError>
     ensures { (known : Known) → Answers (λ _. begun_of sink.new) result (types_in types.now known) (list_closed (any_slot slot) count line (begun_of sink.old) (types_in types.now known)) }
 {
-    if has_more(types, slot, count)? {
+    if has_more(types, slot, count) {
         return refused(Kind::Initializer, line);
     }
     count_items(slot, count, sink);

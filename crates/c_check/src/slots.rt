@@ -1,25 +1,18 @@
 //! What an initializer initializes, part by part (ISO/IEC 9899:1990, 6.5.7).
 
-ghost use Rattle.std.specs.Prelude.{◌≡◌, ◌+◌, ◌*◌, ◌&&◌, not, nat_le, if◌then◌else◌, nat_eq, slice_get, Some, None, IfErr, IfOk};
+ghost use Rattle.std.specs.Prelude.{◌≡◌, ◌+◌, ◌*◌, ◌<◌, ◌^◌, ◌&&◌, not, nat_le, if◌then◌else◌, nat_eq, slice_get, Some, None};
+ghost use Rattle.c_typed.specs.Sound as stated;
 ghost use Rattle.type_rules.specs.Initializers as lists;
 ghost use Rattle.type_rules.specs.Known.{Known};
 ghost use Rattle.type_rules.specs.Rows.{fields_of, like, target_of};
 ghost use Rattle.type_rules.specs.Slots as rule;
 ghost use Rattle.c_operate.specs.Tables.{types_in};
-ghost use Rattle.c_operate.specs.declared.error.CheckError.TheVariants.{NoMemory};
 ghost use Rattle.c_check.specs.Views.{any_slot, begun_of, slot_of};
 
-use c_operate::error::CheckError;
-use c_operate::types::{Types, like};
-use c_typed::{Initial, Qualified, TItem, Ty};
+use crate::slot::Slot;
+use c_operate::types::{Types, kept, like};
+use c_typed::{Initial, TItem, Ty};
 use std::alloc::Global;
-
-/// A part of an object: its type, and how many bytes of the object stand before it.
-#[derive(Clone, Copy)]
-pub(crate) struct Slot {
-    pub ty: Qualified,
-    pub offset: u64,
-}
 
 /// What the initializer of an object gives so far: bytes of a static object, or items of a local.
 /// `length` is that of an array without one, and `line` is that of the declarator.
@@ -47,50 +40,39 @@ impl Sink {
     }
 }
 
-// How many bytes stand before what has so many elements of this size before it. No memory has an object that is too
-// long for such a number.
-fn behind(start: u64, bytes: u64, count: usize) -> Result<u64, CheckError>
-    ensures ok { IfOk result (λ offset. offset ≡ start + bytes * count) }
-    ensures err { IfErr result (λ e. e ≡ NoMemory) }
+// How many bytes stand before what has so many elements of this size before it.
+#[tactic(auto, using(crate::proofs::Parting::kept_near))]
+fn behind(start: u64, bytes: u64, count: usize) -> u64
+    ensures kept { result ≡ stated.kept (start + bytes * count) }
+    ensures near { result < 2 ^ 63 }
 {
-    match u64::try_from(start as u128 + bytes as u128 * count as u128) {
-        Ok(offset) => Ok(offset),
-        Err(_) => Err(CheckError::NoMemory),
-    }
+    kept(start as u128 + bytes as u128 * count as u128)
 }
 
-fn element(types: &Types, slot: Slot, row: usize, number: usize) -> Result<Slot, CheckError>
-    ensures ok { (known : Known) → IfOk result (λ s. slot_of s ≡ rule.element_slot (types_in types.now known) (slot_of slot) (like slot.ty (target_of (types_in types.now known) row).ty) number) }
-    ensures err { IfErr result (λ e. e ≡ NoMemory) }
+fn element(types: &Types, slot: Slot, row: usize, number: usize) -> Slot
+    ensures { (known : Known) → slot_of result ≡ rule.element_slot (types_in types.now known) (slot_of slot) (like slot.ty (target_of (types_in types.now known) row).ty) number }
 {
     let ty = like(slot.ty, types.target(row).ty);
-    Ok(Slot {
+    Slot {
         ty,
-        offset: behind(slot.offset, types.bytes_of(ty.ty), number)?,
-    })
-}
-
-fn member(
-    types: &Types,
-    slot: Slot,
-    structure: usize,
-    number: usize,
-) -> Result<Option<Slot>, CheckError>
-    ensures ok { (known : Known) → IfOk result (λ s. any_slot s ≡ rule.member_slot slot.offset (slice_get (fields_of (types_in types.now known) structure) number)) }
-    ensures err { IfErr result (λ e. e ≡ NoMemory) }
-{
-    match types.member_at(structure, number) {
-        Some(field) => Ok(Some(Slot {
-            ty: field.ty,
-            offset: behind(slot.offset, field.offset, 1)?,
-        })),
-        None => Ok(None),
+        offset: behind(slot.offset, types.bytes_of(ty.ty), number),
     }
 }
 
-fn part_of(types: &Types, slot: Slot, number: usize) -> Result<Option<Slot>, CheckError>
-    ensures ok { (known : Known) → IfOk result (λ s. any_slot s ≡ rule.part_by (types_in types.now known) (slot_of slot) slot.ty.ty number) }
-    ensures err { IfErr result (λ e. e ≡ NoMemory) }
+fn member(types: &Types, slot: Slot, structure: usize, number: usize) -> Option<Slot>
+    ensures { (known : Known) → any_slot result ≡ rule.member_slot slot.offset (slice_get (fields_of (types_in types.now known) structure) number) }
+{
+    match types.member_at(structure, number) {
+        Some(field) => Some(Slot {
+            ty: field.ty,
+            offset: behind(slot.offset, field.offset, 1),
+        }),
+        None => None,
+    }
+}
+
+fn part_of(types: &Types, slot: Slot, number: usize) -> Option<Slot>
+    ensures { (known : Known) → any_slot result ≡ rule.part_by (types_in types.now known) (slot_of slot) slot.ty.ty number }
 {
     match slot.ty.ty {
         Ty::Array {
@@ -99,13 +81,13 @@ fn part_of(types: &Types, slot: Slot, number: usize) -> Result<Option<Slot>, Che
             ..
         } => {
             if is_past(length, number) {
-                Ok(None)
+                None
             } else {
-                Ok(Some(element(types, slot, row, number)?))
+                Some(element(types, slot, row, number))
             }
         }
         Ty::Struct(structure) => member(types, slot, structure, number),
-        Ty::Void | Ty::Int(_) | Ty::Pointer(_) => Ok(scalar_part(slot, number)),
+        Ty::Void | Ty::Int(_) | Ty::Pointer(_) => scalar_part(slot, number),
     }
 }
 
@@ -124,27 +106,21 @@ fn scalar_part(slot: Slot, number: usize) -> Option<Slot>
 }
 
 /// The part of this number, from 0. An array without a length has any.
-pub(crate) fn part(
-    types: &Types,
-    slot: Option<Slot>,
-    number: usize,
-) -> Result<Option<Slot>, CheckError>
-    ensures ok { (known : Known) → IfOk result (λ s. any_slot s ≡ rule.part (types_in types.now known) (any_slot slot) number) }
-    ensures err { IfErr result (λ e. e ≡ NoMemory) }
+pub(crate) fn part(types: &Types, slot: Option<Slot>, number: usize) -> Option<Slot>
+    ensures { (known : Known) → any_slot result ≡ rule.part (types_in types.now known) (any_slot slot) number }
 {
     match slot {
         Some(slot) => part_of(types, slot, number),
-        None => Ok(None),
+        None => None,
     }
 }
 
 /// Whether a list of so many items has one more than there are parts.
-pub(crate) fn has_more(types: &Types, slot: Option<Slot>, count: usize) -> Result<bool, CheckError>
-    ensures ok { (known : Known) → IfOk result (λ more. more ≡ lists.has_more (types_in types.now known) (any_slot slot) count) }
-    ensures err { IfErr result (λ e. e ≡ NoMemory) }
+pub(crate) fn has_more(types: &Types, slot: Option<Slot>, count: usize) -> bool
+    ensures { (known : Known) → result ≡ lists.has_more (types_in types.now known) (any_slot slot) count }
 {
-    let last = part(types, slot, count.saturating_sub(1))?;
-    Ok(slot.is_some() && !last.is_some())
+    let last = part(types, slot, count.saturating_sub(1));
+    slot.is_some() && !last.is_some()
 }
 
 fn is_unsized(ty: Ty) -> bool

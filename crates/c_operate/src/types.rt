@@ -114,9 +114,9 @@ pub fn like(whole: Qualified, ty: Ty) -> Qualified
     }
 }
 
-// A number of bytes is exact below 2 to the 40. Beyond that only its rest modulo 65,536 is kept, which is what
-// `sizeof` shows of it.
-fn kept(size: u128) -> u64
+/// A number of bytes as it is kept: exact below 2 to the 40. Beyond that only its rest modulo 65,536 counts, which is what
+/// `sizeof` shows of it.
+pub fn kept(size: u128) -> u64
     ensures { result ≡ stated.kept size }
 {
     const EXACT: u128 = 0x100_0000_0000;

@@ -8,6 +8,7 @@ use Rattle.c_ints.specs.declared.types.IntTy.TheVariants as int
 use Rattle.c_token.specs.Constant.{element_at}
 use Rattle.c_tree.specs.Words.{Symbol}
 use Rattle.c_typed.specs.Sameness.{same_type, is_scalar}
+use Rattle.c_typed.specs.Sound.{kept}
 use Rattle.c_typed.specs.Trees as typed
 use Rattle.c_typed.specs.Trees.{Expression, Place, Item}
 use Rattle.c_typed.specs.Types.{type_of}
@@ -26,7 +27,7 @@ use Rattle.type_rules.specs.Conversions.{may_be_assigned, assigned}
 use Rattle.type_rules.specs.Writes.{structure_read}
 use Rattle.type_rules.specs.Constants.{number_of}
 
--- a part of an object, and how many bytes of the object stand before it
+-- A part of an object, and how many bytes of the object stand before it, counted as sizes are: exactly where an object may be as long.
 pub record Slot : Type 0 where
   pub ty : Qualified
   pub offset : ℕ
@@ -47,10 +48,10 @@ nothing_begun static_object line = record { static_object = static_object; initi
 
 abbrev pub member_slot : ℕ → Option (List ℕ × Field) → Option Slot
 member_slot offset None = None
-member_slot offset (Some m) = Some (record { ty = (m.1).ty; offset = offset + (m.1).offset })
+member_slot offset (Some m) = Some (record { ty = (m.1).ty; offset = kept (offset + (m.1).offset) })
 
 abbrev pub element_slot : Known → Slot → Qualified → ℕ → Slot
-element_slot known slot ty n = record { ty = ty; offset = slot.offset + bytes_of known ty.ty * n }
+element_slot known slot ty n = record { ty = ty; offset = kept (slot.offset + bytes_of known ty.ty * n) }
 
 -- Part n: an element, of an array without a length any; a member; and of a scalar the scalar itself.
 abbrev pub part_by : Known → Slot → Ty → ℕ → Option Slot

@@ -3,5 +3,5 @@ use Rattle.c_check.specs.Views.{slot_of}
 use Rattle.c_check.proofs.Parting.{element_is}
 use Rattle.c_check.proofs.slots.element.Goals as goal
 
-pub returns-clause-ok : goal.returns-clause-ok
-returns-clause-ok c = λ known. element_is (types_in c.args.types.now known) (slot_of c.args.slot) c.like-ty.result c.target.result c.bytes_of.result c.in_ok-behind.field-0 c.args.number c.args.row c.like-ty.ensures (c.target.ensures known) (c.bytes_of.ensures known) c.in_ok-behind.ensures.ok
+pub returns : goal.returns
+returns c = λ known. element_is (types_in c.args.types.now known) (slot_of c.args.slot) c.like-ty.result c.target.result c.bytes_of.result c.behind.result c.args.number c.args.row c.like-ty.ensures (c.target.ensures known) (c.bytes_of.ensures known) c.behind.ensures.kept
