@@ -13,6 +13,3 @@ mod selecting;
 
 pub use ready::can_select;
 pub use selecting::{put_made, selects};
-
-#[cfg(test)]
-mod tests;

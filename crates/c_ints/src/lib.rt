@@ -14,6 +14,3 @@ mod value;
 pub use operators::{BinOp, UnOp, apply, convert, unary};
 pub use types::{IntTy, constant, promote, size, usual};
 pub use value::Value;
-
-#[cfg(test)]
-mod tests;

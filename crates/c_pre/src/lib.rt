@@ -29,6 +29,3 @@ pub enum PreError {
     /// On this line the tokens left and the names replaced come to be over 262,144.
     Tokens { line: u32 },
 }
-
-#[cfg(test)]
-mod tests;

@@ -34,6 +34,3 @@ pub fn longest_token()
     ensures each { (text : List ℕ) (tokens : List Tok) → tokens_of text ≡ Ok tokens → All (IsLongestIn text) tokens }
     ensures gaps { (text : List ℕ) (tokens : List Tok) → tokens_of text ≡ Ok tokens → IsCut text 0 tokens }
 {}
-
-#[cfg(test)]
-mod tests;

@@ -12,6 +12,8 @@ mod expressions;
 #[cfg(test)]
 mod initial_values;
 #[cfg(test)]
+mod integers;
+#[cfg(test)]
 mod statements;
 #[cfg(test)]
 mod trees;

@@ -13,4 +13,6 @@ pub fn worked_examples()
 {}
 
 #[cfg(test)]
+mod steps;
+#[cfg(test)]
 mod tests;

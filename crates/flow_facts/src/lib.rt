@@ -18,6 +18,3 @@ mod walk;
 
 pub use laws::thinning_keeps;
 pub use thinning::{thinned, thinned_plainly};
-
-#[cfg(test)]
-mod tests;

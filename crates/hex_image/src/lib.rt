@@ -15,8 +15,6 @@ ghost use Rattle.pic_chip.specs.Words.{AreWords};
 
 mod given;
 mod read;
-#[cfg(test)]
-mod read_tests;
 
 use pic_chip::Image;
 use pic_chip::image::BLANK;
@@ -139,35 +137,4 @@ fn checksum(bytes: &[u8]) -> u8
         sum = sum.wrapping_add(*byte);
     }
     0u8.wrapping_sub(sum)
-}
-
-#[cfg(test)]
-mod tests {
-    use super::*;
-    use std::test::Fail;
-
-    #[test]
-    fn erased_blocks_are_left_out(rt: HostRuntime) -> Result<(), Fail> {
-        let mut image = Image::blank(rt.alloc())?;
-        image.set(0, 0x2805);
-        image.set(7, 0x30a5);
-        image.set(8, 0x0063);
-        image.set(2048, 0x0008);
-        image.set(8191, 0x0000);
-        let text = write_hex(rt.alloc(), &image)?;
-        let wanted = b":020000040000FA\n\
-            :100000000528FF3FFF3FFF3FFF3FFF3FFF3FA5307A\n\
-            :100010006300FF3FFF3FFF3FFF3FFF3FFF3FFF3FCB\n\
-            :101000000800FF3FFF3FFF3FFF3FFF3FFF3FFF3F26\n\
-            :103FF000FF3FFF3FFF3FFF3FFF3FFF3FFF3F00000F\n\
-            :00000001FF\n";
-        assert_eq!(rt; text.as_slice(), wanted.as_slice());
-        let erased = write_hex(rt.alloc(), &Image::blank(rt.alloc())?)?;
-        assert_eq!(rt;
-            erased.as_slice(),
-            b":020000040000FA\n:00000001FF\n".as_slice()
-        );
-        one_content();
-        Ok(())
-    }
 }

@@ -13,6 +13,3 @@ pub use host::{Host, HostError};
 pub use memory::{Fail, MemoryHost};
 pub use real::RealHost;
 pub use whole::{read_whole, write_whole};
-
-#[cfg(test)]
-mod tests;

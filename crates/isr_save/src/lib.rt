@@ -6,6 +6,3 @@
 mod start;
 
 pub use start::start_block;
-
-#[cfg(test)]
-mod tests;

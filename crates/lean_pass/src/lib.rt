@@ -31,6 +31,3 @@ mod walk;
 pub use pass::lean;
 pub use rows::{Act, Apart, ByteSet, Facts, LeanBlock, Note, Row, Sketch};
 pub use testing::is_lean;
-
-#[cfg(test)]
-mod tests;

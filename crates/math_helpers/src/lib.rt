@@ -19,7 +19,5 @@ mod product;
 mod routine;
 mod shift;
 mod steps;
-#[cfg(test)]
-mod tests;
 
 pub use routine::helper;

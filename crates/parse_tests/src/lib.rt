@@ -6,8 +6,12 @@
 #[cfg(test)]
 mod cases;
 #[cfg(test)]
+mod directives;
+#[cfg(test)]
 mod front;
 #[cfg(test)]
 mod limits;
+#[cfg(test)]
+mod tokens;
 #[cfg(test)]
 mod type_names;

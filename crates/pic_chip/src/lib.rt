@@ -28,6 +28,3 @@ pub struct Start {
     pub flags: u8,
     pub ram: [u8; 368],
 }
-
-#[cfg(test)]
-mod tests;

@@ -71,6 +71,3 @@ pub fn one_content()
 pub fn worked_example()
     ensures { IsMapFile example_text example_map }
 {}
-
-#[cfg(test)]
-mod tests;

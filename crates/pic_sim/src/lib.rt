@@ -27,6 +27,3 @@ pub fn runs_go_on()
     ensures by_script { GoesOnByScript }
     ensures stops { StopsForGood }
 {}
-
-#[cfg(test)]
-mod tests;

@@ -25,6 +25,3 @@ pub fn one_content()
 pub fn worked_example()
     ensures { IsScriptFile example_text example_script }
 {}
-
-#[cfg(test)]
-mod tests;

@@ -10,8 +10,6 @@ mod control;
 mod loops;
 mod pieces;
 mod sized;
-#[cfg(test)]
-mod tests;
 
 pub use control::{Ending, Wide, select_body, select_byte, select_with};
 pub use loops::Loops;

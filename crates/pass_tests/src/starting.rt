@@ -4,8 +4,8 @@ ghost use Rattle.std.specs.Prelude.{◌≤◌, length, IfOk};
 ghost use Rattle.std.specs.List.{All};
 ghost use Rattle.isr_save.specs.Start.{HasNumberedBytes};
 
-use crate::start_block;
 use core_code::{Byte, CoreProgram, FirstByte};
+use isr_save::start_block;
 use std::alloc::{AllocError, Global};
 use sym_code::{
     BlockName, FileOperation, Into, Label, Literal, LiteralOperation, Operand, PlainOperation,

@@ -1,7 +1,7 @@
 //! Blocks of code, and which selects in them need not be.
 
-use crate::thinned;
 use core_code::Byte;
+use flow_facts::thinned;
 use std::alloc::{AllocError, Global};
 use sym_code::{
     BankBit, BlockName, Label, Operand, PageBit, PlainOperation, Sym, SymBlock, SymProgram, Target,

@@ -1,8 +1,8 @@
 //! The routines on a small machine, and the words that they take.
 
-use crate::helper;
 use c_typed::Helper;
 use core_code::Byte;
+use math_helpers::helper;
 use pic_world::Root;
 use std::test::Fail;
 use sym_code::{

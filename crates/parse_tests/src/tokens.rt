@@ -1,6 +1,6 @@
 //! Texts and the tokens that they are cut into, or the line of the first place where no token stands.
 
-use super::*;
+use c_token::{Keyword, LexError, Punct, Tok, TokKind, longest_token, raw};
 use std::test::Fail;
 
 fn token(kind: TokKind, start: u32, end: u32, line: u32, first: bool) -> Tok {

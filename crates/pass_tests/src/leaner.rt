@@ -1,7 +1,7 @@
 //! Blocks before and after.
 
-use crate::lean;
 use core_code::Byte;
+use lean_pass::lean;
 use pic_map::{FrameLine, ObjLine, Placed};
 use pic_world::Root;
 use std::alloc::{AllocError, Global};

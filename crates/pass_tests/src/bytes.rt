@@ -1,7 +1,7 @@
 //! Code written by hand from the instruction table of the data sheet DS39582.
 
-use crate::select_byte;
 use core_code::{Byte, Core};
+use select_code::select_byte;
 use std::alloc::{AllocError, Global};
 use std::test::Fail;
 use sym_code::{

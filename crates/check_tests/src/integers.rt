@@ -1,6 +1,6 @@
 //! Values worked out by hand, from the rules of ISO/IEC 9899:1990, 6.2 and 6.3.
 
-use crate::{BinOp, IntTy, UnOp, Value, apply, constant, convert, promote, size, unary, usual};
+use c_ints::{BinOp, IntTy, UnOp, Value, apply, constant, convert, promote, size, unary, usual};
 use std::test::Fail;
 
 fn applied(op: BinOp, ty: IntTy, a: u32, b: u32) -> Option<i64> {

@@ -3,9 +3,9 @@
 
 ghost use Rattle.std.specs.Prelude.{◌≡◌, None};
 
-use crate::{Board, Exchange, ScriptBoard, SimEnd, simulate};
 use pic_chip::{Chip, Image, Start};
 use pic_map::{Map, Tracer};
+use pic_sim::{Board, Exchange, ScriptBoard, SimEnd, simulate};
 use pic_world::{Arrival, Cell, Event, Flag, Script, Trace};
 use std::alloc::{AllocError, Global};
 use std::test::Fail;

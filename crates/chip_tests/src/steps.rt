@@ -1,6 +1,6 @@
 //! Worked steps, and each call that takes memory.
 
-use super::*;
+use pic_chip::{Access, Accesses, Chip, Image, Start, StepEnd};
 use pic_world::{Arrival, Flag, Script};
 use std::test::Fail;
 

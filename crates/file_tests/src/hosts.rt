@@ -4,7 +4,7 @@ ghost use Rattle.std.specs.Prelude.{◌≡◌, IfOk};
 ghost use Rattle.host_io.specs.Host.{Closed};
 ghost use Rattle.host_io.specs.Memory.{open_of};
 
-use crate::*;
+use host_io::{Fail, Host, HostError, MemoryHost, RealHost, read_whole, write_whole};
 use std::alloc::{AllocError, Global};
 use std::collections::BTreeMap;
 use std::test::Fail as Failure;

@@ -1,6 +1,6 @@
 //! Blocks of code, which selects they get, and where each stands.
 
-use crate::{can_select, put_made, selects};
+use bank_page::{can_select, put_made, selects};
 use core_code::Byte;
 use pic_map::{FrameLine, Placed};
 use pic_world::Root;

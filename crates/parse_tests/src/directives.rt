@@ -1,6 +1,6 @@
 //! Texts and the tokens that directives and replacement leave of them, or the refusal with its line.
 
-use super::*;
+use c_pre::{PreError, tokens, word_of};
 use c_token::raw;
 use std::test::Fail;
 
@@ -35,7 +35,7 @@ fn names_are_replaced(rt: HostRuntime) -> Result<(), Fail> {
         let mut bytes = Vec::new(rt.alloc());
         let mut last = 0;
         for token in &tokens(rt.alloc(), text, &list)? {
-            bytes.extend_from_slice(words::word_of(text, *token))?;
+            bytes.extend_from_slice(word_of(text, *token))?;
             bytes.push(b' ')?;
             last = token.line;
         }

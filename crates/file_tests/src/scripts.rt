@@ -1,7 +1,7 @@
 //! Texts worked out by hand: what is read, and at which line reading stops.
 
-use super::*;
 use pic_world::Flag;
+use schedule::{Off, ScriptError, one_content, read_off, read_script, worked_example};
 use std::test::Fail;
 
 /// Input over two lines, an empty line, CR, leading zeros, equal times, and no last LF.

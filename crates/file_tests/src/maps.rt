@@ -4,7 +4,10 @@ ghost use Rattle.std.specs.Prelude.{IsTrue};
 ghost use Rattle.pic_map.specs.EventText.{CanBeShown, HasName};
 ghost use Rattle.pic_map.specs.MapView.{content_of};
 
-use super::*;
+use pic_map::{
+    FrameLine, Map, MapError, ObjLine, Placed, Tracer, event_line, one_content, read_map,
+    worked_example, write_map,
+};
 use pic_world::{Cell, Event, Root};
 use std::alloc::Global;
 use std::test::Fail;

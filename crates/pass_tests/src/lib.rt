@@ -1,0 +1,18 @@
+//! Cases of the passes below byte code, each by itself: the instructions that it makes, written out by hand.
+//!
+//! In: byte code, and blocks of symbolic code. Out: nothing; these are tests of select_code, math_helpers, isr_save, lean_pass,
+//! bank_page and flow_facts.
+#![tactic(auto)]
+
+#[cfg(test)]
+mod banks;
+#[cfg(test)]
+mod bytes;
+#[cfg(test)]
+mod flow;
+#[cfg(test)]
+mod helpers;
+#[cfg(test)]
+mod leaner;
+#[cfg(test)]
+mod starting;
