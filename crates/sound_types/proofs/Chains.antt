@@ -2,6 +2,7 @@
 use Rattle.std.proofs.Common.{◌≡◌, ℕ, zero, suc, ◌+◌, ◌*◌, ◌^◌, ◌%◌, ◌/◌, ◌<◌, ◌≤◌, Bool, true, false, not, ◌||◌, if◌then◌else◌, nat_eq, nat_lt, List, [], ◌∷◌, ◌++◌, length, Some, refl, sym, ap, ◌∙◌, subst, subst₂, true≢false, arith, append_assoc, append-nil}
 use Rattle.std.specs.Prelude.{slice_get}
 use Rattle.std.proofs.lemmas.Bool.{false≢true}
+use Rattle.std.proofs.lemmas.Grind.{common_steps}
 use Rattle.std.proofs.lemmas.Option.{same_Some}
 use Rattle.c_typed.specs.Sameness.{is_scalar}
 use Rattle.c_typed.specs.Sound.{item_start, kept}
@@ -15,7 +16,7 @@ use Rattle.type_rules.specs.Initializers.{is_unsized}
 use Rattle.type_rules.specs.Known.{Field, Known}
 use Rattle.type_rules.specs.Rows.{bytes_of, is_complete, fields_of}
 use Rattle.type_rules.specs.Slots.{Slot, Begun, bytes_at, low_bytes}
-use Rattle.sound_types.specs.Chains.{item_size, IsItem, ItemsIn, IsByte, InitialsIn, IsOf, Extends, IsSlot, begin_of, upto}
+use Rattle.sound_types.specs.Chains.{item_size, IsItem, ItemsIn, IsByte, InitialsIn, IsOf, Extends, IsSlot, IsNear, begin_of, upto}
 use Rattle.sound_types.specs.Tables.{at, Adds, Each, IsMember, AreMembers, Orderly}
 use Rattle.sound_types.proofs.Growing.{leads_back}
 use Rattle.sound_types.proofs.Lists.{none_is}
@@ -48,6 +49,11 @@ items_higher known low mid high (x ∷ xs) le h = (h.0, h.1, items_higher known 
 pub initials_higher : (known : Known) (low mid high : ℕ) (xs : List Initial) → mid ≤ high → InitialsIn known low mid xs → InitialsIn known low high xs
 initials_higher known low mid high [] le h = omega (arith, le, h)
 initials_higher known low mid high (x ∷ xs) le h = (h.0, h.1, initials_higher known (x.offset + 1) mid high xs le h.2)
+
+-- Bytes in order don't end before they begin.
+pub initials_ordered : (known : Known) (low high : ℕ) (is : List Initial) → InitialsIn known low high is → low ≤ high
+initials_ordered known low high [] h = h
+initials_ordered known low high (i ∷ is) h = let rest : i.offset + 1 ≤ high = initials_ordered known (i.offset + 1) high is h.2 in omega (arith, h.0, rest)
 
 each_join : {A : Type 0} (P : A → Type 0) (xs ys : List A) → Each P xs → Each P ys → Each P (xs ++ ys)
 each_join P [] ys g h = h
@@ -143,6 +149,16 @@ kept_exact n h = by_test (nat_lt n (2 ^ 40)) h
     by_test true h = refl
     by_test false h = absurd (omega (arith, h))
 
+pub kept_below : (n : ℕ) → IsNear n → kept n ≡ n
+kept_below n near = by_test (nat_lt n (2 ^ 40)) refl
+  where
+    by_test : (b : Bool) → nat_lt n (2 ^ 40) ≡ b → (if b then n else n % 65536 + 2 ^ 40) ≡ n
+    by_test true e = refl
+    by_test false e = absurd (past e)
+      where
+        past : nat_lt n (2 ^ 40) ≡ false → ⊥
+        past e = grind (arith, common_steps)
+
 -- ---- the parts of a structure
 
 -- Members of a structure of few bytes lie one behind the other within it.
@@ -192,12 +208,12 @@ pub upto_none : (known : Known) (ty : Ty) → upto known ty 0 ≡ 0
 upto_none = first_upto
 
 module _ (known : Known) (o : Orderly known) (slot : Slot) (h : IsSlot known slot) where
-  -- what is known of a part
+  -- What is known of a part; where it begins and ends, if that is counted exactly.
   pub record IsPart (n : ℕ) (sn : Slot) : Type 0 where
     pub slot_is : IsSlot known sn
     pub sized : is_unsized (sn.ty).ty ≡ false
-    pub begins : sn.offset ≡ slot.offset + upto known (slot.ty).ty n
-    pub ends : sn.offset + bytes_of known (sn.ty).ty ≡ slot.offset + upto known (slot.ty).ty (suc n)
+    pub begins : IsNear (slot.offset + upto known (slot.ty).ty (suc n)) → sn.offset ≡ slot.offset + upto known (slot.ty).ty n
+    pub ends : IsNear (slot.offset + upto known (slot.ty).ty (suc n)) → sn.offset + bytes_of known (sn.ty).ty ≡ slot.offset + upto known (slot.ty).ty (suc n)
     pub small : bytes_of known (sn.ty).ty ≤ 65535
     pub types : (is : List Item) → Each (IsOf (sn.ty).ty) is → Each (IsOf (slot.ty).ty) is
 
@@ -219,6 +235,9 @@ only_left false h = absurd (false≢true h)
 pub no_scalar : (ty : Ty) → is_scalar ty ≡ false → (is : List Item) (other : Ty) → Each (IsOf other) is → Each (IsOf ty) is
 no_scalar ty single [] other all = tt
 no_scalar ty single (i ∷ is) other all = ((λ scalar. absurd (true≢false (sym scalar ∙ single))), no_scalar ty single is other all.1)
+
+pub times_near : (offset e n : ℕ) → IsNear (offset + e * suc n) → IsNear (offset + e * n)
+times_near offset e n near = omega (arith, near)
 
 pub times_next : (offset e n : ℕ) → (offset + e * n) + e ≡ offset + e * suc n
 times_next offset e n = omega arith

@@ -32,12 +32,12 @@ use Rattle.type_rules.specs.Rows.{like, or_void, target_of, bytes_of, is_complet
 use Rattle.type_rules.specs.Slots.{Slot, Begun, member_slot, element_slot, part_by, part, bytes_at, number_bytes, with_initial, address_bytes, static_address, begin_pointer, with_item, begin_structure, value_line, begin_value, text_of, is_char, begin_characters, static_text, refused_text, begin_text_by, begin_text}
 use Rattle.type_rules.specs.Terms.{Operand, side_of}
 use Rattle.type_rules.specs.Writes.{structure_read}
-use Rattle.sound_types.specs.Chains.{item_size, IsItem, InitialsIn, IsOf, Extends, IsSlot, IsSmall, element_size, small_by, gave_by, IsLike, Begins, upto}
+use Rattle.sound_types.specs.Chains.{item_size, IsItem, InitialsIn, IsOf, Extends, IsSlot, IsSmall, element_size, small_by, IsNear, gave_by, IsLike, Begins, upto}
 use Rattle.sound_types.specs.Going.{Goes}
 use Rattle.sound_types.specs.Tables.{at, Adds, Stands, Orderly, Leads}
 use Rattle.sound_types.specs.Terms.{IsAssigned, IsOperand}
 use Rattle.sound_types.proofs.Assigning.{assigned_goes}
-use Rattle.sound_types.proofs.Chains.{IsPart, extends_none, extends_join, extends_higher, extends_at, extends_of, extends_more, bytes_in, initials_higher, low_length, kept_exact, upto_none, only_left}
+use Rattle.sound_types.proofs.Chains.{IsPart, extends_none, extends_join, extends_higher, extends_at, extends_of, extends_more, bytes_in, initials_higher, initials_ordered, low_length, kept_exact, upto_none, only_left}
 use Rattle.sound_types.proofs.Enumerators.{number_goes}
 use Rattle.sound_types.proofs.Expressions.{value_of_goes}
 use Rattle.sound_types.proofs.Growing.{stands_more}
@@ -167,7 +167,7 @@ module _ (known : Known) (ts : List Qualified) (o : Orderly (at known ts)) (offs
 
   -- what a value gives for a part
   looser : (ty : Ty) (c v : Bool) (b : Begun) (r : Result (Begun × Known) Fault) → is_unsized ty ≡ false → Goes known ts (λ us d. Given ty us b d) r → Goes known ts (λ us d. Begins (at known ts) (at known us) (Some (slot_of ty c v offset)) b d) r
-  looser ty c v b r sized g = goes_weaker known _ _ ts r (λ us d h. (h.0, (λ e. absurd (false≢true (sym sized ∙ e))), λ small. subst (λ w. gave_by w (at known ts) (at known us) (slot_of ty c v offset) b d) (sym sized) (h.1, h.2))) g
+  looser ty c v b r sized g = goes_weaker known _ _ ts r (λ us d h. (h.0, (λ e. absurd (false≢true (sym sized ∙ e))), λ small. subst (λ w. gave_by w (at known ts) (at known us) (slot_of ty c v offset) b d) (sym sized) (h.1, λ near. h.2))) g
 
   choice_of : (ty : Ty) (s : Bool) (r q : Rule Begun) (b : Begun) → Goes known ts (λ us d. Given ty us b d) (r (at known ts)) → Goes known ts (λ us d. Given ty us b d) (q (at known ts)) → Goes known ts (λ us d. Given ty us b d) ((if s then r else q) (at known ts))
   choice_of ty true r q b g h = g
@@ -285,11 +285,11 @@ module _ (known : Known) (ts : List Qualified) (o : Orderly (at known ts)) (offs
             length text + 1,
             counted b.static_object (record b { count = Some (length text + 1) }) (typed.Text offset text (length text + 1)) (bytes_at offset text),
             omega arith,
-            subst (λ n. Extends (at known ts) (Array row count size) offset n b (if b.static_object then with_initial (bytes_at offset text) (record b { count = Some (length text + 1) }) else with_item (typed.Text offset text (length text + 1)) (record b { count = Some (length text + 1) }))) (region (length text)) (text_extends (Array row count size) text (length text + 1) b (record b { count = Some (length text + 1) }) line refl (more_room (length text)) refl refl b.static_object),
+            λ near. subst (λ n. Extends (at known ts) (Array row count size) offset n b (if b.static_object then with_initial (bytes_at offset text) (record b { count = Some (length text + 1) }) else with_item (typed.Text offset text (length text + 1)) (record b { count = Some (length text + 1) }))) (region (length text)) (text_extends (Array row count size) text (length text + 1) b (record b { count = Some (length text + 1) }) line refl (more_room (length text)) refl refl b.static_object),
           )
           by_count false e free small = (
             counted b.static_object b (typed.Text offset text count) (bytes_at offset text),
-            extends_higher (at known ts) (Array row count size) offset (offset + count) (offset + size) b (if b.static_object then with_initial (bytes_at offset text) b else with_item (typed.Text offset text count) b) (reach count size (whole small))
+            λ near. extends_higher (at known ts) (Array row count size) offset (offset + count) (offset + size) b (if b.static_object then with_initial (bytes_at offset text) b else with_item (typed.Text offset text count) b) (reach count size (whole small))
                 (text_extends (Array row count size) text count b b line refl (fits_in (sym (ap (λ w. not w && nat_lt count (length text)) e) ∙ free)) refl refl b.static_object),
           )
             where
@@ -327,7 +327,7 @@ IsAnySlot known (Some s) = IsSlot known s
 -- what the further items of a list give
 abbrev BeginsMore : Known → Known → Option Slot → ℕ → ℕ → Begun → Begun → Type 0
 BeginsMore known after None n m b c = c ≡ b
-BeginsMore known after (Some s) n m b c = IsLike b c × (((k : ℕ) → k < n + m → is_some (part known (Some s) k) ≡ true) → IsSmall known s → (c.count ≡ b.count) × Extends after (s.ty).ty (s.offset + upto known (s.ty).ty n) (s.offset + upto known (s.ty).ty (n + m)) b c)
+BeginsMore known after (Some s) n m b c = IsLike b c × (((k : ℕ) → k < n + m → is_some (part known (Some s) k) ≡ true) → IsSmall known s → (c.count ≡ b.count) × (IsNear (s.offset + upto known (s.ty).ty (n + m)) → Extends after (s.ty).ty (s.offset + upto known (s.ty).ty n) (s.offset + upto known (s.ty).ty (n + m)) b c))
 
 first_part : (known : Known) (s sn : Slot) (n : ℕ) → IsSlot known s → (if nat_eq n 0 then Some s else None) ≡ Some sn → IsSlot known sn
 first_part known s sn n h is = by_cases (chosen (nat_eq n 0) (Some s) None (Some sn) is)
@@ -374,14 +374,14 @@ module _ (known : Known) (ts : List Qualified) (o : Orderly (at known ts)) where
 
   -- what one part got
   step_of : (s : Slot) (h : IsSlot (at known ts) s) (n : ℕ) (found : Option Slot) → part (at known ts) (Some s) n ≡ found → (us : List Qualified) (b c : Begun) → Begins (at known ts) (at known us) found b c
-      → IsLike b c × (is_some (part (at known ts) (Some s) n) ≡ true → IsSmall (at known ts) s → (c.count ≡ b.count) × Extends (at known us) (s.ty).ty (s.offset + upto (at known ts) (s.ty).ty n) (s.offset + upto (at known ts) (s.ty).ty (suc n)) b c)
+      → IsLike b c × (is_some (part (at known ts) (Some s) n) ≡ true → IsSmall (at known ts) s → (c.count ≡ b.count) × (IsNear (s.offset + upto (at known ts) (s.ty).ty (suc n)) → Extends (at known us) (s.ty).ty (s.offset + upto (at known ts) (s.ty).ty n) (s.offset + upto (at known ts) (s.ty).ty (suc n)) b c))
   step_of s h n None e us b c same = (subst (IsLike b) (sym same) (itself b), λ there small. absurd (false≢true (sym (ap is_some e) ∙ there)))
   step_of s h n (Some sn) e us b c g = (
     g.0,
     λ there small.
         let own : IsPart (at known ts) o s h n sn = part_at (at known ts) o s h small n sn e in
         let more = subst (λ w. small_by w (at known ts) sn → gave_by w (at known ts) (at known us) sn b c) own.sized g.2 own.small in
-        (more.0, extends_of (at known us) (sn.ty).ty (s.ty).ty _ _ b c own.types (extends_at (at known us) (sn.ty).ty sn.offset (sn.offset + bytes_of (at known ts) (sn.ty).ty) _ _ b c own.begins own.ends more.1)),
+        (more.0, λ near. extends_of (at known us) (sn.ty).ty (s.ty).ty _ _ b c own.types (extends_at (at known us) (sn.ty).ty sn.offset (sn.offset + bytes_of (at known ts) (sn.ty).ty) _ _ b c (own.begins near) (own.ends near) (more.1 (subst IsNear (sym (own.ends near)) near)))),
   )
 
 -- ---- what doesn't change when rows are added
@@ -415,7 +415,7 @@ module _ (known : Known) (ts us : List Qualified) (adds : Adds ts us) where
   begins_back s h after b c g = (g.0, g.1, λ small. by_size (is_unsized (s.ty).ty) (g.2 (small_same s h small)))
     where
       by_size : (w : Bool) → gave_by w (at known us) after s b c → gave_by w (at known ts) after s b c
-      by_size true d = (d.0, d.1, d.2, subst (λ n. Extends after (s.ty).ty s.offset (s.offset + n * d.0) b c) (element_same (s.ty).ty h) d.3)
+      by_size true d = (d.0, d.1, d.2, subst (λ n. IsNear (s.offset + n * d.0) → Extends after (s.ty).ty s.offset (s.offset + n * d.0) b c) (element_same (s.ty).ty h) d.3)
       by_size false d = d
 
   more_back : (slot : Option Slot) → IsAnySlot (at known ts) slot → (n m : ℕ) (after : Known) (b c : Begun) → BeginsMore (at known us) after slot n m b c → BeginsMore (at known ts) after slot n m b c
@@ -424,7 +424,7 @@ module _ (known : Known) (ts us : List Qualified) (adds : Adds ts us) where
     g.0,
     λ all small.
         let d = g.1 (λ k lt. ap is_some (part_same known ts us adds s h.stands k) ∙ all k lt) (small_same s h.stands small) in
-        (d.0, extends_at after (s.ty).ty _ _ _ _ b c (ap (λ k. s.offset + k) (upto_same (s.ty).ty h.stands n)) (ap (λ k. s.offset + k) (upto_same (s.ty).ty h.stands (n + m))) d.1),
+        (d.0, λ near. extends_at after (s.ty).ty _ _ _ _ b c (ap (λ k. s.offset + k) (upto_same (s.ty).ty h.stands n)) (ap (λ k. s.offset + k) (upto_same (s.ty).ty h.stands (n + m))) (d.1 (subst (λ k. IsNear (s.offset + k)) (sym (upto_same (s.ty).ty h.stands (n + m))) near))),
   )
 
 like_on : (b c d : Begun) → IsLike b c → IsLike c d → IsLike b d
@@ -471,28 +471,39 @@ list_ends known ts us o s h m b c last g = by_size (is_unsized (s.ty).ty) refl
             suc m,
             refl,
             omega arith,
-            counted_more (at known us) (s.ty).ty _ _ b c (Some (suc m))
-                (extends_at (at known us) (s.ty).ty _ _ s.offset (s.offset + element_size (at known ts) (s.ty).ty * suc m) b c starts
-                (ap (λ k. s.offset + k) (ap (upto (at known ts) (s.ty).ty) total ∙ unsized_upto (at known ts) (s.ty).ty e (suc m))) d.1),
-          ),
-        )
-        made false e = (
-          g.0,
-          (λ h. absurd (false≢true h)),
-          λ small. let d = g.1 all small in (
-            d.0,
-            extends_higher (at known us) (s.ty).ty s.offset (s.offset + upto (at known ts) (s.ty).ty (suc m)) (s.offset + bytes_of (at known ts) (s.ty).ty) b c
-                (up (upto (at known ts) (s.ty).ty (suc m)) (bytes_of (at known ts) (s.ty).ty) (within_all (at known ts) o s h e (subst (λ w. small_by w (at known ts) s) e small) m last))
-                (extends_at (at known us) (s.ty).ty _ _ s.offset (s.offset + upto (at known ts) (s.ty).ty (suc m)) b c starts (ap (λ k. s.offset + k) (ap (upto (at known ts) (s.ty).ty) total)) d.1),
+            λ near. counted_more (at known us) (s.ty).ty _ _ b c (Some (suc m))
+                (extends_at (at known us) (s.ty).ty _ _ s.offset (s.offset + element_size (at known ts) (s.ty).ty * suc m) b c starts finish (d.1 (subst IsNear (sym finish) near))),
           ),
         )
           where
+            finish : s.offset + upto (at known ts) (s.ty).ty (0 + suc m) ≡ s.offset + element_size (at known ts) (s.ty).ty * suc m
+            finish = ap (λ k. s.offset + k) (ap (upto (at known ts) (s.ty).ty) total ∙ unsized_upto (at known ts) (s.ty).ty e (suc m))
+        made false e = (
+          g.0,
+          (λ h. absurd (false≢true h)),
+          λ small.
+              let d = g.1 all small in
+              let within = within_all (at known ts) o s h e (subst (λ w. small_by w (at known ts) s) e small) m last in (
+                d.0,
+                λ near. extends_higher (at known us) (s.ty).ty s.offset (s.offset + upto (at known ts) (s.ty).ty (suc m)) (s.offset + bytes_of (at known ts) (s.ty).ty) b c
+                    (up (upto (at known ts) (s.ty).ty (suc m)) (bytes_of (at known ts) (s.ty).ty) within)
+                    (extends_at (at known us) (s.ty).ty _ _ s.offset (s.offset + upto (at known ts) (s.ty).ty (suc m)) b c starts finish
+                    (d.1 (subst IsNear (sym finish) (nearer (upto (at known ts) (s.ty).ty (suc m)) (bytes_of (at known ts) (s.ty).ty) within near)))),
+              ),
+        )
+          where
+            finish : s.offset + upto (at known ts) (s.ty).ty (0 + suc m) ≡ s.offset + upto (at known ts) (s.ty).ty (suc m)
+            finish = ap (λ k. s.offset + k) (ap (upto (at known ts) (s.ty).ty) total)
+
             up : (x y : ℕ) → x ≤ y → s.offset + x ≤ s.offset + y
             up x y le = omega (arith, le)
 
+            nearer : (x y : ℕ) → x ≤ y → IsNear (s.offset + y) → IsNear (s.offset + x)
+            nearer x y le near = omega (arith, le, near)
+
 -- one part, and then more
 more_of : (known : Known) (ts us ws : List Qualified) → Adds us ws → (s : Slot) (n m : ℕ) (b c d : Begun)
-    → IsLike b c × (is_some (part (at known ts) (Some s) n) ≡ true → IsSmall (at known ts) s → (c.count ≡ b.count) × Extends (at known us) (s.ty).ty (s.offset + upto (at known ts) (s.ty).ty n) (s.offset + upto (at known ts) (s.ty).ty (suc n)) b c)
+    → IsLike b c × (is_some (part (at known ts) (Some s) n) ≡ true → IsSmall (at known ts) s → (c.count ≡ b.count) × (IsNear (s.offset + upto (at known ts) (s.ty).ty (suc n)) → Extends (at known us) (s.ty).ty (s.offset + upto (at known ts) (s.ty).ty n) (s.offset + upto (at known ts) (s.ty).ty (suc n)) b c))
     → BeginsMore (at known ts) (at known ws) (Some s) (suc n) m c d → BeginsMore (at known ts) (at known ws) (Some s) n (suc m) b d
 more_of known ts us ws adds s n m b c d g h = (
   like_on b c d g.0 h.0,
@@ -500,17 +511,26 @@ more_of known ts us ws adds s n m b c d g h = (
       let first = g.1 (all n (omega arith)) small in
       let rest = h.1 (λ k lt. all k (omega (arith, lt))) small in (
         rest.0 ∙ first.0,
-        extends_join (at known ws) (s.ty).ty (s.offset + upto (at known ts) (s.ty).ty n) (s.offset + upto (at known ts) (s.ty).ty (suc n)) (s.offset + upto (at known ts) (s.ty).ty (n + suc m)) b c d
-            (extends_more known us ws adds (s.ty).ty _ _ b c first.1)
-            (extends_at (at known ws) (s.ty).ty _ _ _ _ c d refl (ap (λ k. s.offset + upto (at known ts) (s.ty).ty k) (turn n m)) rest.1),
+        λ near.
+            let after = rest.1 (subst IsNear (sym finish) near) in
+            let ordered = initials_ordered (at known ws) (s.offset + upto (at known ts) (s.ty).ty (suc n)) (s.offset + upto (at known ts) (s.ty).ty (suc n + m)) after.initial after.initial_in in
+            extends_join (at known ws) (s.ty).ty (s.offset + upto (at known ts) (s.ty).ty n) (s.offset + upto (at known ts) (s.ty).ty (suc n)) (s.offset + upto (at known ts) (s.ty).ty (n + suc m)) b c d
+            (extends_more known us ws adds (s.ty).ty _ _ b c (first.1 (nearer _ _ ordered (subst IsNear (sym finish) near))))
+            (extends_at (at known ws) (s.ty).ty _ _ _ _ c d refl finish after),
       ),
 )
   where
     turn : (n m : ℕ) → suc n + m ≡ n + suc m
     turn n m = omega arith
 
+    finish : s.offset + upto (at known ts) (s.ty).ty (suc n + m) ≡ s.offset + upto (at known ts) (s.ty).ty (n + suc m)
+    finish = ap (λ k. s.offset + upto (at known ts) (s.ty).ty k) (turn n m)
+
+    nearer : (x y : ℕ) → x ≤ y → IsNear y → IsNear x
+    nearer x y le near = omega (arith, le, near)
+
 no_more : (known : Known) (ts : List Qualified) (s : Slot) (n : ℕ) (b : Begun) → BeginsMore (at known ts) (at known ts) (Some s) n 0 b b
-no_more known ts s n b = (itself b, λ all small. (refl, extends_none (at known ts) (s.ty).ty _ _ b (same (s.offset) (upto (at known ts) (s.ty).ty n) (upto (at known ts) (s.ty).ty (n + 0)) (ap (upto (at known ts) (s.ty).ty) (sym (add-zero n))))))
+no_more known ts s n b = (itself b, λ all small. (refl, λ near. extends_none (at known ts) (s.ty).ty _ _ b (same (s.offset) (upto (at known ts) (s.ty).ty n) (upto (at known ts) (s.ty).ty (n + 0)) (ap (upto (at known ts) (s.ty).ty) (sym (add-zero n))))))
   where
     same : (a x y : ℕ) → x ≡ y → a + x ≤ a + y
     same a x y e = omega (arith, e)

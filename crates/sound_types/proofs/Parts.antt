@@ -14,9 +14,9 @@ use Rattle.type_rules.specs.Initializers.{is_unsized}
 use Rattle.type_rules.specs.Known.{Field, Shape, Known}
 use Rattle.type_rules.specs.Rows.{like, or_void, target_of, bytes_of, is_complete, fields_in, fields_of}
 use Rattle.type_rules.specs.Slots.{Slot, member_slot, element_slot, part_by, part}
-use Rattle.sound_types.specs.Chains.{IsSlot, IsSmall, begin_of, upto, scalar_upto, small_by}
+use Rattle.sound_types.specs.Chains.{IsSlot, IsSmall, IsNear, begin_of, upto, scalar_upto, small_by}
 use Rattle.sound_types.specs.Tables.{at, Adds, IsElement, Stands, IsMember, Orderly}
-use Rattle.sound_types.proofs.Chains.{IsPart, complete_sized, no_scalar, times_next, kept_exact, member_next}
+use Rattle.sound_types.proofs.Chains.{IsPart, complete_sized, no_scalar, times_near, times_next, kept_exact, kept_below, member_next}
 use Rattle.sound_types.proofs.Lists.{none_is, numbered_at}
 use Rattle.sound_types.proofs.Meeting.{target_is}
 use Rattle.sound_types.proofs.Operating.{chosen}
@@ -50,8 +50,8 @@ module _ (known : Known) (o : Orderly known) where
           subst (IsPart known o (slot_of ty c v offset) h n) (same_Some (slot_of ty c v offset) sn g.1) (record {
             slot_is = h;
             sized = sized;
-            begins = sym (ap (λ k. offset + k) (uptos n ∙ ap (scalar_upto (bytes_of known ty)) e) ∙ add-zero offset);
-            ends = ap (λ k. offset + k) (sym (uptos (suc n)));
+            begins = λ near. sym (ap (λ k. offset + k) (uptos n ∙ ap (scalar_upto (bytes_of known ty)) e) ∙ add-zero offset);
+            ends = λ near. ap (λ k. offset + k) (sym (uptos (suc n)));
             small = small;
             types = λ is all. all;
           })
@@ -80,6 +80,9 @@ module _ (known : Known) (o : Orderly known) where
       element_stands : Stands known (target_of known row).ty
       element_stands = subst (λ (z : Qualified). Stands known z.ty) (sym target) (o.rows row (h.stands).0 there)
 
+      exact : IsNear (offset + bytes_of known (target_of known row).ty * suc n) → kept (offset + bytes_of known (target_of known row).ty * n) ≡ offset + bytes_of known (target_of known row).ty * n
+      exact near = kept_below (offset + bytes_of known (target_of known row).ty * n) (times_near offset (bytes_of known (target_of known row).ty) n near)
+
       few : (b : Bool) → nat_eq count 0 ≡ b → small_by b known (slot_of (Array row count size) c v offset) → bytes_of known (target_of known row).ty ≤ 65535
       few true e s = s
       few false e s = element_small count (bytes_of known (target_of known row).ty) size (some_count count e) (element.whole ∙ ap (λ (z : Qualified). kept (count * bytes_of known z.ty)) (sym target)) s
@@ -90,8 +93,8 @@ module _ (known : Known) (o : Orderly known) where
       by_cases (inr g) = subst (IsPart known o (slot_of (Array row count size) c v offset) h n) (same_Some _ sn g.1) (record {
         slot_is = record { stands = element_stands; whole = or_left (is_complete known (target_of known row).ty) (is_array (target_of known row).ty) element_complete };
         sized = complete_sized known (target_of known row).ty element_complete;
-        begins = refl;
-        ends = times_next offset (bytes_of known (target_of known row).ty) n;
+        begins = exact;
+        ends = λ near. ap (λ k. k + bytes_of known (target_of known row).ty) (exact near) ∙ times_next offset (bytes_of known (target_of known row).ty) n;
         small = few (nat_eq count 0) refl small;
         types = λ is all. no_scalar (Array row count size) refl is (target_of known row).ty all;
       })
@@ -102,8 +105,8 @@ module _ (known : Known) (o : Orderly known) where
   struct_part number c v offset h small n sn (Some m) at_n is = subst (IsPart known o (slot_of (Struct number) c v offset) h n) (same_Some _ sn is) (record {
     slot_is = record { stands = (next.3).stands; whole = or_left (is_complete known ((m.1).ty).ty) (is_array ((m.1).ty).ty) (next.3).whole };
     sized = complete_sized known ((m.1).ty).ty (next.3).whole;
-    begins = ap (λ k. offset + k) (next.0 ∙ same_begin n);
-    ends = ends_at (m.1).offset (bytes_of known ((m.1).ty).ty) (begin_of known 0 (fields_of known number) (suc n)) (next.1 ∙ same_begin (suc n));
+    begins = λ near. exact near ∙ ap (λ k. offset + k) (next.0 ∙ same_begin n);
+    ends = λ near. ap (λ k. k + bytes_of known ((m.1).ty).ty) (exact near) ∙ ends_at (m.1).offset (bytes_of known ((m.1).ty).ty) (begin_of known 0 (fields_of known number) (suc n)) (next.1 ∙ same_begin (suc n));
     small = omega (arith, next.1, next.2, few);
     types = λ is all. no_scalar (Struct number) refl is ((m.1).ty).ty all;
   })
@@ -125,6 +128,12 @@ module _ (known : Known) (o : Orderly known) where
 
       ends_at : (a b e : ℕ) → a + b ≡ e → (offset + a) + b ≡ offset + e
       ends_at a b e h = omega (arith, h)
+
+      lower : (a b e : ℕ) → a + b ≡ e → IsNear (offset + e) → IsNear (offset + a)
+      lower a b e h near = omega (arith, h, near)
+
+      exact : IsNear (offset + begin_of known 0 (fields_of known number) (suc n)) → kept (offset + (m.1).offset) ≡ offset + (m.1).offset
+      exact near = kept_below (offset + (m.1).offset) (lower (m.1).offset (bytes_of known ((m.1).ty).ty) (begin_of known 0 (fields_of known number) (suc n)) (next.1 ∙ same_begin (suc n)) near)
 
   part_by_type : (ty : Ty) (c v : Bool) (offset : ℕ) (h : IsSlot known (slot_of ty c v offset)) → IsSmall known (slot_of ty c v offset) → (n : ℕ) (sn : Slot) → part_by known (slot_of ty c v offset) ty n ≡ Some sn → IsPart known o (slot_of ty c v offset) h n sn
   part_by_type Void c v offset h small = scalar_part Void c v offset h refl (λ n. refl) small

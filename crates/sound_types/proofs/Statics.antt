@@ -14,7 +14,7 @@ use Rattle.type_rules.specs.Names.{bound_in, without_first}
 use Rattle.type_rules.specs.Objects.{closed, whole_slot, static_rule}
 use Rattle.type_rules.specs.Rows.{bytes_of, is_complete, changed_at}
 use Rattle.type_rules.specs.Slots.{Begun, nothing_begun}
-use Rattle.sound_types.specs.Chains.{InitialsIn, Extends, element_size, small_by, gave_by, Begins}
+use Rattle.sound_types.specs.Chains.{InitialsIn, Extends, element_size, small_by, IsNear, gave_by, Begins}
 use Rattle.sound_types.specs.Living.{Lives, IsNamed, AreNamed, IsStatic, Steady, Moved, Steps}
 use Rattle.sound_types.specs.Objects.{IsDeclaredAs, IsClosed, IsBoundAs}
 use Rattle.sound_types.specs.Spreading.{Grows}
@@ -122,16 +122,20 @@ initial_within known ts us vs adds adds2 q w begun line b h g hw = by_size (is_u
     same_bytes : (a c : ℕ) → c ≡ a → 0 + a ≤ c
     same_bytes a c e = omega (arith, e)
 
+    near_bytes : (a c : ℕ) → c ≡ a → c ≤ 65535 → IsNear (0 + a)
+    near_bytes a c e small = omega (arith, e, small)
+
     by_size : (z : Bool) → is_unsized q.ty ≡ z → (small_by z (at known ts) (whole_slot q) → gave_by z (at known ts) (at known us) (whole_slot q) (nothing_begun true line) b) → InitialsIn (at known vs) 0 (bytes_of (at known vs) w.ty) b.initial
     by_size true e f =
         let room = hw.room e in
         let same : element_size (at known us) q.ty ≡ element_size (at known ts) q.ty = element_same known ts us adds q.ty h.stands in
         let d = f (subst (λ n. n ≤ 65535) same room.2) in
         let count : room.0 ≡ d.0 = same_Some room.0 d.0 (sym room.1 ∙ d.1) in
-        from_extends (element_size (at known ts) q.ty * d.0) (same_bytes (element_size (at known ts) q.ty * d.0) (bytes_of (at known vs) w.ty) (room.3 ∙ (ap (λ n. n * room.0) same ∙ ap (λ n. element_size (at known ts) q.ty * n) count))) d.3
+        let bytes : bytes_of (at known vs) w.ty ≡ element_size (at known ts) q.ty * d.0 = room.3 ∙ (ap (λ n. n * room.0) same ∙ ap (λ n. element_size (at known ts) q.ty * n) count) in
+        from_extends (element_size (at known ts) q.ty * d.0) (same_bytes (element_size (at known ts) q.ty * d.0) (bytes_of (at known vs) w.ty) bytes) (d.3 (near_bytes (element_size (at known ts) q.ty * d.0) (bytes_of (at known vs) w.ty) bytes (hw.sized).small))
     by_size false e f =
         let d = f h.small in
-        from_extends (bytes_of (at known ts) q.ty) (same_bytes (bytes_of (at known ts) q.ty) (bytes_of (at known vs) w.ty) (ap (λ (z : Qualified). bytes_of (at known vs) z.ty) (hw.same e))) d.1
+        from_extends (bytes_of (at known ts) q.ty) (same_bytes (bytes_of (at known ts) q.ty) (bytes_of (at known vs) w.ty) (ap (λ (z : Qualified). bytes_of (at known vs) z.ty) (hw.same e))) (d.1 (near_bytes (bytes_of (at known ts) q.ty) (bytes_of (at known ts) q.ty) refl h.small))
 
 -- ---- the rule
 

@@ -1,5 +1,5 @@
 -- What an initializer gives to a part of an object: items or first bytes that stand in order within it.
-use Rattle.std.specs.Prelude.{◌≡◌, ℕ, zero, suc, ◌+◌, ◌*◌, ◌<◌, ◌≤◌, nat_lt, Bool, true, false, List, [], ◌∷◌, ◌++◌, Option, Some, None, slice_get}
+use Rattle.std.specs.Prelude.{◌≡◌, ℕ, zero, suc, ◌+◌, ◌*◌, ◌^◌, ◌<◌, ◌≤◌, nat_lt, Bool, true, false, List, [], ◌∷◌, ◌++◌, Option, Some, None, slice_get}
 use Rattle.c_typed.specs.Sameness.{is_array, is_scalar}
 use Rattle.c_typed.specs.Sound.{item_start, item_fits, is_changeable, kept}
 use Rattle.c_typed.specs.Trees as tree
@@ -80,10 +80,14 @@ small_by false known slot = bytes_of known (slot.ty).ty ≤ 65535
 abbrev pub IsSmall : Known → Slot → Type 0
 IsSmall known slot = small_by (is_unsized (slot.ty).ty) known slot
 
--- An array without a length gets one; another part is begun within its bytes.
+-- a number of bytes that is counted exactly
+abbrev pub IsNear : ℕ → Type 0
+IsNear bytes = bytes < 2 ^ 40
+
+-- An array without a length gets one; another part is begun within its bytes, where these are counted exactly.
 abbrev pub gave_by : Bool → Known → Known → Slot → Begun → Begun → Type 0
-gave_by true known after slot b c = (n : ℕ) × (c.count ≡ Some n) × (0 < n) × Extends after (slot.ty).ty slot.offset (slot.offset + element_size known (slot.ty).ty * n) b c
-gave_by false known after slot b c = (c.count ≡ b.count) × Extends after (slot.ty).ty slot.offset (slot.offset + bytes_of known (slot.ty).ty) b c
+gave_by true known after slot b c = (n : ℕ) × (c.count ≡ Some n) × (0 < n) × (IsNear (slot.offset + element_size known (slot.ty).ty * n) → Extends after (slot.ty).ty slot.offset (slot.offset + element_size known (slot.ty).ty * n) b c)
+gave_by false known after slot b c = (c.count ≡ b.count) × (IsNear (slot.offset + bytes_of known (slot.ty).ty) → Extends after (slot.ty).ty slot.offset (slot.offset + bytes_of known (slot.ty).ty) b c)
 
 -- what stays
 pub record IsLike (b c : Begun) : Type 0 where
