@@ -14,7 +14,7 @@ pub items-loop-next-preserved : goal.items-loop-next-preserved
 items-loop-next-preserved t c = (
   one_counted c.args.others.now c.loop-next.next-index c.next-item.result c.loop-next.count (c.loop-next.count + 1) (1 + items_in (more_inits (map next_init_of c.args.others.now))) c.loop-next-test.true c.next-item.is refl c.loop-next.invariant.0,
   one_behind c.loop-next.count c.loop-next.next-index c.loop-next.invariant.1,
-  item_read c.args.others.now c.loop-next.next-index c.next-item.result (any_slot c.args.slot) _ c.loop-next.count (c.loop-next.count + 1) (begun_of c.loop-next.sink) _ (known_of c.loop-next.checker) _ _ c.loop-next-test.true c.next-item.is (c.part.ensures (known_of c.loop-next.checker)) c.in_ok-initialize.ensures refl c.loop-next.invariant.2,
+  item_read c.args.others.now c.loop-next.next-index c.next-item.result (any_slot c.args.slot) _ c.loop-next.count (c.loop-next.count + 1) (begun_of c.loop-next.sink) _ (known_of c.loop-next.checker) _ _ c.loop-next-test.true c.next-item.is (c.part-part.ensures (known_of c.loop-next.checker)) c.in_ok-initialize.ensures refl c.loop-next.invariant.2,
 )
 
 pub items-returns-clause-begun : goal.items-returns-clause-begun
@@ -26,8 +26,8 @@ items-returns-clause-count t c = all_counted c.args.others.now c.loop-next.next-
 pub items-returns-in_err-initialize-clause-begun : goal.items-returns-in_err-initialize-clause-begun
 items-returns-in_err-initialize-clause-begun t c =
     let whole = more_begins (more_inits (map next_init_of c.args.others.now)) (any_slot c.args.slot) 1 (begun_of c.args.sink.now) (known_of c.args.checker.now) in
-    passed_on _ c.from_residual-in_err-initialize.result _ whole c.in_err-initialize.field-0.0 c.from_residual-in_err-initialize.ensures.1
-    (item_wrong c.args.others.now c.loop-next.next-index c.next-item.result (any_slot c.args.slot) (any_slot c.part.result) c.loop-next.count (begun_of c.loop-next.sink) (known_of c.loop-next.checker) c.in_err-initialize.field-0.0 whole c.loop-next-test.true c.next-item.is (c.part.ensures (known_of c.loop-next.checker)) c.in_err-initialize.ensures c.loop-next.invariant.2)
+    passed_on _ c.from_residual.result _ whole c.in_err-initialize.field-0.0 c.from_residual.ensures.1
+    (item_wrong c.args.others.now c.loop-next.next-index c.next-item.result (any_slot c.args.slot) (any_slot c.part-part.result) c.loop-next.count (begun_of c.loop-next.sink) (known_of c.loop-next.checker) c.in_err-initialize.field-0.0 whole c.loop-next-test.true c.next-item.is (c.part-part.ensures (known_of c.loop-next.checker)) c.in_err-initialize.ensures c.loop-next.invariant.2)
 
 pub initialize-returns-in_err-operand-in-Assign : goal.initialize-returns-in_err-operand-in-Assign
 initialize-returns-in_err-operand-in-Assign t c =
@@ -41,14 +41,14 @@ initialize-returns-in_err-initialize-in-List t c =
     let known = known_of c.args.checker.now in
     let said = begins (init_of c.args.init.now) (any_slot c.args.slot) c.args.inside (begun_of c.args.sink.now) known in
     passed_on _ c.from_residual-in_err-initialize-in-List.result _ said c.in_err-initialize-in-List.field-0.0 c.from_residual-in_err-initialize-in-List.ensures.1
-    (first_wrong c.in_err-initialize-in-List.field-0.0 c.args.init.now c.in-List.opening c.in-List.first c.in-List.others c.in-List.last_comma c.in-List.closing c.deref.result.now (any_slot c.args.slot) (any_slot c.part-in-List.result) c.args.inside (begun_of c.args.sink.now) known c.in-List.is c.deref.ensures (c.part-in-List.ensures known) c.in_err-initialize-in-List.ensures)
+    (first_wrong c.in_err-initialize-in-List.field-0.0 c.args.init.now c.in-List.opening c.in-List.first c.in-List.others c.in-List.last_comma c.in-List.closing c.deref.result.now (any_slot c.args.slot) (any_slot c.part-part.result) c.args.inside (begun_of c.args.sink.now) known c.in-List.is c.deref.ensures (c.part-part.ensures known) c.in_err-initialize-in-List.ensures)
 
 pub initialize-returns-in_err-count-in-List : goal.initialize-returns-in_err-count-in-List
 initialize-returns-in_err-count-in-List t c =
     let known = known_of c.args.checker.now in
     let said = begins (init_of c.args.init.now) (any_slot c.args.slot) c.args.inside (begun_of c.args.sink.now) known in
     passed_on _ c.from_residual-in_err-count-in-List.result _ said c.in_err-count-in-List.field-0.0 c.from_residual-in_err-count-in-List.ensures.1
-    (more_wrong c.in_err-count-in-List.field-0.0 c.args.init.now c.in-List.opening c.in-List.first c.in-List.others c.in-List.last_comma c.in-List.closing c.deref.result.now c.deref-in-List.result.now (any_slot c.args.slot) (any_slot c.part-in-List.result) c.args.inside (begun_of c.args.sink.now) (begun_of c.initialize.new.sink) known (known_of c.initialize.new.checker) c.in-List.is c.deref.ensures c.deref-in-List.ensures.value (c.part-in-List.ensures known) c.in_ok-initialize-in-List.ensures c.in_err-count-in-List.ensures.begun)
+    (more_wrong c.in_err-count-in-List.field-0.0 c.args.init.now c.in-List.opening c.in-List.first c.in-List.others c.in-List.last_comma c.in-List.closing c.deref.result.now c.deref-in-List.result.now (any_slot c.args.slot) (any_slot c.part-part.result) c.args.inside (begun_of c.args.sink.now) (begun_of c.initialize.new.sink) known (known_of c.initialize.new.checker) c.in-List.is c.deref.ensures c.deref-in-List.ensures.value (c.part-part.ensures known) c.in_ok-initialize-in-List.ensures c.in_err-count-in-List.ensures.begun)
 
 pub initialize-returns-in_ok-operand-in-Assign : goal.initialize-returns-in_ok-operand-in-Assign
 initialize-returns-in_ok-operand-in-Assign t c =
@@ -61,5 +61,5 @@ initialize-returns-in-Text t c =
 pub initialize-returns-in_ok-count-in-List : goal.initialize-returns-in_ok-count-in-List
 initialize-returns-in_ok-count-in-List t c =
     let known = known_of c.args.checker.now in
-    list_answered _ c.close_list.result _ c.args.init.now c.in-List.opening c.in-List.first c.in-List.others c.in-List.last_comma c.in-List.closing c.deref.result.now c.deref-in-List.result.now (any_slot c.args.slot) (any_slot c.part-in-List.result) c.args.inside c.in_ok-count-in-List.count
-    (begun_of c.args.sink.now) (begun_of c.initialize.new.sink) (begun_of c.items.new.sink) known (known_of c.initialize.new.checker) (known_of c.items.new.checker) c.in-List.is c.deref.ensures c.deref-in-List.ensures.value (c.part-in-List.ensures known) c.in_ok-initialize-in-List.ensures c.in_ok-count-in-List.ensures.begun c.in_ok-count-in-List.ensures.count (c.close_list.ensures (known_of c.items.new.checker))
+    list_answered _ c.close_list.result _ c.args.init.now c.in-List.opening c.in-List.first c.in-List.others c.in-List.last_comma c.in-List.closing c.deref.result.now c.deref-in-List.result.now (any_slot c.args.slot) (any_slot c.part-part.result) c.args.inside c.in_ok-count-in-List.count
+    (begun_of c.args.sink.now) (begun_of c.initialize.new.sink) (begun_of c.items.new.sink) known (known_of c.initialize.new.checker) (known_of c.items.new.checker) c.in-List.is c.deref.ensures c.deref-in-List.ensures.value (c.part-part.ensures known) c.in_ok-initialize-in-List.ensures c.in_ok-count-in-List.ensures.begun c.in_ok-count-in-List.ensures.count (c.close_list.ensures (known_of c.items.new.checker))
