@@ -1,0 +1,5 @@
+mod Lists
+mod Runs
+mod Loops
+mod Making
+mod Bodies

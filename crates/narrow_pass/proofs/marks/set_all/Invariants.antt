@@ -1,0 +1,6 @@
+use Rattle.std.proofs.Common.{◌≡◌}
+use Rattle.narrow_pass.specs.Ways.{mark_of, marks_of, set_bytes}
+use Rattle.narrow_pass.proofs.marks.set_all.Given as goal
+
+abbrev pub invariant-loop-k : goal.invariant-loop-k
+invariant-loop-k l = marks_of l.here.items ≡ set_bytes (marks_of l.initial.here.items) l.at l.k (λ i. mark_of l.mark)

@@ -1,0 +1,474 @@
+//! What an operation without parts reads and writes.
+
+ghost use Rattle.std.specs.Prelude.{◌≡◌, true, false, ◌&&◌, ◌||◌, IfSome};
+ghost use Rattle.c_ints.specs.Operators.{type_of, unary_type, compares, shifts};
+ghost use Rattle.c_ints.specs.Range.{bytes_of};
+ghost use Rattle.core_code.specs.Values.{right_type};
+ghost use Rattle.core_code.specs.View.{tree_of};
+ghost use Rattle.narrow_code.specs.Checked as tested;
+ghost use Rattle.narrow_code.specs.Lending as lending;
+ghost use Rattle.narrow_code.specs.Marks.{low_alone};
+ghost use Rattle.narrow_code.specs.Right as rules;
+ghost use Rattle.narrow_pass.specs.Narrowed.{lent_by};
+ghost use Rattle.narrow_pass.specs.Ways as stated;
+ghost use Rattle.narrow_pass.specs.Ways.{mark_of, marks_of, turns_of};
+
+use crate::marks::{
+    Mark, Run, is_lent, is_number, mark_at, may_differ, put_all, put_low, put_nowhere, put_on,
+    put_one, same_from,
+};
+use crate::turns::Turns;
+use c_ints::{BinOp, IntTy, UnOp, promote, size};
+use core_code::{Byte, Core};
+
+// ---- types
+
+fn bytes_in(ty: IntTy) -> u16
+    ensures value { result ≡ bytes_of ty }
+{
+    size(ty) as u16
+}
+
+fn compares(op: BinOp) -> bool
+    ensures { result ≡ compares op }
+{
+    match op {
+        BinOp::Lt | BinOp::Gt | BinOp::Le | BinOp::Ge | BinOp::Eq | BinOp::Ne => true,
+        BinOp::Mul
+        | BinOp::Div
+        | BinOp::Rem
+        | BinOp::Add
+        | BinOp::Sub
+        | BinOp::Shl
+        | BinOp::Shr
+        | BinOp::And
+        | BinOp::Xor
+        | BinOp::Or => false,
+    }
+}
+
+fn shifts(op: BinOp) -> bool
+    ensures { result ≡ shifts op }
+{
+    match op {
+        BinOp::Shl | BinOp::Shr => true,
+        BinOp::Mul
+        | BinOp::Div
+        | BinOp::Rem
+        | BinOp::Add
+        | BinOp::Sub
+        | BinOp::Lt
+        | BinOp::Gt
+        | BinOp::Le
+        | BinOp::Ge
+        | BinOp::Eq
+        | BinOp::Ne
+        | BinOp::And
+        | BinOp::Xor
+        | BinOp::Or => false,
+    }
+}
+
+/// Whether the low byte of what an operator gives takes the low bytes of its operands alone.
+pub fn is_low(op: BinOp) -> bool
+    ensures { result ≡ rules.is_low op }
+{
+    match op {
+        BinOp::Add | BinOp::Sub | BinOp::And | BinOp::Xor | BinOp::Or => true,
+        BinOp::Mul
+        | BinOp::Div
+        | BinOp::Rem
+        | BinOp::Shl
+        | BinOp::Shr
+        | BinOp::Lt
+        | BinOp::Gt
+        | BinOp::Le
+        | BinOp::Ge
+        | BinOp::Eq
+        | BinOp::Ne => false,
+    }
+}
+
+fn type_of(op: BinOp, ty: IntTy) -> IntTy
+    ensures { result ≡ type_of op ty }
+{
+    if compares(op) { IntTy::Int } else { ty }
+}
+
+fn right_type(op: BinOp, ty: IntTy) -> IntTy
+    ensures { result ≡ right_type op ty }
+{
+    if shifts(op) { IntTy::UChar } else { ty }
+}
+
+fn unary_type(op: UnOp, ty: IntTy) -> IntTy
+    ensures { result ≡ unary_type op ty }
+{
+    match op {
+        UnOp::Bang => IntTy::Int,
+        UnOp::Plus | UnOp::Minus | UnOp::Not => promote(ty),
+    }
+}
+
+// ---- reads
+
+fn nothing_read() -> Run
+    ensures { result ≡ stated.nothing_read }
+{
+    Run {
+        byte: Byte::Device { address: 0 },
+        count: 0,
+    }
+}
+
+/// The first bytes that an operation reads.
+#[tactic(auto, using(core_code::proofs::Views::tree_set, core_code::proofs::Views::tree_address, core_code::proofs::Views::tree_copy, core_code::proofs::Views::tree_load, core_code::proofs::Views::tree_store, core_code::proofs::Views::tree_unary, core_code::proofs::Views::tree_binary, core_code::proofs::Views::tree_convert, core_code::proofs::Views::tree_bit_read, core_code::proofs::Views::tree_bit_write, core_code::proofs::Views::tree_call, core_code::proofs::Views::tree_leave, core_code::proofs::Views::tree_many, core_code::proofs::Views::tree_if, core_code::proofs::Views::tree_loop, core_code::proofs::Views::tree_exit, core_code::proofs::Views::tree_again))]
+pub fn first_read(c: &Core) -> Run
+    ensures { result ≡ stated.first_read (tree_of c.now) }
+{
+    match c {
+        Core::Copy { from, .. } | Core::BitWrite { from, .. } => Run {
+            byte: *from,
+            count: 1,
+        },
+        Core::Load { pointer, .. } | Core::Store { pointer, .. } => Run {
+            byte: *pointer,
+            count: 2,
+        },
+        Core::Unary { ty, at, .. } => Run {
+            byte: *at,
+            count: bytes_in(*ty),
+        },
+        Core::Binary { ty, left, .. } => Run {
+            byte: *left,
+            count: bytes_in(*ty),
+        },
+        Core::Convert { from, at, .. } => Run {
+            byte: *at,
+            count: bytes_in(*from),
+        },
+        Core::Set { .. }
+        | Core::Address { .. }
+        | Core::BitRead { .. }
+        | Core::Call { .. }
+        | Core::Leave
+        | Core::Many(_)
+        | Core::If { .. }
+        | Core::Loop(_)
+        | Core::Exit(_)
+        | Core::Again(_) => nothing_read(),
+    }
+}
+
+/// The others.
+#[tactic(auto, using(core_code::proofs::Views::tree_set, core_code::proofs::Views::tree_address, core_code::proofs::Views::tree_copy, core_code::proofs::Views::tree_load, core_code::proofs::Views::tree_store, core_code::proofs::Views::tree_unary, core_code::proofs::Views::tree_binary, core_code::proofs::Views::tree_convert, core_code::proofs::Views::tree_bit_read, core_code::proofs::Views::tree_bit_write, core_code::proofs::Views::tree_call, core_code::proofs::Views::tree_leave, core_code::proofs::Views::tree_many, core_code::proofs::Views::tree_if, core_code::proofs::Views::tree_loop, core_code::proofs::Views::tree_exit, core_code::proofs::Views::tree_again))]
+pub fn second_read(c: &Core) -> Run
+    ensures { result ≡ stated.second_read (tree_of c.now) }
+{
+    match c {
+        Core::Store { from, count, .. } => Run {
+            byte: *from,
+            count: *count,
+        },
+        Core::Binary { op, ty, right, .. } => Run {
+            byte: *right,
+            count: bytes_in(right_type(*op, *ty)),
+        },
+        Core::Set { .. }
+        | Core::Address { .. }
+        | Core::Copy { .. }
+        | Core::Load { .. }
+        | Core::Unary { .. }
+        | Core::Convert { .. }
+        | Core::BitRead { .. }
+        | Core::BitWrite { .. }
+        | Core::Call { .. }
+        | Core::Leave
+        | Core::Many(_)
+        | Core::If { .. }
+        | Core::Loop(_)
+        | Core::Exit(_)
+        | Core::Again(_) => nothing_read(),
+    }
+}
+
+/// The bytes that an operation writes by name.
+pub fn write_of(c: &Core) -> Run {
+    match c {
+        Core::Set { to, .. } | Core::Copy { to, .. } | Core::BitRead { to, .. } => Run {
+            byte: *to,
+            count: 1,
+        },
+        Core::Address { to, .. } => Run {
+            byte: *to,
+            count: 2,
+        },
+        Core::Load { to, count, .. } => Run {
+            byte: *to,
+            count: *count,
+        },
+        Core::Unary { op, ty, at } => Run {
+            byte: *at,
+            count: bytes_in(unary_type(*op, *ty)),
+        },
+        Core::Binary { op, ty, to, .. } => Run {
+            byte: *to,
+            count: bytes_in(type_of(*op, *ty)),
+        },
+        Core::Convert { to, at, .. } => Run {
+            byte: *at,
+            count: bytes_in(*to),
+        },
+        _ => nothing_read(),
+    }
+}
+
+// ---- control
+
+/// Whether an operation has no parts, and the loop that it leaves or repeats allows that.
+#[tactic(auto, using(core_code::proofs::Views::tree_set, core_code::proofs::Views::tree_address, core_code::proofs::Views::tree_copy, core_code::proofs::Views::tree_load, core_code::proofs::Views::tree_store, core_code::proofs::Views::tree_unary, core_code::proofs::Views::tree_binary, core_code::proofs::Views::tree_convert, core_code::proofs::Views::tree_bit_read, core_code::proofs::Views::tree_bit_write, core_code::proofs::Views::tree_call, core_code::proofs::Views::tree_leave, core_code::proofs::Views::tree_many, core_code::proofs::Views::tree_if, core_code::proofs::Views::tree_loop, core_code::proofs::Views::tree_exit, core_code::proofs::Views::tree_again))]
+pub fn may_go(turns: &Turns, here: &[Mark], c: &Core) -> bool
+    ensures goes { result ≡ true → stated.may_go (turns_of turns.now.list.items) (marks_of here.now) (tree_of c.now) ≡ true }
+{
+    match c {
+        Core::Exit(count) => turns.may_exit(*count, here),
+        Core::Again(count) => turns.may_repeat(*count, here),
+        Core::Many(_) | Core::If { .. } | Core::Loop(_) => false,
+        Core::Set { .. }
+        | Core::Address { .. }
+        | Core::Copy { .. }
+        | Core::Load { .. }
+        | Core::Store { .. }
+        | Core::Unary { .. }
+        | Core::Binary { .. }
+        | Core::Convert { .. }
+        | Core::BitRead { .. }
+        | Core::BitWrite { .. }
+        | Core::Call { .. }
+        | Core::Leave => true,
+    }
+}
+
+fn takes_lent(lent: &[bool], place: Byte) -> bool
+    ensures { result ≡ lending.takes_lent (lent_by lent.now) place }
+{
+    match place {
+        Byte::Frame { copy, .. } => is_lent(lent, copy),
+        Byte::Static { .. } | Byte::Result { .. } | Byte::Device { .. } => true,
+    }
+}
+
+/// Whether an operation without parts takes no address of a frame but of those that are lent.
+#[tactic(auto, using(core_code::proofs::Views::tree_set, core_code::proofs::Views::tree_address, core_code::proofs::Views::tree_copy, core_code::proofs::Views::tree_load, core_code::proofs::Views::tree_store, core_code::proofs::Views::tree_unary, core_code::proofs::Views::tree_binary, core_code::proofs::Views::tree_convert, core_code::proofs::Views::tree_bit_read, core_code::proofs::Views::tree_bit_write, core_code::proofs::Views::tree_call, core_code::proofs::Views::tree_leave, core_code::proofs::Views::tree_many, core_code::proofs::Views::tree_if, core_code::proofs::Views::tree_loop, core_code::proofs::Views::tree_exit, core_code::proofs::Views::tree_again))]
+pub fn lends(lent: &[bool], c: &Core) -> bool
+    ensures lent { result ≡ true → lending.lends (lent_by lent.now) (tree_of c.now) ≡ true }
+{
+    match c {
+        Core::Address { place, .. } => takes_lent(lent, *place),
+        Core::Many(_) | Core::If { .. } | Core::Loop(_) => false,
+        Core::Set { .. }
+        | Core::Copy { .. }
+        | Core::Load { .. }
+        | Core::Store { .. }
+        | Core::Unary { .. }
+        | Core::Binary { .. }
+        | Core::Convert { .. }
+        | Core::BitRead { .. }
+        | Core::BitWrite { .. }
+        | Core::Call { .. }
+        | Core::Exit(_)
+        | Core::Again(_)
+        | Core::Leave => true,
+    }
+}
+
+// ---- writes
+
+fn numbers_if(holds: bool) -> Mark
+    ensures { mark_of result ≡ rules.numbers_if holds }
+{
+    if holds { Mark::Numbers } else { Mark::Same }
+}
+
+fn number_at(lent: &[bool], copy: u16, here: &[Mark], byte: Byte) -> bool
+    ensures { result ≡ tested.number_at (lent_by lent.now) copy (marks_of here.now) byte }
+{
+    is_number(mark_at(lent, copy, here, byte))
+}
+
+fn result_mark(left: bool, right: bool) -> Mark
+    ensures { mark_of result ≡ rules.result_mark left right }
+{
+    numbers_if(left && right)
+}
+
+fn converted_mark(from: IntTy, number: bool) -> Mark
+    ensures { mark_of result ≡ rules.converted_mark from number }
+{
+    numbers_if(number || !(bytes_in(from) == 2))
+}
+
+/// What is known behind an operation without parts.
+#[tactic(auto, using(core_code::proofs::Views::tree_set, core_code::proofs::Views::tree_address, core_code::proofs::Views::tree_copy, core_code::proofs::Views::tree_load, core_code::proofs::Views::tree_store, core_code::proofs::Views::tree_unary, core_code::proofs::Views::tree_binary, core_code::proofs::Views::tree_convert, core_code::proofs::Views::tree_bit_read, core_code::proofs::Views::tree_bit_write, core_code::proofs::Views::tree_call, core_code::proofs::Views::tree_leave, core_code::proofs::Views::tree_many, core_code::proofs::Views::tree_if, core_code::proofs::Views::tree_loop, core_code::proofs::Views::tree_exit, core_code::proofs::Views::tree_again))]
+pub fn write(lent: &[bool], copy: u16, here: &mut Vec<Mark>, c: &Core)
+    ensures { marks_of here.new.items ≡ stated.written (lent_by lent.now) copy (marks_of here.old.items) (tree_of c.now) }
+{
+    match c {
+        Core::Set { to, .. } | Core::BitRead { to, .. } => {
+            put_one(copy, here, *to, Mark::Numbers);
+        }
+        Core::Address { to, .. } => put_all(copy, here, *to, 2, Mark::Same),
+        Core::Copy { to, from } => {
+            let mark = mark_at(lent, copy, here, *from);
+            put_one(copy, here, *to, mark);
+        }
+        Core::Load { to, count, .. } => put_on(copy, here, *to, *count),
+        Core::Unary { op, ty, at } => {
+            put_all(
+                copy,
+                here,
+                *at,
+                bytes_in(unary_type(*op, *ty)),
+                Mark::Numbers,
+            );
+        }
+        Core::Binary {
+            op,
+            ty,
+            to,
+            left,
+            right,
+        } => {
+            let mark = result_mark(
+                number_at(lent, copy, here, *left),
+                number_at(lent, copy, here, *right),
+            );
+            put_all(copy, here, *to, bytes_in(type_of(*op, *ty)), mark);
+        }
+        Core::Convert { from, to, at } => {
+            let mark = converted_mark(*from, number_at(lent, copy, here, *at));
+            put_all(copy, here, *at, bytes_in(*to), mark);
+        }
+        Core::Leave | Core::Exit(_) | Core::Again(_) => put_nowhere(here),
+        Core::Store { .. }
+        | Core::BitWrite { .. }
+        | Core::Call { .. }
+        | Core::Many(_)
+        | Core::If { .. }
+        | Core::Loop(_) => {}
+    }
+}
+
+// ---- operators on low bytes
+
+/// Whether an operator may be done on the low bytes.
+pub fn may_cut(
+    lent: &[bool],
+    copy: u16,
+    here: &[Mark],
+    op: BinOp,
+    ty: IntTy,
+    to: Byte,
+    left: Byte,
+    right: Byte,
+) -> bool
+    ensures { result ≡ tested.may_cut (lent_by lent.now) copy (marks_of here.now) op ty to left right }
+{
+    is_low(op)
+        && 1 < bytes_in(ty)
+        && number_at(lent, copy, here, left)
+        && number_at(lent, copy, here, right)
+        && may_differ(lent, copy, to)
+}
+
+/// What is known behind an operator that is done on the low bytes.
+pub fn put_cut(copy: u16, here: &mut Vec<Mark>, ty: IntTy, to: Byte)
+    ensures { marks_of here.new.items ≡ tested.put_bytes copy (marks_of here.old.items) to (bytes_of ty) low_alone }
+{
+    put_low(copy, here, to, bytes_in(ty));
+}
+
+/// Whether all that an operation reads is the same.
+#[tactic(auto, using(crate::proofs::Runs::both_same))]
+pub fn reads_same(lent: &[bool], copy: u16, here: &[Mark], c: &Core) -> bool
+    ensures same { result ≡ true → stated.reads_same (lent_by lent.now) copy (marks_of here.now) (tree_of c.now) ≡ true }
+{
+    same_from(lent, copy, here, first_read(c)) && same_from(lent, copy, here, second_read(c))
+}
+
+/// The same operation, where it has no parts.
+#[tactic(auto, using(core_code::proofs::Views::tree_set, core_code::proofs::Views::tree_address, core_code::proofs::Views::tree_copy, core_code::proofs::Views::tree_load, core_code::proofs::Views::tree_store, core_code::proofs::Views::tree_unary, core_code::proofs::Views::tree_binary, core_code::proofs::Views::tree_convert, core_code::proofs::Views::tree_bit_read, core_code::proofs::Views::tree_bit_write, core_code::proofs::Views::tree_call, core_code::proofs::Views::tree_leave, core_code::proofs::Views::tree_many, core_code::proofs::Views::tree_if, core_code::proofs::Views::tree_loop, core_code::proofs::Views::tree_exit, core_code::proofs::Views::tree_again))]
+pub fn same_operation(c: &Core) -> Option<Core>
+    ensures { IfSome result (λ made. made ≡ c.now) }
+{
+    Some(match c {
+        Core::Set { to, value } => Core::Set {
+            to: *to,
+            value: *value,
+        },
+        Core::Address { to, place } => Core::Address {
+            to: *to,
+            place: *place,
+        },
+        Core::Copy { to, from } => Core::Copy {
+            to: *to,
+            from: *from,
+        },
+        Core::Load { to, pointer, count } => Core::Load {
+            to: *to,
+            pointer: *pointer,
+            count: *count,
+        },
+        Core::Store {
+            pointer,
+            from,
+            count,
+        } => Core::Store {
+            pointer: *pointer,
+            from: *from,
+            count: *count,
+        },
+        Core::Unary { op, ty, at } => Core::Unary {
+            op: *op,
+            ty: *ty,
+            at: *at,
+        },
+        Core::Binary {
+            op,
+            ty,
+            to,
+            left,
+            right,
+        } => Core::Binary {
+            op: *op,
+            ty: *ty,
+            to: *to,
+            left: *left,
+            right: *right,
+        },
+        Core::Convert { from, to, at } => Core::Convert {
+            from: *from,
+            to: *to,
+            at: *at,
+        },
+        Core::BitRead { to, register, bit } => Core::BitRead {
+            to: *to,
+            register: *register,
+            bit: *bit,
+        },
+        Core::BitWrite {
+            register,
+            bit,
+            from,
+        } => Core::BitWrite {
+            register: *register,
+            bit: *bit,
+            from: *from,
+        },
+        Core::Call { copy } => Core::Call { copy: *copy },
+        Core::Leave => Core::Leave,
+        Core::Exit(count) => Core::Exit(*count),
+        Core::Again(count) => Core::Again(*count),
+        Core::Many(_) | Core::If { .. } | Core::Loop(_) => return None,
+    })
+}
