@@ -2,8 +2,6 @@ mod Lists
 mod Places
 mod Alike
 mod Computing
-mod Bits
-mod Shown
 mod Facts
 mod Flags
 mod Accesses
@@ -14,7 +12,6 @@ mod KeptRows
 mod Dropped
 mod Narrow
 mod Reading
-mod Testing
 mod Cleared
 mod Put
 mod Steps

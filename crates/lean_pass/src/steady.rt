@@ -81,7 +81,6 @@ fn is_steady_skip(act: Act, rest: &[Row]) -> bool
         Act::Narrows => false,
         Act::Clears => false,
         Act::Reads { .. } => next_stays(rest),
-        Act::Tests { .. } => next_stays(rest),
     }
 }
 
@@ -95,7 +94,6 @@ fn puts_return(act: Act) -> bool
         Act::Narrows => false,
         Act::Clears => false,
         Act::Reads { .. } => false,
-        Act::Tests { .. } => false,
     }
 }
 

@@ -39,7 +39,6 @@ pub fn stays_out(sym: Sym, act: Act) -> bool
         Act::Narrows => false,
         Act::Clears => false,
         Act::Reads { .. } => false,
-        Act::Tests { .. } => false,
     }
 }
 

@@ -11,6 +11,5 @@ mod Rows
 mod Expressions
 mod Statements
 mod Lowering
-mod Narrowing
 mod Joining
 pub mod Whole

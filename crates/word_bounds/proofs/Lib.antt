@@ -12,7 +12,7 @@ mod Expressions
 mod Declared
 mod Segments
 mod Statements
-pub mod Naming
+mod Naming
 mod Lying
 mod Rooms
 mod Standing

@@ -69,8 +69,7 @@ fn is_through(aim: Aim) -> bool {
     }
 }
 
-/// The flag by the number of its bit.
-pub fn flag_of(bit: u8) -> Flags {
+fn flag_of(bit: u8) -> Flags {
     Flags {
         z: bit == 2,
         dc: bit == 1,

@@ -3,7 +3,6 @@
 mod bits;
 mod bodies;
 mod choosing;
-mod deciding;
 mod differing;
 mod effects;
 mod known;
