@@ -3,3 +3,4 @@ mod Runs
 mod Loops
 mod Making
 mod Bodies
+pub mod Trees

@@ -122,7 +122,7 @@ fn nothing_read() -> Run
 }
 
 /// The first bytes that an operation reads.
-#[tactic(auto, using(core_code::proofs::Views::tree_set, core_code::proofs::Views::tree_address, core_code::proofs::Views::tree_copy, core_code::proofs::Views::tree_load, core_code::proofs::Views::tree_store, core_code::proofs::Views::tree_unary, core_code::proofs::Views::tree_binary, core_code::proofs::Views::tree_convert, core_code::proofs::Views::tree_bit_read, core_code::proofs::Views::tree_bit_write, core_code::proofs::Views::tree_call, core_code::proofs::Views::tree_leave, core_code::proofs::Views::tree_many, core_code::proofs::Views::tree_if, core_code::proofs::Views::tree_loop, core_code::proofs::Views::tree_exit, core_code::proofs::Views::tree_again))]
+#[tactic(auto, using(crate::proofs::Trees::trees))]
 pub fn first_read(c: &Core) -> Run
     ensures { result ≡ stated.first_read (tree_of c.now) }
 {
@@ -161,7 +161,7 @@ pub fn first_read(c: &Core) -> Run
 }
 
 /// The others.
-#[tactic(auto, using(core_code::proofs::Views::tree_set, core_code::proofs::Views::tree_address, core_code::proofs::Views::tree_copy, core_code::proofs::Views::tree_load, core_code::proofs::Views::tree_store, core_code::proofs::Views::tree_unary, core_code::proofs::Views::tree_binary, core_code::proofs::Views::tree_convert, core_code::proofs::Views::tree_bit_read, core_code::proofs::Views::tree_bit_write, core_code::proofs::Views::tree_call, core_code::proofs::Views::tree_leave, core_code::proofs::Views::tree_many, core_code::proofs::Views::tree_if, core_code::proofs::Views::tree_loop, core_code::proofs::Views::tree_exit, core_code::proofs::Views::tree_again))]
+#[tactic(auto, using(crate::proofs::Trees::trees))]
 pub fn second_read(c: &Core) -> Run
     ensures { result ≡ stated.second_read (tree_of c.now) }
 {
@@ -226,7 +226,7 @@ pub fn write_of(c: &Core) -> Run {
 // ---- control
 
 /// Whether an operation has no parts, and the loop that it leaves or repeats allows that.
-#[tactic(auto, using(core_code::proofs::Views::tree_set, core_code::proofs::Views::tree_address, core_code::proofs::Views::tree_copy, core_code::proofs::Views::tree_load, core_code::proofs::Views::tree_store, core_code::proofs::Views::tree_unary, core_code::proofs::Views::tree_binary, core_code::proofs::Views::tree_convert, core_code::proofs::Views::tree_bit_read, core_code::proofs::Views::tree_bit_write, core_code::proofs::Views::tree_call, core_code::proofs::Views::tree_leave, core_code::proofs::Views::tree_many, core_code::proofs::Views::tree_if, core_code::proofs::Views::tree_loop, core_code::proofs::Views::tree_exit, core_code::proofs::Views::tree_again))]
+#[tactic(auto, using(crate::proofs::Trees::trees))]
 pub fn may_go(turns: &Turns, here: &[Mark], c: &Core) -> bool
     ensures goes { result ≡ true → stated.may_go (turns_of turns.now.list.items) (marks_of here.now) (tree_of c.now) ≡ true }
 {
@@ -259,7 +259,7 @@ fn takes_lent(lent: &[bool], place: Byte) -> bool
 }
 
 /// Whether an operation without parts takes no address of a frame but of those that are lent.
-#[tactic(auto, using(core_code::proofs::Views::tree_set, core_code::proofs::Views::tree_address, core_code::proofs::Views::tree_copy, core_code::proofs::Views::tree_load, core_code::proofs::Views::tree_store, core_code::proofs::Views::tree_unary, core_code::proofs::Views::tree_binary, core_code::proofs::Views::tree_convert, core_code::proofs::Views::tree_bit_read, core_code::proofs::Views::tree_bit_write, core_code::proofs::Views::tree_call, core_code::proofs::Views::tree_leave, core_code::proofs::Views::tree_many, core_code::proofs::Views::tree_if, core_code::proofs::Views::tree_loop, core_code::proofs::Views::tree_exit, core_code::proofs::Views::tree_again))]
+#[tactic(auto, using(crate::proofs::Trees::trees))]
 pub fn lends(lent: &[bool], c: &Core) -> bool
     ensures lent { result ≡ true → lending.lends (lent_by lent.now) (tree_of c.now) ≡ true }
 {
@@ -309,7 +309,7 @@ fn converted_mark(from: IntTy, number: bool) -> Mark
 }
 
 /// What is known behind an operation without parts.
-#[tactic(auto, using(core_code::proofs::Views::tree_set, core_code::proofs::Views::tree_address, core_code::proofs::Views::tree_copy, core_code::proofs::Views::tree_load, core_code::proofs::Views::tree_store, core_code::proofs::Views::tree_unary, core_code::proofs::Views::tree_binary, core_code::proofs::Views::tree_convert, core_code::proofs::Views::tree_bit_read, core_code::proofs::Views::tree_bit_write, core_code::proofs::Views::tree_call, core_code::proofs::Views::tree_leave, core_code::proofs::Views::tree_many, core_code::proofs::Views::tree_if, core_code::proofs::Views::tree_loop, core_code::proofs::Views::tree_exit, core_code::proofs::Views::tree_again))]
+#[tactic(auto, using(crate::proofs::Trees::trees))]
 pub fn write(lent: &[bool], copy: u16, here: &mut Vec<Mark>, c: &Core)
     ensures { marks_of here.new.items ≡ stated.written (lent_by lent.now) copy (marks_of here.old.items) (tree_of c.now) }
 {
@@ -397,7 +397,7 @@ pub fn reads_same(lent: &[bool], copy: u16, here: &[Mark], c: &Core) -> bool
 }
 
 /// The same operation, where it has no parts.
-#[tactic(auto, using(core_code::proofs::Views::tree_set, core_code::proofs::Views::tree_address, core_code::proofs::Views::tree_copy, core_code::proofs::Views::tree_load, core_code::proofs::Views::tree_store, core_code::proofs::Views::tree_unary, core_code::proofs::Views::tree_binary, core_code::proofs::Views::tree_convert, core_code::proofs::Views::tree_bit_read, core_code::proofs::Views::tree_bit_write, core_code::proofs::Views::tree_call, core_code::proofs::Views::tree_leave, core_code::proofs::Views::tree_many, core_code::proofs::Views::tree_if, core_code::proofs::Views::tree_loop, core_code::proofs::Views::tree_exit, core_code::proofs::Views::tree_again))]
+#[tactic(auto, using(crate::proofs::Trees::trees))]
 pub fn same_operation(c: &Core) -> Option<Core>
     ensures { IfSome result (λ made. made ≡ c.now) }
 {
