@@ -46,7 +46,7 @@ use Rattle.headline.specs.Headline.{Source, Follows, setting_of}
 use Rattle.headline.specs.SourceOf as sources
 use Rattle.headline.specs.SourceOf.{source_of}
 use Rattle.headline_trace.specs.Carried.{IsLed, IsSeen, IsTold}
-use Rattle.headline_trace.specs.Linked.{IsLinked, MakesHeadline, bare_setting, full_setting}
+use Rattle.headline_trace.specs.Linked.{IsLinked, MakesHeadline, program_with, bare_setting, full_setting}
 use Rattle.headline_trace.proofs.Beginning.{begins as begins_alike}
 use Rattle.headline_trace.proofs.Chains.{led_on}
 use Rattle.headline_trace.proofs.Ends.{end_state, frames}
@@ -59,6 +59,10 @@ module _ (p : Program) (copies : List FnCopy) (bodies : List Body) (statics : Li
     (start : Start) (inputs : List ℕ) (arrivals : List Arrival) (is_start : IsStart start) (small : All (λ byte. byte < 256) inputs) where
   abbrev q : core.Program
   q = core_of p copies
+
+  -- the program of which blocks are selected
+  abbrev r : core.Program
+  r = program_with p copies bodies
 
   abbrev plain : Setting
   plain = bare_setting given made handler placed at limit
@@ -119,6 +123,9 @@ module _ (p : Program) (copies : List FnCopy) (bodies : List Body) (statics : Li
     abbrev byte_run : Run (Happening Held)
     byte_run = core_runs.run_of (record { program = q; outside = o })
 
+    abbrev narrow_run : Run (Happening Held)
+    narrow_run = core_runs.run_of (record { program = r; outside = o })
+
     abbrev plain_run : Run (Happening ℕ)
     plain_run = weighed_of plain linked.price linked.sure e o (sym_start plain.program begins m)
 
@@ -139,6 +146,10 @@ module _ (p : Program) (copies : List FnCopy) (bodies : List Body) (statics : Li
     unfolding core_runs.least_by
     byte_free = refl
 
+    narrow_free : narrow_run.least 0 ≡ 0
+    unfolding core_runs.least_by
+    narrow_free = refl
+
     plain_free : plain_run.least 0 ≡ 0
     unfolding cost_by
     plain_free = refl
@@ -147,11 +158,17 @@ module _ (p : Program) (copies : List FnCopy) (bodies : List Body) (statics : Li
     unfolding cost_by
     bare_free = refl
 
+    -- with operators on low bytes
+    led_narrow : IsLed (event_as (held_as p copies)) (above o) (steps_by (sources.setting_of p o)) (nodes_of p) narrow_run
+    led_narrow =
+        led_on (event_as (held_as p copies)) (λ event. event) (above o) byte_run narrow_run (steps_by (sources.setting_of p o)) (nodes_of p) byte_free led_byte
+        (λ k d. linked.narrowed o k d)
+
     -- symbolic code, by that of selection, leaner, and with its selects
     led_plain : IsLed show (above o) (steps_by (sources.setting_of p o)) (nodes_of p) plain_run
     led_plain =
-        led_on (event_as (held_as p copies)) (event_as (shown l)) (above o) byte_run plain_run (steps_by (sources.setting_of p o)) (nodes_of p) byte_free led_byte
-        (λ k d. selection_law q copies bodies reaches plain linked.price linked.sure linked.selected o (bytes_in o is) e begins m entries begun k d)
+        led_on (event_as (held_as p copies)) (event_as (shown l)) (above o) narrow_run plain_run (steps_by (sources.setting_of p o)) (nodes_of p) narrow_free led_narrow
+        (λ k d. selection_law r copies bodies reaches plain linked.price linked.sure linked.selected o (bytes_in o is) e begins m entries begun k d)
 
     led_bare : IsLed show (above o) (steps_by (sources.setting_of p o)) (nodes_of p) bare_run
     led_bare =

@@ -1,5 +1,5 @@
 -- A program with its code in every language of the compiler, and what all links together say of it.
-use Rattle.std.specs.Prelude.{ℕ, ◌≡◌, ◌<◌, Bool, true, false, List, Option, map}
+use Rattle.std.specs.Prelude.{ℕ, ◌≡◌, ◌<◌, Bool, true, false, List, [], Option, Some, None, map}
 use Rattle.std.specs.Global.{Global}
 use Rattle.std.specs.List.{All}
 use Rattle.std.specs.declared.vec.Vec.{Vec}
@@ -13,6 +13,10 @@ use Rattle.pic_world.specs.World.{Outside}
 use Rattle.pic_world.specs.declared.Arrival.{Arrival}
 use Rattle.run_links.specs.Runs as runs
 use Rattle.run_links.specs.Runs.{Goes, IsSlow}
+use Rattle.core_code.specs.Machine as byte_code
+use Rattle.core_code.specs.Runs as byte_runs
+use Rattle.core_code.specs.Tree.{Tree}
+use Rattle.core_code.specs.View.{trees_in}
 use Rattle.core_code.specs.declared.code.Body.{Body}
 use Rattle.core_code.specs.declared.code.FirstByte.{FirstByte}
 use Rattle.sym_code.specs.Effect.{Setting, Memory}
@@ -30,6 +34,7 @@ use Rattle.src_values.specs.Objects.{function_at}
 use Rattle.src_values.specs.declared.objects.CopyOf.{CopyOf}
 use Rattle.lower_stmt.specs.Programs.{core_of}
 use Rattle.lower_trace.specs.Lowering.{IsLowerable, copy_number}
+use Rattle.select_wide.specs.Blocks.{body_at}
 use Rattle.select_wide.specs.Links.{IsSelected}
 use Rattle.bank_page.specs.Links.{price_in}
 use Rattle.flow_facts.specs.Facts.{Facts}
@@ -44,6 +49,25 @@ use Rattle.headline_trace.specs.Carried.{frame_of}
 pub record IsNamed (p : Program) (copies : List FnCopy) (content : MapContent) (l : DataLayout) : Type 0 where
   pub frames : (c : CopyOf) → IsReached p c → frame_address content.frames c.root (function_at p c.function).name ≡ (frame l (copy_number copies c.root c.function)).address
 
+-- ---- byte code
+-- the code of a body that is there
+abbrev pub code_at : Option Body → List Tree
+code_at None = []
+code_at (Some body) = trees_in body.code.items
+
+-- the program of byte code, with these bodies in place of those that were lowered
+abbrev pub program_with : Program → List FnCopy → List Body → byte_code.Program
+program_with p copies bodies = record (core_of p copies) { body = λ c. code_at (body_at bodies c) }
+
+-- One program of byte code is followed by another: under every schedule, as long as it isn't stuck, and costs between two moments are no
+-- more at most and no less at least.
+abbrev pub CodeFollows : byte_code.Program → byte_code.Program → Type 0
+CodeFollows q r =
+    (o : Outside) (n : ℕ) → Goes (byte_runs.run_of (record { program = q; outside = o })) n
+    → (link : runs.Follows (λ event. event) (byte_runs.run_of (record { program = q; outside = o })) (byte_runs.run_of (record { program = r; outside = o })) n)
+    × IsSlow (λ event. event) (byte_runs.run_of (record { program = q; outside = o })) (byte_runs.run_of (record { program = r; outside = o })) n link
+
+-- ---- symbolic code
 -- symbolic code as it was selected, or leaner, without selects, on the pages of what is made of it; and with them
 abbrev pub bare_setting : List SymBlock → List SymBlock → Option ℕ → Placed → List ℕ → (Bool → ℕ) → Setting
 bare_setting given made handler placed at limit = record { program = program_of given handler placed; banked = false; page_of = page_of made at; limit = limit }
@@ -58,7 +82,7 @@ LeanFollows g h price sure new =
     → (link : runs.Follows (λ event. event) (weighed_of g price sure e o (sym_start g.program r m)) (run_of h new e o (sym_start h.program r m)) n)
     × IsSlow (λ event. event) (weighed_of g price sure e o (sym_start g.program r m)) (run_of h new e o (sym_start h.program r m)) n link
 
--- A typed program with its copies, its byte code, symbolic code as it was selected, leaner, and with selects, the words of its image,
+-- A typed program with its copies, the bodies of its byte code, symbolic code as it was selected, leaner, and with selects, the words of its image,
 -- and its map.
 pub record IsLinked (p : Program) (copies : List FnCopy) (bodies : List Body) (statics : List (Vec FirstByte Global)) (reaches : ℕ → ℕ → Bool) (given lean made : List SymBlock)
     (handler : Option ℕ) (placed : Placed) (at : List ℕ) (limit : Bool → ℕ) (image : List ℕ) (content : MapContent) : Type 0 where
@@ -66,7 +90,9 @@ pub record IsLinked (p : Program) (copies : List FnCopy) (bodies : List Body) (s
   -- what the instructions that were selected cost, and how much of each surely stays
   pub price : BlockName → ℕ → ℕ
   pub sure : BlockName → ℕ → ℕ
-  pub selected : IsSelected (core_of p copies) copies bodies reaches (bare_setting given made handler placed at limit) price sure
+  -- of byte code as it is lowered, or that follows it
+  pub narrowed : CodeFollows (core_of p copies) (program_with p copies bodies)
+  pub selected : IsSelected (program_with p copies bodies) copies bodies reaches (bare_setting given made handler placed at limit) price sure
   pub leaner : LeanFollows (bare_setting given made handler placed at limit) (bare_setting lean made handler placed at limit) price sure (price_in (block_in made))
   -- what is known of the selected bits
   pub facts : Facts

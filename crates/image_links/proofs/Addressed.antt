@@ -22,7 +22,7 @@ use Rattle.code_place.specs.Layouts.{layout_of}
 use Rattle.isr_save.specs.Start.{start_code}
 use Rattle.lean_blocks.specs.Leaner.{IsLeaner}
 use Rattle.lean_blocks.proofs.Whole.{blocks_are_leaner}
-use Rattle.lean_code.specs.Rows.{Keeps, Drops, Puts, Narrows, narrowed, Clears, cleared, Reads, operand_before, reads_before, Row, At, olds, puts}
+use Rattle.lean_code.specs.Rows.{Keeps, Drops, Puts, Narrows, narrowed, Clears, cleared, Reads, Tests, FlagName, tests_flag, operand_before, reads_before, Row, At, olds, puts}
 use Rattle.lower_stmt.specs.Bodies.{body_code, code_of as lowered_of, body_of, bodies_of, first_bytes}
 use Rattle.lower_stmt.specs.FirstBytes.{items_of}
 use Rattle.lower_stmt.specs.Frames.{ground_for}
@@ -31,10 +31,12 @@ use Rattle.pic_map.specs.MapView.{object_of, frame_of}
 use Rattle.pic_map.specs.declared.FrameLine.{FrameLine}
 use Rattle.pic_map.specs.declared.Placed.{Placed}
 use Rattle.pic_world.specs.declared.Root.{Root}
+use Rattle.program_code.proofs.Bodies.{becomes}
 use Rattle.program_code.specs.Joined.{IsJoined}
+use Rattle.program_code.specs.Passed.{IsByteCode}
 use Rattle.program_code.specs.Translated.{HasCalls}
 use Rattle.ram_place.specs.Placement.{IsPlacing}
-use Rattle.select_wide.specs.Blocks.{is_user, code_by}
+use Rattle.select_wide.specs.Blocks.{is_user, block_code, code_by}
 use Rattle.select_wide.specs.Links.{IsBody}
 use Rattle.src_rules.proofs.Starts.{sound_runs}
 use Rattle.src_rules.specs.Numbers.{ProgramHasNumbers}
@@ -51,9 +53,9 @@ use Rattle.word_bounds.proofs.Placed.{programs_keep_sizes}
 use Rattle.word_bounds.proofs.Routines.{routines_keep_there}
 use Rattle.word_bounds.proofs.Starting.{start_keeps_there}
 use Rattle.word_bounds.proofs.There.{placed_have_addresses, placed_stand_inside}
-use Rattle.word_bounds.proofs.Whole.{blocks_keep_there}
-use Rattle.word_bounds.specs.Bounds.{IsBlockOf}
-use Rattle.word_bounds.specs.Naming.{SymsLie}
+use Rattle.word_bounds.proofs.Whole.{others_keep_there}
+use Rattle.word_bounds.specs.Bounds.{IsCodeOf}
+use Rattle.word_bounds.specs.Naming.{TreesLie, SymsLie}
 use Rattle.word_bounds.specs.There.{memory_of, HasOperand, HaveOperands}
 use Rattle.image_links.specs.Addressed.{BlocksHaveOperands, BlocksStandInside, LeanKeepsOperands, OperandsHaveAddresses, SelectsKeepOperands, MadeHaveOperands}
 use Rattle.image_links.specs.Passed.{code_of}
@@ -63,6 +65,7 @@ use Rattle.image_links.proofs.Chosen.{root_is}
 use Rattle.image_links.proofs.Entered.{at_is}
 use Rattle.image_links.proofs.Laid.{is_there}
 use Rattle.image_links.proofs.Lowered.{body_there}
+use Rattle.image_links.proofs.Narrower.{all_lie_alike}
 use Rattle.image_links.proofs.Statics.{some_is}
 
 -- ---- selects
@@ -178,6 +181,19 @@ module _ (placed : Placed) where
   read_has n (syms.SelectBank bit on) h = h
   read_has n (syms.SelectPage bit target) h = h
 
+  test_has : (flag : FlagName) (turned : Bool) (s : Sym) → HasOperand placed s → HasOperand placed (tests_flag flag turned s)
+  test_has flag turned (syms.File op file into) h = h
+  test_has flag turned (syms.Movwf file) h = h
+  test_has flag turned (syms.Clrf file) h = h
+  test_has flag turned (syms.Bit op file bit) h = refl
+  test_has flag turned (syms.Literal op value) h = h
+  test_has flag turned (syms.Plain op) h = h
+  test_has flag turned (syms.Call target) h = h
+  test_has flag turned (syms.Goto target) h = h
+  test_has flag turned (syms.Label label) h = h
+  test_has flag turned (syms.SelectBank bit on) h = h
+  test_has flag turned (syms.SelectPage bit target) h = h
+
   rows_have : (rows : List Row) → HaveOperands placed (olds rows) → HaveOperands placed (puts rows)
   rows_have [] h = tt
   rows_have (At (syms.Label label) act said ∷ rows) h = (tt, rows_have rows h.1)
@@ -187,6 +203,7 @@ module _ (placed : Placed) where
   rows_have (At s Narrows said ∷ rows) h = (narrowed_has s h.0, rows_have rows h.1)
   rows_have (At s Clears said ∷ rows) h = (cleared_has s h.0, rows_have rows h.1)
   rows_have (At s (Reads n) said ∷ rows) h = (read_has n s h.0, rows_have rows h.1)
+  rows_have (At s (Tests flag turned) said ∷ rows) h = (test_has flag turned s h.0, rows_have rows h.1)
 
   lean_have : (given lean : List SymBlock) → AllZip IsLeaner given lean → BlocksHaveOperands placed given → BlocksHaveOperands placed lean
   lean_have [] [] z all k block is = absurd (cc)
@@ -201,8 +218,8 @@ pub lean_keeps_operands : LeanKeepsOperands
 lean_keeps_operands placed given lean z all = lean_have placed given lean z all
 
 -- ---- the blocks of a program
-module _ (typed : Typed) (copies : List FnCopy) (core : CoreProgram) (given : List SymBlock) (placed : Placed) (sound : is_sound (program_of typed) ≡ true) (roots : broken_root (program_of typed) ≡ None) (numbers : ProgramHasNumbers (program_of typed))
-    (bodies : map body_of core.bodies.items ≡ bodies_of (program_of typed) copies) (joined : IsJoined core copies given) (has : HasCalls (program_of typed) copies)
+module _ (typed : Typed) (copies : List FnCopy) (lowered core : CoreProgram) (given : List SymBlock) (placed : Placed) (sound : is_sound (program_of typed) ≡ true) (roots : broken_root (program_of typed) ≡ None) (numbers : ProgramHasNumbers (program_of typed))
+    (bodies : map body_of lowered.bodies.items ≡ bodies_of (program_of typed) copies) (byte_code : IsByteCode lowered core) (joined : IsJoined core copies given) (has : HasCalls (program_of typed) copies)
     (placing : IsPlacing (program_of typed) copies (map object_of placed.objects.items) (map frame_of placed.frames.items)) (statics : map items_of core.statics.items ≡ first_bytes (program_of typed)) (few : length (program_of typed).statics ≤ 65535) where
   abbrev p : Program
   p = program_of typed
@@ -221,13 +238,14 @@ module _ (typed : Typed) (copies : List FnCopy) (core : CoreProgram) (given : Li
         let known = (has.known.exact copy).0 (c, slice_get_within copies c copy there, at_is copies c copy copy there) in
         let below : f < length p.functions = subst (IsOne (length p.functions)) is known.one in
         let function = is_there p.functions f below in
-        let body : IsBody (core_of p copies) core.bodies.items c = body_there p copies (sound_runs p sound roots numbers) core.bodies.items bodies c copy there (ap is_user is) in
+        let body : IsBody (core_of p copies) lowered.bodies.items c = body_there p copies (sound_runs p sound roots numbers) lowered.bodies.items bodies c copy there (ap is_user is) in
         let under : body.body.root ≡ copy.root = sym body.root ∙ root_is p copies c copy there in
-        let lowered : trees_in body.body.code.items ≡ body_code (ground_for p copies c body.body.root function.0) function.0 =
+        let lowered_is : trees_in body.body.code.items ≡ body_code (ground_for p copies c body.body.root function.0) function.0 =
         sym body.code ∙ ap (body_in p copies c) there ∙ ap (body_for p copies c copy.root) is ∙ ap (lowered_of p copies c copy.root) function.1
         ∙ ap (λ (r : Root). body_code (ground_for p copies c r function.0) function.0) (sym under) in
-        let selected = code ∙ ap (code_of core.bodies.items copies c copy.root) is ∙ ap (code_by copies c) body.there in
-        let block : IsBlockOf p copies c function.0 g = record {
+        let become = becomes (TreesLie (memory_of p copies)) (all_lie_alike (memory_of p copies)) lowered core byte_code c body.body body.there in
+        let selected : g.list.items ≡ block_code copies c become.body = code ∙ ap (code_of core.bodies.items copies c copy.root) is ∙ ap (code_by copies c) become.there in
+        let block : IsCodeOf p copies c function.0 (block_code copies c body.body) = record {
           copy = copy;
           there = there;
           function = f;
@@ -235,13 +253,14 @@ module _ (typed : Typed) (copies : List FnCopy) (core : CoreProgram) (given : Li
           found = function.1;
           body = body.body;
           under = under;
-          lowered = lowered;
-          selected = selected;
+          lowered = lowered_is;
+          selected = refl;
           known = has.known;
           depth = has.depth;
           deep = has.exact;
         } in
-        blocks_keep_there p copies c function.0 g (programs_keep_sizes typed sound) few block
+        subst (SymsLie (memory_of p copies)) (sym selected)
+        (others_keep_there p copies c function.0 (block_code copies c body.body) (programs_keep_sizes typed sound) few block become.body become.root become.keeps)
 
     helper_there : (h : Helper) → copy.function ≡ callees.Helper h → SymsLie (memory_of p copies) g.list.items
     helper_there h is =
@@ -268,11 +287,11 @@ module _ (typed : Typed) (copies : List FnCopy) (core : CoreProgram) (given : Li
   all_addressed = (λ k g is. placed_have_addresses p copies placed g.list.items placing (block_there k g is), block_inside)
 
 pub operands_have_addresses : OperandsHaveAddresses
-operands_have_addresses typed copies core given placed sound roots numbers bodies joined has placing statics few = all_addressed typed copies core given placed sound roots numbers bodies joined has placing statics few
+operands_have_addresses typed copies lowered core given placed sound roots numbers bodies code joined has placing statics few = all_addressed typed copies lowered core given placed sound roots numbers bodies code joined has placing statics few
 
 pub made_have_operands : MadeHaveOperands
 made_have_operands typed copies core given lean whole made placed blocks thinned has placing statics few =
     let kept = thinning_keeps placed (handler_at copies) whole made thinned blocks.apart blocks.reaches in
-    let all = operands_have_addresses typed copies core given placed blocks.sound blocks.roots blocks.numbers blocks.bodies blocks.joined has placing statics few in
+    let all = operands_have_addresses typed copies blocks.lowered core given placed blocks.sound blocks.roots blocks.numbers blocks.bodies blocks.code blocks.joined has placing statics few in
     let leaner = blocks_are_leaner (layout_of placed) (handler_at copies) (core_of (program_of typed) copies).variable_bytes given lean blocks.leaner in
     selects_keep_operands placed lean made (kept.lists ∙ blocks.bare) (lean_keeps_operands placed given lean leaner all.0)

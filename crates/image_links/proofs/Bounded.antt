@@ -23,7 +23,7 @@ use Rattle.core_code.specs.declared.code.CoreProgram.{CoreProgram}
 use Rattle.core_code.specs.declared.code.FirstByte.{FirstByte}
 use Rattle.isr_save.proofs.Words.{start_words}
 use Rattle.isr_save.specs.Start.{start_code, bytes_of}
-use Rattle.lower_stmt.specs.Bodies.{body_code, code_of as lowered_of, first_bytes}
+use Rattle.lower_stmt.specs.Bodies.{body_code, code_of as lowered_of, body_of, bodies_of, first_bytes}
 use Rattle.lower_stmt.specs.FirstBytes.{items_of, static_bytes}
 use Rattle.lower_stmt.specs.Frames.{ground_for}
 use Rattle.lower_stmt.specs.Programs.{body_for, body_in, core_of}
@@ -92,7 +92,7 @@ bytes_same sizes (object ∷ list) (s ∷ statics) e =
     omega (arith, first, rest, sum)
 
 module _ (typed : Typed) (copies : List FnCopy) (core : CoreProgram) (given made : List SymBlock) (placed : Placed) (blocks : AreBlocks (program_of typed) copies core given given made placed)
-    (has : HasCalls (program_of typed) copies) (placing : IsPlacing (program_of typed) copies (map object_of placed.objects.items) (map frame_of placed.frames.items))
+    (bodies : map body_of core.bodies.items ≡ bodies_of (program_of typed) copies) (has : HasCalls (program_of typed) copies) (placing : IsPlacing (program_of typed) copies (map object_of placed.objects.items) (map frame_of placed.frames.items))
     (statics : map items_of core.statics.items ≡ first_bytes (program_of typed)) where
   abbrev p : Program
   p = program_of typed
@@ -126,7 +126,7 @@ module _ (typed : Typed) (copies : List FnCopy) (core : CoreProgram) (given made
         let known = (has.known.exact copy).0 (c, slice_get_within copies c copy there, at_is copies c copy copy there) in
         let below : f < length p.functions = subst (IsOne (length p.functions)) is known.one in
         let function = is_there p.functions f below in
-        let body : IsBody (core_of p copies) core.bodies.items c = body_there p copies (sound_runs p blocks.sound blocks.roots blocks.numbers) core.bodies.items blocks.bodies c copy there (ap is_user is) in
+        let body : IsBody (core_of p copies) core.bodies.items c = body_there p copies (sound_runs p blocks.sound blocks.roots blocks.numbers) core.bodies.items bodies c copy there (ap is_user is) in
         let under : body.body.root ≡ copy.root = sym body.root ∙ root_is p copies c copy there in
         let lowered : trees_in body.body.code.items ≡ body_code (ground_for p copies c body.body.root function.0) function.0 =
         sym body.code ∙ ap (body_in p copies c) there ∙ ap (body_for p copies c copy.root) is ∙ ap (lowered_of p copies c copy.root) function.1
@@ -183,4 +183,4 @@ module _ (typed : Typed) (copies : List FnCopy) (core : CoreProgram) (given made
   stated_at (suc k) b is = let g = zip_at (IsExact placed) given made blocks.exact (suc k) b is in behind_stated k g.0 b g.1 g.2
 
 pub blocks_stated : BlocksAreStated
-blocks_stated typed copies core given made placed blocks has placing statics k b is = stated_at typed copies core given made placed blocks has placing statics k b is
+blocks_stated typed copies core given made placed blocks bodies has placing statics k b is = stated_at typed copies core given made placed blocks bodies has placing statics k b is

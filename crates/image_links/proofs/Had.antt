@@ -10,12 +10,12 @@ use Rattle.image_links.specs.Passed.{BodiesAreHad, StartIsHad, LayoutIsHad, Layo
 use Rattle.image_links.proofs.Apart.{laid_out}
 use Rattle.image_links.proofs.Fronts.{start_first, start_code_is, vector_for, halt_there}
 use Rattle.image_links.proofs.Laid.{layout_is}
-use Rattle.image_links.proofs.Lowered.{body_there}
+use Rattle.image_links.proofs.Narrower.{core_body}
 use Rattle.image_links.proofs.Thinned.{start_kept}
 
 pub bodies_had : BodiesAreHad
 bodies_had p copies core given made placed at passed c copy is user =
-    body_there p copies (sound_runs p passed.blocks.sound passed.blocks.roots passed.blocks.numbers) core.bodies.items passed.blocks.bodies c copy is user
+    core_body p copies (sound_runs p passed.blocks.sound passed.blocks.roots passed.blocks.numbers) passed.blocks.lowered core passed.blocks.bodies passed.blocks.code c copy is user
 
 pub start_had : StartIsHad
 start_had p copies core given made placed at passed =

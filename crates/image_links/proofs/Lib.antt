@@ -6,6 +6,7 @@ pub mod Numbers
 pub mod Evaluated
 pub mod Stated
 pub mod Lowered
+pub mod Narrower
 pub mod Bare
 pub mod Ready
 pub mod Selects
@@ -22,6 +23,7 @@ pub mod Cheaper
 pub mod Priced
 pub mod Chains
 pub mod Depths
+pub mod Narrowed
 pub mod Selecting
 pub mod Named
 pub mod Ended

@@ -5,6 +5,7 @@ use Rattle.code_place.specs.Layouts as places
 use Rattle.pic_map.specs.MapContent as content
 use Rattle.pic_map.specs.MapView.{frame_of}
 use Rattle.pic_map.specs.declared.FrameLine.{FrameLine}
+use Rattle.src_rules.proofs.Starts.{sound_runs}
 use Rattle.sym_code.specs.Layout.{FrameRange}
 use Rattle.headline_trace.specs.Carried as carried
 use Rattle.headline_trace.proofs.Whole.{makes_headline}
@@ -15,6 +16,7 @@ use Rattle.image_links.proofs.Selects.{selects_had}
 use Rattle.image_links.proofs.Beginning.{beginning_had}
 use Rattle.image_links.proofs.Framed.{frames_named}
 use Rattle.image_links.proofs.Lowerable.{first_at, lowerable}
+use Rattle.image_links.proofs.Narrowed.{bodies_follow}
 use Rattle.image_links.proofs.Priced.{lean_had}
 use Rattle.image_links.proofs.Selecting.{selection_had}
 use Rattle.image_links.proofs.Thinned.{first_reaches}
@@ -35,6 +37,9 @@ translations_linked p copies core given made placed at image map_content t =
       lowerable = lowerable p copies core given made placed at image map_content t;
       price = lean.price;
       sure = lean.sure;
+      narrowed =
+          bodies_follow p copies t.passed.blocks.sound t.passed.blocks.numbers t.calls (sound_runs p t.passed.blocks.sound t.passed.blocks.roots t.passed.blocks.numbers) t.passed.blocks.lowered core t.passed.blocks.bodies
+          t.passed.blocks.code;
       selected = selection_had p copies core given made placed at t.passed t.calls t.spread lean;
       leaner = lean.keeps;
       facts = t.passed.thinned.facts;

@@ -19,6 +19,7 @@ use Rattle.pic_world.specs.declared.Root.{Root}
 use Rattle.src_rules.specs.Parts.{IsRunnable}
 use Rattle.select_wide.specs.Blocks.{is_user, body_at}
 use Rattle.select_wide.specs.Links.{IsBody}
+use Rattle.headline_trace.specs.Linked.{code_at}
 use Rattle.image_links.specs.Plain.{all_given}
 use Rattle.image_links.proofs.Blocks.{some_back}
 use Rattle.image_links.proofs.Members.{Has, has_left, has_right, has_either, has_map, map_has}
@@ -104,6 +105,17 @@ at_is (x ∷ bodies) c body is = by (nat_eq x.copy c) is (at_is bodies c body) w
   by true e below = inl (some_body x body e)
   by false e below = inr (below e)
 
+at_number : (bodies : List Body) (c : ℕ) (body : Body) → body_at bodies c ≡ Some body → body.copy ≡ c
+at_number [] c body is = absurd (cc)
+at_number (x ∷ bodies) c body is = by (nat_eq x.copy c) refl is (at_number bodies c body) where
+  number_or : ℕ → Option Body → ℕ
+  number_or n None = n
+  number_or n (Some y) = y.copy
+
+  by : (t : Bool) → nat_eq x.copy c ≡ t → (if t then Some x else body_at bodies c) ≡ Some body → (body_at bodies c ≡ Some body → body.copy ≡ c) → body.copy ≡ c
+  by true e at below = sym (ap (number_or 0) at) ∙ eqb-true x.copy c e
+  by false e at below = below at
+
 -- ---- the end of a body
 record Ends (list : List Tree) : Type 0 where
   front : List Tree
@@ -166,3 +178,27 @@ module _ (p : Program) (copies : List FnCopy) (runs : IsRunnable p) (bodies : Li
         leaves = code ∙ ends.is;
         bytes = body_sets p copies runs c (slice_get copies c);
       }
+
+  -- .. and so is the code of each number, where a helper has none
+  pub code_there : (c : ℕ) → (core_of p copies).body c ≡ code_at (body_at bodies c)
+  unfolding core_of
+  code_there c = by (body_at bodies c) refl where
+    of_one : (body : Body) → body_at bodies c ≡ Some body → body_in p copies c (slice_get copies c) ≡ trees_in body.code.items
+    of_one body at =
+        let o = of_body body (at_is bodies c body at) in
+        let number : 0 + o.place ≡ c = sym (ap (λ (t : BodyTree). t.copy) o.is) ∙ at_number bodies c body at in
+        let place : o.place ≡ c = omega arith in
+        let there : slice_get copies c ≡ Some o.copy = ap (slice_get copies) (sym place) ∙ o.there in
+        ap (body_in p copies c) there ∙ ap (λ n. body_for p copies n o.copy.root o.copy.function) (sym number) ∙ sym (ap (λ (t : BodyTree). t.code) o.is)
+
+    of_function : (copy : FnCopy) (f : FnId) → copy.function ≡ f → slice_get copies c ≡ Some copy → body_at bodies c ≡ None → body_for p copies c copy.root f ≡ []
+    of_function copy (User f) is there at = let b = body_there c copy there (ap is_user is) in let e = sym at ∙ b.there in absurd (cc)
+    of_function copy (Helper h) is there at = refl
+
+    of_none : (o : Option FnCopy) → slice_get copies c ≡ o → body_at bodies c ≡ None → body_in p copies c o ≡ []
+    of_none None is at = refl
+    of_none (Some copy) is at = of_function copy copy.function refl is at
+
+    by : (o : Option Body) → body_at bodies c ≡ o → body_in p copies c (slice_get copies c) ≡ code_at o
+    by None at = of_none (slice_get copies c) refl at
+    by (Some body) at = of_one body at

@@ -14,7 +14,7 @@ use Rattle.isr_save.specs.Start.{start_code}
 use Rattle.lean_blocks.specs.Leaner.{IsLeaner}
 use Rattle.lean_blocks.proofs.Whole.{blocks_are_leaner}
 use Rattle.lean_code.specs.Admissible.{is_byte_act, puts_bytes, ends_by_word}
-use Rattle.lean_code.specs.Rows.{Keeps, Drops, Puts, Narrows, narrowed, Clears, cleared, Reads, reads_before, Row, At, olds, puts}
+use Rattle.lean_code.specs.Rows.{Keeps, Drops, Puts, Narrows, narrowed, Clears, cleared, Reads, Tests, FlagName, tests_flag, reads_before, Row, At, olds, puts}
 use Rattle.lower_stmt.specs.Programs.{core_of}
 use Rattle.pic_map.specs.declared.Placed.{Placed}
 use Rattle.pic_world.specs.declared.Root.{Root}
@@ -35,8 +35,9 @@ use Rattle.image_links.specs.Plain.{is_plain, all_plain}
 use Rattle.image_links.proofs.Bare.{code_plain}
 use Rattle.image_links.proofs.Blocks.{is_of}
 use Rattle.image_links.proofs.Ended.{body_ends, empty_ends, helper_ends, start_ends}
-use Rattle.image_links.proofs.Lowered.{EndsOrNone, each_given, each_ends}
+use Rattle.image_links.proofs.Lowered.{EndsOrNone}
 use Rattle.image_links.proofs.Members.{Has}
+use Rattle.image_links.proofs.Narrower.{core_given, core_ends}
 use Rattle.image_links.proofs.Rows.{Plain}
 
 -- The start block is the first, those behind it are plain, and each ends by a word.
@@ -59,11 +60,11 @@ module _ (p : Program) (copies : List FnCopy) (core : CoreProgram) (given lean m
   behind_plain b h =
       let o = is_of core copies given joined b h in
       ap (λ (v : BlockName × List Sym). all_plain v.1) o.is
-      ∙ code_plain copies core.bodies.items (each_given p copies (sound_runs p blocks.sound blocks.roots blocks.numbers) core.bodies.items blocks.bodies) (0 + o.place) o.copy.root o.copy.function
+      ∙ code_plain copies core.bodies.items (core_given p copies (sound_runs p blocks.sound blocks.roots blocks.numbers) blocks.lowered core blocks.bodies blocks.code) (0 + o.place) o.copy.root o.copy.function
 
   by_ends : (c : ℕ) (o : Option Body) → body_at core.bodies.items c ≡ o → ends_by_word true (code_by copies c o) ≡ true
   by_ends c None is = refl
-  by_ends c (Some body) is = either (each_ends p copies (sound_runs p blocks.sound blocks.roots blocks.numbers) core.bodies.items blocks.bodies c body is) where
+  by_ends c (Some body) is = either (core_ends p copies (sound_runs p blocks.sound blocks.roots blocks.numbers) blocks.lowered core blocks.bodies blocks.code c body is) where
     either : EndsOrNone (trees_in body.code.items) → ends_by_word true (code_by copies c (Some body)) ≡ true
     either (inl e) = empty_ends (λ at before tree. wide_code copies body.root before tree) (ending_at (handler_at copies) c) (trees_in body.code.items) e
     either (inr (front, e)) = body_ends (λ at before tree. wide_code copies body.root before tree) (ending_at (handler_at copies) c) (trees_in body.code.items) front e
@@ -130,6 +131,19 @@ read_plain n (syms.Label label) e = e
 read_plain n (syms.SelectBank bit on) e = e
 read_plain n (syms.SelectPage bit target) e = e
 
+test_plain : (flag : FlagName) (turned : Bool) (s : Sym) → is_plain s ≡ true → is_plain (tests_flag flag turned s) ≡ true
+test_plain flag turned (syms.File op file into) e = e
+test_plain flag turned (syms.Movwf file) e = e
+test_plain flag turned (syms.Clrf file) e = e
+test_plain flag turned (syms.Bit op file bit) e = e
+test_plain flag turned (syms.Literal op value) e = e
+test_plain flag turned (syms.Plain op) e = e
+test_plain flag turned (syms.Call target) e = e
+test_plain flag turned (syms.Goto target) e = e
+test_plain flag turned (syms.Label label) e = e
+test_plain flag turned (syms.SelectBank bit on) e = e
+test_plain flag turned (syms.SelectPage bit target) e = e
+
 front_of : (a b : Bool) → (a && b) ≡ true → a ≡ true
 front_of true b e = refl
 front_of false b e = e
@@ -157,6 +171,7 @@ rows_plain (At s (Puts op n) said ∷ rows) small e =
 rows_plain (At s Narrows said ∷ rows) small e = stays s (narrowed s) (olds rows) (puts rows) (narrowed_plain s) (rows_plain rows small) e
 rows_plain (At s Clears said ∷ rows) small e = stays s (cleared s) (olds rows) (puts rows) (cleared_plain s) (rows_plain rows small) e
 rows_plain (At s (Reads n) said ∷ rows) small e = stays s (reads_before n s) (olds rows) (puts rows) (read_plain n s) (rows_plain rows small) e
+rows_plain (At s (Tests flag turned) said ∷ rows) small e = stays s (tests_flag flag turned s) (olds rows) (puts rows) (test_plain flag turned s) (rows_plain rows small) e
 
 leaner_plain : (g b : SymBlock) → IsLeaner g b → Plain g.list.items → Plain b.list.items
 leaner_plain g b is e = ap all_plain is.after ∙ rows_plain is.rows is.numbers (ap all_plain (sym is.before) ∙ e)

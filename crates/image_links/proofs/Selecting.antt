@@ -14,6 +14,7 @@ pub selection_had : SelectionIsHad
 selection_had p copies core given made placed at passed has spread link =
     let runs = sound_runs p passed.blocks.sound passed.blocks.roots passed.blocks.numbers in
     let reach = reach_had p copies has in
+    let levels = levels_had p copies has in
     record {
       bodies_there = bodies_had p copies core given made placed at passed;
       blocks = block_there core copies given passed.blocks.joined;
@@ -34,7 +35,7 @@ selection_had p copies core given made placed at passed has spread link =
       reach_called = reach.called;
       reach_routine = reach.routine;
       level = level_in copies;
-      levels = levels_had p copies has;
+      levels = record { calls = levels.calls; helpers = levels.helpers; within = levels.within };
       prices = link.prices;
       routine_prices = link.routine_prices;
       sures = link.sures;

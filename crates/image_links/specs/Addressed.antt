@@ -13,7 +13,7 @@ use Rattle.lower_stmt.specs.FirstBytes.{items_of}
 use Rattle.pic_map.specs.MapView.{object_of, frame_of}
 use Rattle.pic_map.specs.declared.Placed.{Placed}
 use Rattle.program_code.specs.Joined.{IsJoined}
-use Rattle.program_code.specs.Passed.{AreBlocks}
+use Rattle.program_code.specs.Passed.{AreBlocks, IsByteCode}
 use Rattle.program_code.specs.Translated.{HasCalls}
 use Rattle.ram_place.specs.Placement.{IsPlacing}
 use Rattle.src_rules.specs.Numbers.{ProgramHasNumbers}
@@ -29,12 +29,12 @@ BlocksHaveOperands placed blocks = (k : ℕ) (block : SymBlock) → slice_get bl
 abbrev pub BlocksStandInside : Placed → List SymBlock → Type 0
 BlocksStandInside placed blocks = All (λ (block : SymBlock). StandInside placed block.list.items) blocks
 
--- Of a sound program, byte code of its copies and the blocks that are joined from it, each instruction's byte has an address where the
+-- Of a sound program, byte code of its copies, with operators on low bytes or as it is, and the blocks that are joined from it, each instruction's byte has an address where the
 -- program's objects and frames are placed, and one of a frame stands within it. The number of a static object has two bytes.
 abbrev pub OperandsHaveAddresses : Type 0
 OperandsHaveAddresses =
-    (typed : Typed) (copies : List FnCopy) (core : CoreProgram) (given : List SymBlock) (placed : Placed) → is_sound (program_of typed) ≡ true → broken_root (program_of typed) ≡ None → ProgramHasNumbers (program_of typed)
-    → map body_of core.bodies.items ≡ bodies_of (program_of typed) copies → IsJoined core copies given → HasCalls (program_of typed) copies
+    (typed : Typed) (copies : List FnCopy) (lowered core : CoreProgram) (given : List SymBlock) (placed : Placed) → is_sound (program_of typed) ≡ true → broken_root (program_of typed) ≡ None → ProgramHasNumbers (program_of typed)
+    → map body_of lowered.bodies.items ≡ bodies_of (program_of typed) copies → IsByteCode lowered core → IsJoined core copies given → HasCalls (program_of typed) copies
     → IsPlacing (program_of typed) copies (map object_of placed.objects.items) (map frame_of placed.frames.items) → map items_of core.statics.items ≡ first_bytes (program_of typed)
     → length (program_of typed).statics ≤ 65535 → BlocksHaveOperands placed given × BlocksStandInside placed given
 

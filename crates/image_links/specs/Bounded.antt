@@ -9,7 +9,7 @@ use Rattle.call_graph.specs.Copies.{AreCopies}
 use Rattle.call_graph.specs.Numbers.{handler_at}
 use Rattle.call_graph.specs.declared.types.FnCopy.{FnCopy}
 use Rattle.core_code.specs.declared.code.CoreProgram.{CoreProgram}
-use Rattle.lower_stmt.specs.Bodies.{first_bytes}
+use Rattle.lower_stmt.specs.Bodies.{body_of, bodies_of, first_bytes}
 use Rattle.lower_stmt.specs.FirstBytes.{items_of}
 use Rattle.pic_map.specs.MapView.{object_of, frame_of}
 use Rattle.pic_map.specs.declared.Placed.{Placed}
@@ -38,11 +38,11 @@ words_for p copies (Copy c) = words_of_copy p (slice_get copies c)
 abbrev pub IsStated : Program → List FnCopy → SymBlock → Type 0
 IsStated p copies block = words_in block.list.items ≤ words_for p copies block.name
 
--- Each block of a typed program with its selects has at most its stated words.
+-- Each block of a typed program with its selects has at most its stated words, where byte code is as it is lowered.
 abbrev pub BlocksAreStated : Type 0
 BlocksAreStated =
     (typed : Typed) (copies : List FnCopy) (core : CoreProgram) (given made : List SymBlock) (placed : Placed)
-    → AreBlocks (program_of typed) copies core given given made placed → HasCalls (program_of typed) copies
+    → AreBlocks (program_of typed) copies core given given made placed → map body_of core.bodies.items ≡ bodies_of (program_of typed) copies → HasCalls (program_of typed) copies
     → IsPlacing (program_of typed) copies (map object_of placed.objects.items) (map frame_of placed.frames.items)
     → map items_of core.statics.items ≡ first_bytes (program_of typed) → (k : ℕ) (block : SymBlock) → slice_get made k ≡ Some block → IsStated (program_of typed) copies block
 
@@ -73,11 +73,11 @@ BlocksAreInOrder =
     → AreBlocks (program_of typed) copies core given given made placed → HasCalls (program_of typed) copies → (paged : IsPaged (program_of typed) copies at)
     → AreInOrder copies paged.order made
 
--- so each of its blocks, without the selects that flow facts make needless, has room at its address, whether that is tested or not.
+-- so each of its blocks, where byte code is as it is lowered, without the selects that flow facts make needless, has room at its address, whether that is tested or not.
 abbrev pub TranslationsFit : Type 0
 TranslationsFit =
     (typed : Typed) (copies : List FnCopy) (core : CoreProgram) (given whole made : List SymBlock) (placed : Placed) (at : List ℕ)
-    → AreBlocks (program_of typed) copies core given given whole placed → IsThinned (handler_at copies) whole made → HasCalls (program_of typed) copies
+    → AreBlocks (program_of typed) copies core given given whole placed → map body_of core.bodies.items ≡ bodies_of (program_of typed) copies → IsThinned (handler_at copies) whole made → HasCalls (program_of typed) copies
     → IsPlacing (program_of typed) copies (map object_of placed.objects.items) (map frame_of placed.frames.items)
     → map items_of core.statics.items ≡ first_bytes (program_of typed) → IsPaged (program_of typed) copies at → Fit made at
 

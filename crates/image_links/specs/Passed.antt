@@ -25,7 +25,7 @@ use Rattle.sym_code.specs.declared.code.SymBlock.{SymBlock}
 use Rattle.flow_facts.specs.Links.{HasFlow}
 use Rattle.chip_trace.specs.Arriving.{HasVectorFor, HasHalt}
 use Rattle.code_place.specs.Layouts.{layout_of}
-use Rattle.headline_trace.specs.Linked.{bare_setting, full_setting}
+use Rattle.headline_trace.specs.Linked.{program_with, bare_setting, full_setting}
 
 -- the code of the copy of a number: that of its body, or a helper's routine
 abbrev pub code_of : List Body → List FnCopy → ℕ → Root → FnId → List Sym
@@ -43,7 +43,7 @@ SelectsAreHad =
 abbrev pub BodiesAreHad : Type 0
 BodiesAreHad =
     (p : Program) (copies : List FnCopy) (core : CoreProgram) (given made : List SymBlock) (placed : Placed) (at : List ℕ) → IsPassed p copies core given made placed at
-    → (c : ℕ) (copy : FnCopy) → slice_get copies c ≡ Some copy → is_user copy.function ≡ true → IsBody (core_of p copies) core.bodies.items c
+    → (c : ℕ) (copy : FnCopy) → slice_get copies c ≡ Some copy → is_user copy.function ≡ true → IsBody (program_with p copies core.bodies.items) core.bodies.items c
 
 -- The start block is the first and has its vector, and its end.
 abbrev pub StartIsHad : Type 0

@@ -32,7 +32,7 @@ use Rattle.chip_trace.specs.Arriving.{depth_for}
 use Rattle.code_place.specs.Layouts.{layout_of}
 use Rattle.program_code.specs.Passed.{IsPassed}
 use Rattle.program_code.specs.Translated.{HasCalls, IsSpread}
-use Rattle.headline_trace.specs.Linked.{LeanFollows, bare_setting}
+use Rattle.headline_trace.specs.Linked.{LeanFollows, program_with, bare_setting}
 
 -- ---- chains of calls
 -- a chain of at most so many calls leads from one number of a graph to another
@@ -110,4 +110,4 @@ abbrev pub SelectionIsHad : Type 0
 SelectionIsHad =
     (p : Program) (copies : List FnCopy) (core : CoreProgram) (given made : List SymBlock) (placed : Placed) (at : List ℕ)
     (passed : IsPassed p copies core given made placed at) → HasCalls p copies → IsSpread p copies placed → (link : IsLeanLink p copies given passed.lean made placed at)
-    → IsSelected (core_of p copies) copies core.bodies.items (reaches_in p copies) (bare_setting given made (handler_at copies) placed at (limit_of copies)) link.price link.sure
+    → IsSelected (program_with p copies core.bodies.items) copies core.bodies.items (reaches_in p copies) (bare_setting given made (handler_at copies) placed at (limit_of copies)) link.price link.sure

@@ -29,14 +29,14 @@ use Rattle.sym_code.specs.declared.code.Target.{Target}
 use Rattle.sym_code.specs.declared.code.Target.TheVariants as targets
 use Rattle.lean_code.specs.Computed.{computed, file_for, way_of, way_of_bit}
 use Rattle.lean_code.specs.Rows as rows_of
-use Rattle.lean_code.specs.Rows.{Facts, Apart, Note, nothing_known, Act, Keeps, Drops, Puts, Narrows, Clears, Reads, may_clear, operand_before, Row, At, olds, place_in, note_ahead, Lean}
-use Rattle.lean_code.specs.Changes.{Aim, ToByte, aim, is_own, is_near, lost, without_zero, moved, after_to_w, learned, stored, flags_in, uses_w, uses_c, may_skip, literal_flags, literal_uses, is_retlw, both_set, one_sets, same_w, other_w, same_byte, other_byte, one_moves, one_stores, is_number, same_known, stays, number_at, after_to_file, literal_for, one_works, one_writes, one_clears}
+use Rattle.lean_code.specs.Rows.{Facts, Apart, Note, nothing_known, Act, Keeps, Drops, Puts, Narrows, Clears, Reads, Tests, FlagName, may_clear, operand_before, Row, At, olds, place_in, note_ahead, Lean}
+use Rattle.lean_code.specs.Changes.{Ties, no_ties, carries, shows_zero, leaves_carry, same_carry, with_bits, Aim, ToByte, aim, is_own, is_near, lost, without_zero, moved, after_to_w, learned, stored, flags_in, uses_w, uses_c, may_skip, literal_flags, literal_uses, is_retlw, both_set, one_sets, same_w, other_w, same_byte, other_byte, one_moves, one_stores, is_number, same_known, stays, number_at, after_to_file, literal_for, one_works, one_writes, one_clears}
 use Rattle.lean_code.specs.Right as right
 use Rattle.lean_code.specs.Right.{Expects, ExpectsBy, Leads, Same, Comes, Enters, flag_apart, with_flag, after_literal, dropped_literal, literal_apart, KeepsFile, KeepsBit, KeepsPlain, KeepsGoto, KeepsCall, IsKept, DropsToW, DropsToFile, DropsBit, IsDropped, PutsFor, IsPut, IsRight, IsNote, IsRightAt, Begins, BeginsAt}
-use Rattle.lean_code.specs.Checked.{among, all_of, ListedNote, ListedRow, Listed, ListedBlock, Sketch, facts_in, apart_in, note_in, row_in, rows_in, block_in, lean_of, is_twin, gives, covers_flags, covers_bytes, same_number, expects_by, expects, runs_on, puts_same, puts_number, puts_byte, drops_carried, drops_move, narrows_for, is_narrowed, clears_for, is_cleared, reads_for, reads_to, tests_for, reads_bit, is_read, carries_near, ahead, leads, comes, enters, same, noted, same_side, is_operation, is_here, keeps_file, keeps_bit, keeps_plain, keeps_goto, keeps_call, is_kept, drops_to_w, drops_to_file, drops_store, drops_clear, drops_change, drops_test, drops_bit, drops_plain, drops_goto, is_left_out, puts_for, is_put, is_right_row, all_known, all_twins, is_note, is_right_at, are_right, is_right_block, are_right_blocks, begins, begins_at, TestIsRight}
+use Rattle.lean_code.specs.Checked.{among, all_of, ListedNote, ListedRow, Listed, ListedBlock, Sketch, facts_in, apart_in, note_in, row_in, rows_in, block_in, lean_of, is_twin, gives, covers_flags, covers_bytes, claims, ties, ties_but, ties_left, ties_seen, expects_by, expects, tests_zero, is_tested, runs_on, puts_same, puts_number, puts_byte, drops_carried, drops_move, narrows_for, is_narrowed, clears_for, is_cleared, reads_for, reads_to, tests_for, reads_bit, is_read, carries_near, ahead, leads, comes, enters, same, noted, same_side, is_operation, is_here, keeps_file, keeps_bit, keeps_plain, keeps_goto, keeps_call, is_kept, drops_to_w, drops_to_file, drops_store, drops_clear, drops_change, drops_test, drops_bit, drops_plain, drops_goto, is_left_out, puts_for, is_put, is_right_row, all_known, all_twins, is_note, is_right_at, are_right, is_right_block, are_right_blocks, begins, begins_at, TestIsRight}
 use Rattle.lean_code.proofs.Lists.{never}
 use Rattle.lean_code.proofs.Facts.{not_false, some_is}
-use Rattle.lean_code.proofs.Tested.{and_l, and_r, is_not, not_both, sides, all_is, all_not, number_is, known_all, twins_all, gives_is, flags_are, bytes_are, numbers_are, expects_by_is, expects_is, ahead_is, drop_is, expects_at, expects_by_at, leads_is, passes_is, same_is, enters_is, comes_is, within_same, within_other, within_more, within_flag, some_operation, Within}
+use Rattle.lean_code.proofs.Tested.{and_l, and_r, is_not, not_both, sides, all_is, all_not, number_is, known_all, twins_all, gives_is, flags_are, bytes_are, claims_are, expects_by_is, expects_is, ahead_is, drop_is, expects_at, expects_by_at, leads_is, passes_is, passes_both_is, same_is, enters_is, comes_is, within_same, within_other, within_more, within_flag, some_operation, Within}
 
 -- ---- rows
 module _ (k : Sketch) (limit : Bool → ℕ) (old_page new_page : BlockName → ℕ) (own : BlockName) (n : ListedNote) where
@@ -135,8 +135,8 @@ module _ (k : Sketch) (limit : Bool → ℕ) (old_page new_page : BlockName → 
   label_is : (o : Option ℕ) → expects (noted block.rows o) f d bytes ≡ true → Expects (right.noted (rows_in block.rows) o) f d
   label_is o e = subst (λ (q : Option (Option Note)). Expects q f d) (sym (noted_is o)) (expects_is (noted block.rows o) f d bytes here e)
 
-  label_by : (carry o : Option ℕ) → expects_by carry (noted block.rows o) f d bytes ≡ true → ExpectsBy carry (right.noted (rows_in block.rows) o) f d
-  label_by carry o e = subst (λ (q : Option (Option Note)). ExpectsBy carry q f d) (sym (noted_is o)) (expects_by_is carry (noted block.rows o) f d bytes here e)
+  label_by : (c : Ties) (o : Option ℕ) → expects_by c (noted block.rows o) f d bytes ≡ true → ExpectsBy c (right.noted (rows_in block.rows) o) f d
+  label_by c o e = subst (λ (q : Option (Option Note)). ExpectsBy c q f d) (sym (noted_is o)) (expects_by_is c (noted block.rows o) f d bytes here e)
 
   goto_is : (target : Target) → keeps_goto k block n target ≡ true → KeepsGoto x own inside (note_in n) target
   goto_is (targets.Label labels.Halt) e = tt
@@ -196,6 +196,10 @@ module _ (k : Sketch) (limit : Bool → ℕ) (old_page new_page : BlockName → 
       by_case true b e = e
       by_case false b e = e
 
+  within_carry : (c : Bool) (op : FileOperation) (byte : Option ℕ) → Within (same_carry c (one_works op byte f d)) bytes
+  within_carry true op byte b e = within_works op byte b e
+  within_carry false op byte b e = within_works op byte b e
+
   within_writes : (op : FileOperation) (i : ℕ) → Within (one_writes op i f d) (i ∷ bytes)
   within_writes op i = by_case (same_known (computed op f.number (f.known i)) (f.known i))
     where
@@ -204,20 +208,20 @@ module _ (k : Sketch) (limit : Bool → ℕ) (old_page new_page : BlockName → 
       by_case false = within_other i (one_sets (flags_in op) d) bytes (λ b h. h)
 
   drops_carried_is : (rest : List ListedRow) (i c : ℕ) (q : Bool) → drops_carried k block n rest i c q ≡ true → right.DropsCarried x own inside (note_in n) (rows_in rest) i c q
-  drops_carried_is rest i c true e = expects_at rest (moved (ToByte i) f) (record d { w = false; z = true }) bytes (λ b h. h) e
-  drops_carried_is rest i c false e = expects_by_at (Some c) rest (moved (ToByte i) f) (one_moves f i d) bytes (λ b h. h) e
+  drops_carried_is rest i c true e = expects_by_at (ties_left k block n None (f.held i)) rest (moved (ToByte i) f) (record d { w = false; z = true }) bytes (λ b h. h) e
+  drops_carried_is rest i c false e = expects_by_at (ties_left k block n (Some c) (f.held i)) rest (moved (ToByte i) f) (one_moves f i d) bytes (λ b h. h) e
 
   drops_move_is : (rest : List ListedRow) (i : ℕ) (o : Option ℕ) → drops_move k block n rest i o ≡ true → right.DropsMove x own inside (note_in n) (rows_in rest) i o
-  drops_move_is rest i None e = expects_at rest (moved (ToByte i) f) (one_moves f i d) bytes (λ b h. h) e
+  drops_move_is rest i None e = expects_by_at (ties_left k block n None (f.held i)) rest (moved (ToByte i) f) (one_moves f i d) bytes (λ b h. h) e
   drops_move_is rest i (Some c) e = drops_carried_is rest i c (nat_eq c i) e
 
   drops_w_is : (rest : List ListedRow) (op : FileOperation) (a : Aim) → drops_to_w k block n rest op a ≡ true → DropsToW x own inside (note_in n) (rows_in rest) op a
   drops_w_is rest files.Movf (ToByte i) e = drops_move_is rest i n.carry e
-  drops_w_is rest op (ToByte i) e = passes_is n.carry rest (way_of op (f.known i)) (after_to_w op (ToByte i) f) (one_works op (f.known i) f d) bytes (within_works op (f.known i)) e
+  drops_w_is rest op (ToByte i) e = passes_is (ties_left k block n n.carry (stays op (f.known i) f)) rest (way_of op (f.known i)) (after_to_w op (ToByte i) f) (same_carry (leaves_carry op (f.known i) n.shown) (one_works op (f.known i) f d)) bytes (within_carry (leaves_carry op (f.known i) n.shown) op (f.known i)) e
   drops_w_is rest op a e = never e
 
   drops_file_is : (rest : List ListedRow) (op : FileOperation) (a : Aim) → drops_to_file k block n rest op a ≡ true → DropsToFile x own inside (note_in n) (rows_in rest) op a
-  drops_file_is rest op (ToByte i) e = passes_is (right.carry_but i n.carry) rest (way_of op (f.known i)) (after_to_file k.hidden op (ToByte i) f) (one_writes op i f d) (i ∷ bytes) (within_writes op i) e
+  drops_file_is rest op (ToByte i) e = passes_is (ties_but k block n i) rest (way_of op (f.known i)) (after_to_file k.hidden op (ToByte i) f) (one_writes op i f d) (i ∷ bytes) (within_writes op i) e
   drops_file_is rest op a e = never e
 
   within_stores : (c : Bool) (i : ℕ) → Within (if c then d else other_byte i d) (i ∷ bytes)
@@ -225,7 +229,7 @@ module _ (k : Sketch) (limit : Bool → ℕ) (old_page new_page : BlockName → 
   within_stores false i = within_other i d bytes here
 
   drops_store_is : (rest : List ListedRow) (a : Aim) → drops_store k block n rest a ≡ true → right.DropsStore x own inside (note_in n) (rows_in rest) a
-  drops_store_is rest (ToByte i) e = expects_by_at (right.carry_but i n.carry) rest (stored k.hidden (ToByte i) f) (one_stores f i d) (i ∷ bytes) (within_stores (f.held i) i) e
+  drops_store_is rest (ToByte i) e = expects_by_at (ties_but k block n i) rest (stored k.hidden (ToByte i) f) (one_stores f i d) (i ∷ bytes) (within_stores (f.held i) i) e
   drops_store_is rest a e = never e
 
   within_clears : (c : Bool) (i : ℕ) → Within (if c then record d { z = true } else other_byte i (record d { z = true })) (i ∷ bytes)
@@ -234,35 +238,35 @@ module _ (k : Sketch) (limit : Bool → ℕ) (old_page new_page : BlockName → 
 
   drops_clear_is : (rest : List ListedRow) (a : Aim) → drops_clear k block n rest a ≡ true → right.DropsClear x own inside (note_in n) (rows_in rest) a
   drops_clear_is rest (ToByte i) e =
-      expects_by_at (right.carry_but i n.carry) rest (learned k.hidden (ToByte i) (Some 0) (without_zero f)) (one_clears f i d) (i ∷ bytes) (within_clears (is_number (f.known i) 0) i) e
+      expects_by_at (ties_but k block n i) rest (learned k.hidden (ToByte i) (Some 0) (without_zero f)) (one_clears f i d) (i ∷ bytes) (within_clears (is_number (f.known i) 0) i) e
   drops_clear_is rest a e = never e
 
   drops_change_is : (rest : List ListedRow) (a : Aim) → drops_change k block n rest a ≡ true → right.DropsChange x own inside (note_in n) (rows_in rest) a
-  drops_change_is rest (ToByte i) e = expects_by_at (right.carry_but i n.carry) rest (lost k.hidden (ToByte i) f) (other_byte i d) (i ∷ bytes) (within_other i d bytes here) e
+  drops_change_is rest (ToByte i) e = expects_by_at (ties_but k block n i) rest (lost k.hidden (ToByte i) f) (other_byte i d) (i ∷ bytes) (within_other i d bytes here) e
   drops_change_is rest a e = never e
 
   drops_test_is : (rest : List ListedRow) (op : BitOperation) (a : Aim) (b : ℕ) → drops_test k block n rest op a b ≡ true → right.DropsTest x own inside (note_in n) (rows_in rest) op a b
-  drops_test_is rest op (ToByte i) b e = passes_is n.carry rest (way_of_bit op (f.known i) b) f d bytes here e
+  drops_test_is rest op (ToByte i) b e = passes_is (ties k block n) rest (way_of_bit op (f.known i) b) f d bytes here e
   drops_test_is rest op a b e = never e
 
-  drops_flag_is : (rest : List ListedRow) (b : ℕ) → (nat_lt b 3 && expects_by n.carry (ahead rest) (without_zero f) (with_flag b true d) bytes) ≡ true → (nat_lt b 3 ≡ true) × ExpectsBy n.carry (note_ahead (rows_in rest)) (without_zero f) (with_flag b true d)
+  drops_flag_is : (rest : List ListedRow) (b : ℕ) → (nat_lt b 3 && expects_by (ties k block n) (ahead rest) (without_zero f) (with_flag b true d) bytes) ≡ true → (nat_lt b 3 ≡ true) × ExpectsBy (ties k block n) (note_ahead (rows_in rest)) (without_zero f) (with_flag b true d)
   drops_flag_is rest b e =
-      let two = expects_by n.carry (ahead rest) (without_zero f) (with_flag b true d) bytes in
-      (and_l (nat_lt b 3) two e, expects_by_at n.carry rest (without_zero f) (with_flag b true d) bytes (within_flag b true d bytes here) (and_r (nat_lt b 3) two e))
+      let two = expects_by (ties k block n) (ahead rest) (without_zero f) (with_flag b true d) bytes in
+      (and_l (nat_lt b 3) two e, expects_by_at (ties k block n) rest (without_zero f) (with_flag b true d) bytes (within_flag b true d bytes here) (and_r (nat_lt b 3) two e))
 
   drops_bit_is : (rest : List ListedRow) (op : BitOperation) (operand : Operand) (b : ℕ) → drops_bit k block n rest op operand b ≡ true → DropsBit x own inside (note_in n) (rows_in rest) op operand b
   drops_bit_is rest Bcf (operands.Register Status) b e = drops_flag_is rest b e
   drops_bit_is rest Bsf (operands.Register Status) b e = drops_flag_is rest b e
-  drops_bit_is rest Btfsc (operands.Register Status) b e = passes_is n.carry rest None f d bytes here e
-  drops_bit_is rest Btfss (operands.Register Status) b e = passes_is n.carry rest None f d bytes here e
+  drops_bit_is rest Btfsc (operands.Register Status) b e = passes_both_is (ties_seen k block n b true) (ties_seen k block n b false) rest f d bytes here e
+  drops_bit_is rest Btfss (operands.Register Status) b e = passes_both_is (ties_seen k block n b false) (ties_seen k block n b true) rest f d bytes here e
   drops_bit_is rest Bcf operand b e = drops_change_is rest (aim k.layout inside true operand) e
   drops_bit_is rest Bsf operand b e = drops_change_is rest (aim k.layout inside true operand) e
   drops_bit_is rest Btfsc operand b e = drops_test_is rest Btfsc (aim k.layout inside false operand) b e
   drops_bit_is rest Btfss operand b e = drops_test_is rest Btfss (aim k.layout inside false operand) b e
 
   drops_plain_is : (rest : List ListedRow) (op : PlainOperation) → drops_plain k block n rest op ≡ true → right.DropsPlain x own inside (note_in n) (rows_in rest) op
-  drops_plain_is rest Clrw e = expects_by_at n.carry rest (record f { number = Some 0; held = λ a. false; zero = true }) (record d { w = true; z = true }) bytes (λ b h. h) e
-  drops_plain_is rest Nop e = expects_by_at n.carry rest f d bytes here e
+  drops_plain_is rest Clrw e = expects_by_at (ties_left k block n n.carry false) rest (record f { number = Some 0; held = λ a. false; zero = true }) (record d { w = true; z = true }) bytes (λ b h. h) e
+  drops_plain_is rest Nop e = expects_by_at (ties k block n) rest f d bytes here e
   drops_plain_is rest op e = never e
 
   here_is : (to : ℕ) (o : Option ℕ) → is_here block.rows to o ≡ true → (i : ℕ) → o ≡ Some i → place_in (rows_in block.rows) i ≡ to
@@ -272,9 +276,9 @@ module _ (k : Sketch) (limit : Bool → ℕ) (old_page new_page : BlockName → 
   drops_goto_is : (to : ℕ) (target : Target) → drops_goto k block n to target ≡ true → right.DropsGoto x own inside (note_in n) to target
   drops_goto_is to (targets.Label (labels.Inner l)) e =
       let o = label_from (olds (rows_in block.rows)) (labels.Inner l) 0 in
-      let one = expects_by n.carry (noted block.rows o) f d bytes in
+      let one = expects_by (ties k block n) (noted block.rows o) f d bytes in
       let two = is_here block.rows to o in
-      (label_by n.carry o (and_l one two e), here_is to o (and_r one two e))
+      (label_by (ties k block n) o (and_l one two e), here_is to o (and_r one two e))
   drops_goto_is to target e = never e
 
   within_number : (c : Bool) → Within (if c then d else other_w d) bytes
@@ -298,8 +302,8 @@ module _ (k : Sketch) (limit : Bool → ℕ) (old_page new_page : BlockName → 
   dropped_is to rest (syms.Bit op operand b) e = drops_bit_is rest op operand b e
   dropped_is to rest (syms.Literal op value) e =
       let one = not (is_retlw op) in
-      let two = expects_by n.carry (ahead rest) (after_literal f op value) (dropped_literal f d op value) bytes in
-      (is_not (is_retlw op) (and_l one two e), expects_by_at n.carry rest (after_literal f op value) (dropped_literal f d op value) bytes (within_literal op value) (and_r one two e))
+      let two = expects_by (ties_left k block n n.carry false) (ahead rest) (after_literal f op value) (dropped_literal f d op value) bytes in
+      (is_not (is_retlw op) (and_l one two e), expects_by_at (ties_left k block n n.carry false) rest (after_literal f op value) (dropped_literal f d op value) bytes (within_literal op value) (and_r one two e))
   dropped_is to rest (syms.Plain op) e = drops_plain_is rest op e
   dropped_is to rest (syms.Goto target) e = drops_goto_is to target e
   dropped_is to rest s e = never e
@@ -355,13 +359,13 @@ module _ (k : Sketch) (limit : Bool → ℕ) (old_page new_page : BlockName → 
 
   narrows_for_is : (rest : List ListedRow) (op : FileOperation) (a b : Aim) → narrows_for k block n rest op a b ≡ true → right.NarrowsFor x own inside (note_in n) (rows_in rest) op a b
   narrows_for_is rest op (ToByte i) (ToByte j) e =
-      let g = lost k.hidden (ToByte i) (without_zero f) in
+      let g = with_bits (flags_in op) (lost k.hidden (ToByte i) (without_zero f)) in
       let h = other_w (other_byte i (both_set (flags_in op) d)) in
       let one = not (uses_w op && n.apart.w) && not (uses_c op && n.apart.c) in
       let two = same k.hidden (ToByte i) bytes block.outer in
       let three = not (may_skip op) in
       let four = nat_eq j i in
-      let five = expects_by (Some i) (ahead rest) g h (i ∷ bytes) in
+      let five = expects_by (carries i) (ahead rest) g h (i ∷ bytes) in
       let b = and_r one (two && (three && (four && five))) e in
       let c = and_r two (three && (four && five)) b in
       let w = and_r three (four && five) c in (
@@ -369,7 +373,7 @@ module _ (k : Sketch) (limit : Bool → ℕ) (old_page new_page : BlockName → 
         same_at (ToByte i) (and_l two (three && (four && five)) b),
         is_not (may_skip op) (and_l three (four && five) c),
         eqb-true j i (and_l four five w),
-        expects_by_at (Some i) rest g h (i ∷ bytes) (within_other i (both_set (flags_in op) d) bytes (λ z o. o)) (and_r four five w),
+        expects_by_at (carries i) rest g h (i ∷ bytes) (within_other i (both_set (flags_in op) d) bytes (λ z o. o)) (and_r four five w),
       )
   narrows_for_is rest op a b e = never e
 
@@ -412,14 +416,14 @@ module _ (k : Sketch) (limit : Bool → ℕ) (old_page new_page : BlockName → 
 
   reads_to_is : (rest : List ListedRow) (op : FileOperation) (a b c : Aim) → reads_to k block n rest op a b c ≡ true → right.ReadsTo x own inside (note_in n) (rows_in rest) op a b c
   reads_to_is rest op (ToByte i) (ToByte h) (ToByte j) e =
-      let g = lost k.hidden (ToByte i) (without_zero f) in
+      let g = with_bits (flags_in op) (lost k.hidden (ToByte i) (without_zero f)) in
       let u = other_w (other_byte i (both_set (flags_in op) d)) in
       let one = not (uses_w op && n.apart.w) && not (uses_c op && n.apart.c) in
       let two = is_twin n.facts.twins i j in
       let three = same k.hidden (ToByte j) bytes block.outer in
       let four = not (may_skip op) in
       let five = nat_eq h i in
-      let six = expects_by (Some i) (ahead rest) g u (i ∷ bytes) in
+      let six = expects_by (carries i) (ahead rest) g u (i ∷ bytes) in
       let b = and_r one (two && (three && (four && (five && six)))) e in
       let c = and_r two (three && (four && (five && six))) b in
       let v = and_r three (four && (five && six)) c in
@@ -429,7 +433,7 @@ module _ (k : Sketch) (limit : Bool → ℕ) (old_page new_page : BlockName → 
         same_at (ToByte j) (and_l three (four && (five && six)) c),
         is_not (may_skip op) (and_l four (five && six) v),
         eqb-true h i (and_l five six w),
-        expects_by_at (Some i) rest g u (i ∷ bytes) (within_other i (both_set (flags_in op) d) bytes (λ z o. o)) (and_r five six w),
+        expects_by_at (carries i) rest g u (i ∷ bytes) (within_other i (both_set (flags_in op) d) bytes (λ z o. o)) (and_r five six w),
       )
   reads_to_is rest op a b c e = never e
 
@@ -455,6 +459,22 @@ module _ (k : Sketch) (limit : Bool → ℕ) (old_page new_page : BlockName → 
   read_is rest before (syms.Label label) e = tt
   read_is rest before s e = never e
 
+  tests_zero_is : (rest : List ListedRow) (flag : FlagName) (turned : Bool) (b : ℕ) → tests_zero k block n rest flag turned b ≡ true → right.TestsZero x own inside (note_in n) (rows_in rest) flag turned b
+  tests_zero_is rest flag turned b e =
+      let one = nat_eq b 2 in
+      let two = n.facts.zero in
+      let three = shows_zero n.shown flag turned in
+      let four = leads rest None f d bytes in
+      let c = and_r one (two && (three && four)) e in
+      let v = and_r two (three && four) c in
+      (and_l one (two && (three && four)) e, and_l two (three && four) c, and_l three four v, leads_is rest None f d bytes here (and_r three four v))
+
+  tested_is : (rest : List ListedRow) (flag : FlagName) (turned : Bool) (s : Sym) → is_tested k block n rest flag turned s ≡ true → right.IsTested x own inside (note_in n) (rows_in rest) flag turned s
+  tested_is rest flag turned (syms.Bit Btfsc (operands.Register Status) b) e = tests_zero_is rest flag turned b e
+  tested_is rest flag turned (syms.Bit Btfss (operands.Register Status) b) e = tests_zero_is rest flag turned b e
+  tested_is rest flag turned (syms.Label label) e = tt
+  tested_is rest flag turned s e = never e
+
   pub row_is : (to : ℕ) (rest : List ListedRow) (act : Act) (s : Sym) → is_right_row k block n to rest act s ≡ true → IsRight x own inside (note_in n) to (rows_in rest) act s
   row_is to rest Keeps s e = kept_is rest s e
   row_is to rest Drops s e = dropped_is to rest s e
@@ -462,6 +482,7 @@ module _ (k : Sketch) (limit : Bool → ℕ) (old_page new_page : BlockName → 
   row_is to rest Narrows s e = narrowed_is rest s e
   row_is to rest Clears s e = cleared_is rest s e
   row_is to rest (Reads before) s e = read_is rest before s e
+  row_is to rest (Tests flag turned) s e = tested_is rest flag turned s e
 
   pub note_is : is_note k.layout inside n ≡ true → IsNote x inside (note_in n)
   note_is e =
@@ -562,9 +583,9 @@ begins_is rest (Some None) e = never e
 begins_is rest (Some (Some n)) e =
     let one = gives nothing_known n.facts in
     let two = all_of (λ a. among a n.apart.bytes) rest in
-    let three = same_number n.carry None in
+    let three = claims n None no_ties in
     let more = and_r one (two && three) e in
-    (gives_is nothing_known n.facts (and_l one (two && three) e), numbers_are n.carry None (and_r two three more), λ a h. all_not (λ j. among j n.apart.bytes) rest (and_l two three more) a h)
+    (gives_is nothing_known n.facts (and_l one (two && three) e), claims_are n None no_ties (and_r two three more), λ a h. all_not (λ j. among j n.apart.bytes) rest (and_l two three more) a h)
 
 begins_rows : (rest : List ℕ) (rows : List ListedRow) → begins rest (ahead rows) ≡ true → Begins (λ a. among a rest) (note_ahead (rows_in rows))
 begins_rows rest rows e = subst (Begins (λ a. among a rest)) (sym (ahead_is rows)) (begins_is rest (ahead rows) e)

@@ -60,7 +60,7 @@ module _ (x : Lean) (sound : IsSound x) (inside : Bool) (rest : ℕ → Bool) (s
       → Both (store (old_program x) p first r r.w (access_of (old_setting x) inside true r operand)) (store (new_program x) (under x p) second (record s { z = 1 }) 0 (access_of (new_setting x) inside true s operand))
   clear_store operand clear e =
       let near = all_near x sound inside rest scene stands in
-      stores x sound inside rest scene stands (record d { z = true }) r (record s { z = 1 }) r.w 0 (scene.holds.number 0 e.1) zero_alike (λ j. refl) (λ a. stored x.hidden a f) (keep_all f r m scene.holds (record r { fsr = r.w }) refl refl) near scene.holds
+      stores x sound inside rest scene stands (record d { z = true }) r (record s { z = 1 }) r.w 0 (scene.holds.number 0 e.1) zero_alike (λ j. refl) (λ a. stored x.hidden a f) (keep_all f r m scene.holds (record r { fsr = r.w }) refl refl refl) near scene.holds
       (lost_near x inside Through f near) (lost_holds x sound inside rest scene stands f r scene.holds) (λ i h. lost_through x.hidden f r m i r.w h scene.holds) (λ i. stored_byte x.hidden f r m i scene.holds) operand clear e.2
 
   pub cleared_both : (i : Sym) → clears x.hidden r (touches i) ≡ true → IsCleared x p.block inside n list i → Both (effect_of (old_setting x) inside p first m i) (effect_of (new_setting x) inside (under x p) second scene.k (cleared i))

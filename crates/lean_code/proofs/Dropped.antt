@@ -1,6 +1,6 @@
 -- An instruction that is left out: the machine that runs the given code executes it alone.
 use Rattle.std.proofs.Common.{◌≡◌, ℕ, Bool, true, false, if◌then◌else◌, List, drop, Option, Some, None, option_map, refl, sym, ap, ◌∙◌, subst}
-use Rattle.std.specs.Prelude.{nat_eq, nat_lt, not, ◌&&◌, ◌||◌}
+use Rattle.std.specs.Prelude.{◌<◌, nat_eq, nat_lt, not, ◌&&◌, ◌||◌}
 use Rattle.std.proofs.lemmas.Bool.{eqb-true}
 use Rattle.std.proofs.lemmas.Option.{none-some}
 use Rattle.pic_isa.specs.declared.Ins.TheVariants as ins
@@ -29,15 +29,17 @@ use Rattle.sym_code.specs.declared.code.Sym.TheVariants as syms
 use Rattle.sym_code.specs.declared.code.Target.{Target}
 use Rattle.sym_code.specs.declared.code.Target.TheVariants as targets
 use Rattle.lean_code.specs.Computed.{computed, file_for, way_of, way_of_bit}
-use Rattle.lean_code.specs.Rows.{Facts, Apart, Note, Row, olds, place_in, note_ahead, past, drops_first, Lean, old_program, old_setting}
-use Rattle.lean_code.specs.Changes.{is_number, same_known, leaves_w, stays, one_works, one_writes, one_clears, Holds, Alike, Aim, ToByte, aim, lost, without_zero, moved, after_to_w, after_to_file, learned, stored, flags_in, is_retlw, one_sets, other_w, other_byte, one_moves, one_stores}
-use Rattle.lean_code.specs.Right.{Expects, Passes, noted, with_flag, after_literal, dropped_number, dropped_literal, ExpectsBy, carry_but, DropsCarried, DropsMove, DropsToW, DropsToFile, DropsStore, DropsClear, DropsChange, DropsTest, DropsBit, DropsPlain, DropsGoto, IsDropped, IsSound}
+use Rattle.lean_code.specs.Rows.{Carry, Zero, Sees, Facts, Apart, Note, Row, olds, place_in, note_ahead, past, drops_first, Lean, old_program, old_setting}
+use Rattle.lean_code.specs.Changes.{Ties, IsShown, sees, leaves_carry, same_carry, is_number, same_known, leaves_w, stays, one_works, one_writes, one_clears, Holds, Alike, Aim, ToByte, aim, lost, without_zero, moved, after_to_w, after_to_file, learned, stored, flags_in, is_retlw, one_sets, other_w, other_byte, one_moves, one_stores}
+use Rattle.lean_code.specs.Right.{Passes, noted, with_flag, after_literal, dropped_number, dropped_literal, ExpectsBy, PassesBoth, carry_but, ties, ties_but, ties_left, ties_seen, DropsCarried, DropsMove, DropsToW, DropsToFile, DropsStore, DropsClear, DropsChange, DropsTest, DropsBit, DropsPlain, DropsGoto, IsDropped, IsSound}
 use Rattle.lean_code.specs.Links.{clears}
 use Rattle.lean_code.proofs.Lists.{never, dropped_at}
 use Rattle.lean_code.proofs.Places.{under, row_at, to_behind, to_past, to_label, under_dropped, under_stand, drops_behind}
-use Rattle.lean_code.proofs.Alike.{flags_alone, literal_alone, literal_is, clear_alone, move_is, moved_w}
+use Rattle.lean_code.proofs.Alike.{flags_alone, literal_alone, literal_is, clear_alone, move_is, moved_w, flags_w}
 use Rattle.lean_code.proofs.Computing.{Says, computed_is, left_is, zero_is, zero_stays, same_known_is, way_is, bit_way_is, file_is, no_move}
-use Rattle.lean_code.proofs.Facts.{some_is, number_of, own_other, lose_zero, to_w_holds, flags_hold, lost_byte, learned_byte, learned_says, stored_byte}
+use Rattle.lean_code.proofs.Bits.{truth_small, carry_set, zero_set, status_carry, status_zero}
+use Rattle.lean_code.proofs.Shown.{AreTied, carry_alike, left_shown, same_shown, is_off, is_on, not_off, not_on}
+use Rattle.lean_code.proofs.Facts.{bits_hold, some_is, number_of, own_other, lose_zero, to_w_holds, flags_hold, lost_byte, learned_byte, learned_says, stored_byte}
 use Rattle.lean_code.proofs.Flags.{set_alone}
 use Rattle.lean_code.proofs.Accesses.{Told, Aims, access_told, access_aims}
 use Rattle.lean_code.proofs.Relation.{held, Goes, Alone}
@@ -92,36 +94,36 @@ module _ (x : Lean) (sound : IsSound x) (inside : Bool) (rest : ℕ → Bool) (s
   Lone = Alone x inside rest second m k
 
   -- the machine that was given the code goes on, and the other one stands
-  pass_on : (carry : Option ℕ) (g : Facts) (e : Apart) → ExpectsBy carry (note_ahead list) g e → (t : Registers) (b : Memory) → Alike e t s → Holds g t b
-      → ((j : ℕ) → e.bytes j ≡ false → held scene.ks j ≡ false → rest j ≡ false → b j ≡ k j) → ((j : ℕ) → carry ≡ Some j → b j ≡ s.w) → Goes x inside rest (goes first (behind (old_program x) p) t) second b k
-  pass_on carry g e l t b al h same carries =
-      go_by x sound inside rest scene carry (note_ahead list) g e (behind (old_program x) p) (under x p) (to_behind x p) (sym (under_dropped x p dropped)) l None None refl tt t s b k al h same carries
+  pass_on : (c : Ties) (g : Facts) (e : Apart) → ExpectsBy c (note_ahead list) g e → (t : Registers) (b : Memory) → Alike e t s → Holds g t b
+      → ((j : ℕ) → e.bytes j ≡ false → held scene.ks j ≡ false → rest j ≡ false → b j ≡ k j) → AreTied c t s b → Goes x inside rest (goes first (behind (old_program x) p) t) second b k
+  pass_on c g e l t b al h same tied =
+      go_by x sound inside rest scene c (note_ahead list) g e (behind (old_program x) p) (under x p) (to_behind x p) (sym (under_dropped x p dropped)) l None None refl tt t s b k al h same tied
 
-  pass_over : (carry : Option ℕ) (g : Facts) (e : Apart) → ExpectsBy carry (note_ahead (past list)) g e → drops_first list ≡ true → (t : Registers) (b : Memory) → Alike e t s → Holds g t b
-      → ((j : ℕ) → e.bytes j ≡ false → held scene.ks j ≡ false → rest j ≡ false → b j ≡ k j) → ((j : ℕ) → carry ≡ Some j → b j ≡ s.w) → Goes x inside rest (goes first (onward (old_program x) p true) t) second b k
-  pass_over carry g e l drops t b al h same carries =
-      go_by x sound inside rest scene carry (note_ahead (past list)) g e (behind (old_program x) (behind (old_program x) p)) (under x p) (to_past x p)
-      (sym (under_dropped x (behind (old_program x) p) (drops_behind x p drops) ∙ under_dropped x p dropped)) l None None refl tt t s b k al h same carries
+  pass_over : (c : Ties) (g : Facts) (e : Apart) → ExpectsBy c (note_ahead (past list)) g e → drops_first list ≡ true → (t : Registers) (b : Memory) → Alike e t s → Holds g t b
+      → ((j : ℕ) → e.bytes j ≡ false → held scene.ks j ≡ false → rest j ≡ false → b j ≡ k j) → AreTied c t s b → Goes x inside rest (goes first (onward (old_program x) p true) t) second b k
+  pass_over c g e l drops t b al h same tied =
+      go_by x sound inside rest scene c (note_ahead (past list)) g e (behind (old_program x) (behind (old_program x) p)) (under x p) (to_past x p)
+      (sym (under_dropped x (behind (old_program x) p) (drops_behind x p drops) ∙ under_dropped x p dropped)) l None None refl tt t s b k al h same tied
 
-  pass : (carry : Option ℕ) (way : Option Bool) (c : Bool) → ((b : Bool) → way ≡ Some b → c ≡ b) → (g : Facts) (e : Apart) → Passes carry list way g e → (t : Registers) (b : Memory) → Alike e t s → Holds g t b
-      → ((j : ℕ) → e.bytes j ≡ false → held scene.ks j ≡ false → rest j ≡ false → b j ≡ k j) → ((j : ℕ) → carry ≡ Some j → b j ≡ s.w) → Goes x inside rest (goes first (onward (old_program x) p c) t) second b k
-  pass carry None false ok g e l = pass_on carry g e l.runs
-  pass carry None true ok g e l = pass_over carry g e l.skips l.drops
-  pass carry (Some false) false ok g e l = pass_on carry g e l
-  pass carry (Some false) true ok g e l = never (sym (ok false refl))
-  pass carry (Some true) true ok g e l = pass_over carry g e l.0 l.1
-  pass carry (Some true) false ok g e l = never (ok true refl)
+  pass : (said : Ties) (way : Option Bool) (c : Bool) → ((b : Bool) → way ≡ Some b → c ≡ b) → (g : Facts) (e : Apart) → Passes said list way g e → (t : Registers) (b : Memory) → Alike e t s → Holds g t b
+      → ((j : ℕ) → e.bytes j ≡ false → held scene.ks j ≡ false → rest j ≡ false → b j ≡ k j) → AreTied said t s b → Goes x inside rest (goes first (onward (old_program x) p c) t) second b k
+  pass said None false ok g e l = pass_on said g e l.runs
+  pass said None true ok g e l = pass_over said g e l.skips l.drops
+  pass said (Some false) false ok g e l = pass_on said g e l
+  pass said (Some false) true ok g e l = never (sym (ok false refl))
+  pass said (Some true) true ok g e l = pass_over said g e l.0 l.1
+  pass said (Some true) false ok g e l = never (ok true refl)
 
-  moves : (carry : Option ℕ) (g : Facts) (e : Apart) → ExpectsBy carry (note_ahead list) g e → (t : Registers) (b : Memory) → Alike e t s → Holds g t b
-      → ((j : ℕ) → e.bytes j ≡ false → held scene.ks j ≡ false → rest j ≡ false → b j ≡ k j) → ((j : ℕ) → carry ≡ Some j → b j ≡ s.w) → Goes x inside rest (goes first (behind (old_program x) p) t) second b k
-  moves carry g e l = pass_on carry g e l
+  moves : (c : Ties) (g : Facts) (e : Apart) → ExpectsBy c (note_ahead list) g e → (t : Registers) (b : Memory) → Alike e t s → Holds g t b
+      → ((j : ℕ) → e.bytes j ≡ false → held scene.ks j ≡ false → rest j ≡ false → b j ≡ k j) → AreTied c t s b → Goes x inside rest (goes first (behind (old_program x) p) t) second b k
+  moves c g e l = pass_on c g e l
 
   differs : (c h j i : ℕ) → nat_eq c j ≡ false → c ≡ h → j ≡ i → nat_eq h i ≡ false
   differs c h j i e a b = ap (λ (z : ℕ). nat_eq z i) (sym a) ∙ ap (λ (z : ℕ). nat_eq c z) (sym b) ∙ e
 
   carried_eq : (j i v : ℕ) → j ≡ i → (h c : ℕ) → n.carry ≡ Some c → (q : Bool) → nat_eq c j ≡ q → (if q then None else Some c) ≡ Some h → with_byte m i v h ≡ s.w
   carried_eq j i v is h c carried true q e = absurd (none-some h e)
-  carried_eq j i v is h c carried false q e = ap (λ (z : Bool). if z then v else m h) (differs c h j i q (some_is c h e) is) ∙ scene.carry h (carried ∙ e)
+  carried_eq j i v is h c carried false q e = ap (λ (z : Bool). if z then v else m h) (differs c h j i q (some_is c h e) is) ∙ scene.ties.carry h (carried ∙ e)
 
   carried_by : (j i v : ℕ) → j ≡ i → (h : ℕ) (o : Option ℕ) → n.carry ≡ o → carry_but j o ≡ Some h → with_byte m i v h ≡ s.w
   carried_by j i v is h None carried e = absurd (none-some h e)
@@ -131,8 +133,41 @@ module _ (x : Lean) (sound : IsSound x) (inside : Bool) (rest : ℕ → Bool) (s
   carried_but : (j i v : ℕ) → j ≡ i → (h : ℕ) → carry_but j n.carry ≡ Some h → with_byte m i v h ≡ s.w
   carried_but j i v is h e = carried_by j i v is h n.carry refl e
 
+  -- what is tied stays so where W of the one machine stays, or not
+  tied_left : (carry : Option ℕ) (kept : Bool) (t : Registers) (b : Memory) → ((j : ℕ) → carry ≡ Some j → b j ≡ s.w) → (kept ≡ true → t.w ≡ r.w) → AreTied (ties_left x p.block inside n carry kept) t s b
+  tied_left carry kept t b carries same = record { carry = carries; shown = left_shown kept n.shown r.w t.w s same scene.ties.shown }
+
+  tied_but : (j i v : ℕ) → j ≡ i → (t : Registers) → t.w ≡ r.w → AreTied (ties_but x p.block inside n j) t s (with_byte m i v)
+  tied_but j i v is t same = record { carry = carried_but j i v is; shown = same_shown n.shown r.w t.w s same scene.ties.shown }
+
+  tied_same : (t : Registers) → t.w ≡ r.w → AreTied (ties x p.block inside n) t s m
+  tied_same t same = record { carry = scene.ties.carry; shown = same_shown n.shown r.w t.w s same scene.ties.shown }
+
   none_carried : (b : Memory) (j : ℕ) → None ≡ Some j → b j ≡ s.w
   none_carried b j h = absurd (none-some j h)
+
+  -- a flag that is seen
+  seen : (b : ℕ) (u : Bool) → ((i : ℕ) → status_bit r b ≡ Some i → i < 2 → i ≡ truth u) → IsShown (sees f d b u n.shown) r.w s
+  seen b u is = by_bit (nat_eq b 0) (nat_eq b 2) (λ e. is r.c (ap (status_bit r) (eqb-true b 0 e))) (λ e. is r.z (ap (status_bit r) (eqb-true b 2 e)))
+    where
+      carry_case : (c e : Bool) → (c ≡ true → r.c < 2) → (e ≡ false → r.c ≡ s.c) → (r.c < 2 → r.c ≡ truth u) → IsShown (if c && not e then Sees Carry u else n.shown) r.w s
+      carry_case true false small same is = sym (same refl) ∙ is (small refl)
+      carry_case true true small same is = scene.ties.shown
+      carry_case false e small same is = scene.ties.shown
+
+      zero_case : (c e : Bool) → (c ≡ true → r.z < 2) → (e ≡ false → r.z ≡ s.z) → (r.z < 2 → r.z ≡ truth u) → IsShown (if c && not e then Sees Zero u else n.shown) r.w s
+      zero_case true false small same is = sym (same refl) ∙ is (small refl)
+      zero_case true true small same is = scene.ties.shown
+      zero_case false e small same is = scene.ties.shown
+
+      by_bit : (c z : Bool) → (c ≡ true → r.c < 2 → r.c ≡ truth u) → (z ≡ true → r.z < 2 → r.z ≡ truth u)
+          → IsShown (if c then (if f.carry_bit && not d.c then Sees Carry u else n.shown) else (if z then (if f.zero_bit && not d.z then Sees Zero u else n.shown) else n.shown)) r.w s
+      by_bit true z carry zero_is_u = carry_case f.carry_bit d.c scene.holds.carry_bit scene.alike.c (carry refl)
+      by_bit false true carry zero_is_u = zero_case f.zero_bit d.z scene.holds.zero_bit scene.alike.z (zero_is_u refl)
+      by_bit false false carry zero_is_u = scene.ties.shown
+
+  tied_seen : (b : ℕ) (u : Bool) → ((i : ℕ) → status_bit r b ≡ Some i → i < 2 → i ≡ truth u) → AreTied (ties_seen x p.block inside n b u) r s m
+  tied_seen b u is = record { carry = scene.ties.carry; shown = seen b u is }
 
   aim_eq : (j h : ℕ) → ToByte j ≡ ToByte h → j ≡ h
   aim_eq j h e = cc
@@ -172,15 +207,28 @@ module _ (x : Lean) (sound : IsSound x) (inside : Bool) (rest : ℕ → Bool) (s
       by_case true = refl
       by_case false = refl
 
+  -- C may be what it was on the other machine
+  carry_regs : (op : FileOperation) (byte : Option ℕ) (v : ℕ) → Says byte v → Alike (same_carry (leaves_carry op byte n.shown) (one_works op byte f d)) (record (flags_with r op v) { w = result_with r op v }) s
+  carry_regs op byte v says = by_case (leaves_carry op byte n.shown) refl
+    where
+      by_case : (c : Bool) → leaves_carry op byte n.shown ≡ c → Alike (same_carry c (one_works op byte f d)) (record (flags_with r op v) { w = result_with r op v }) s
+      by_case true e = let al = works_regs op byte v says in record { w = al.w; z = al.z; dc = al.dc; c = λ h. carry_alike op byte n.shown r s v says e scene.ties.shown; fsr = al.fsr; irp = al.irp }
+      by_case false e = works_regs op byte v says
+
+  carry_bytes : (c : Bool) (op : FileOperation) (byte : Option ℕ) (a : ℕ) → (same_carry c (one_works op byte f d)).bytes a ≡ d.bytes a
+  carry_bytes true op byte a = works_bytes op byte a
+  carry_bytes false op byte a = works_bytes op byte a
+
   known_says : (j i : ℕ) → j ≡ i → Says (f.known j) (m i)
   known_says j i is v e = ap m (sym is) ∙ scene.holds.known j v e
 
-  to_w_alone : (op : FileOperation) (j i : ℕ) → j ≡ i → Passes n.carry list (way_of op (f.known j)) (after_to_w op (ToByte j) f) (one_works op (f.known j) f d)
+  to_w_alone : (op : FileOperation) (j i : ℕ) → j ≡ i → Passes (ties_left x p.block inside n n.carry (stays op (f.known j) f)) list (way_of op (f.known j)) (after_to_w op (ToByte j) f) (same_carry (leaves_carry op (f.known j) n.shown) (one_works op (f.known j) f d))
       → Lone (file_to_w (old_program x) p first m op (Silent i))
   to_w_alone op j i is l = (
-    pass n.carry (way_of op (f.known j)) (skips_with r op (m i)) (λ b h. way_is op r (m i) (f.known j) b (known_says j i is) h) (after_to_w op (ToByte j) f) (one_works op (f.known j) f d) l
-        (record (flags_with r op (m i)) { w = result_with r op (m i) }) m (works_regs op (f.known j) (m i) (known_says j i is))
-        (to_w_holds f r m scene.holds op (ToByte j) (m i) (λ h e. ap m (sym is ∙ aim_eq j h e))) (λ a z o w. scene.still a (sym (works_bytes op (f.known j) a) ∙ z) o w) scene.carry,
+    pass (ties_left x p.block inside n n.carry (stays op (f.known j) f)) (way_of op (f.known j)) (skips_with r op (m i)) (λ b h. way_is op r (m i) (f.known j) b (known_says j i is) h) (after_to_w op (ToByte j) f) (same_carry (leaves_carry op (f.known j) n.shown) (one_works op (f.known j) f d)) l
+        (record (flags_with r op (m i)) { w = result_with r op (m i) }) m (carry_regs op (f.known j) (m i) (known_says j i is))
+        (to_w_holds f r m scene.holds op (ToByte j) (m i) (λ h e. ap m (sym is ∙ aim_eq j h e))) (λ a z o w. scene.still a (sym (carry_bytes (leaves_carry op (f.known j) n.shown) op (f.known j) a) ∙ z) o w)
+        (tied_left n.carry (stays op (f.known j) f) (record (flags_with r op (m i)) { w = result_with r op (m i) }) m scene.ties.carry (stays_is op (f.known j) (m i) (known_says j i is))),
     tt,
   )
 
@@ -193,33 +241,35 @@ module _ (x : Lean) (sound : IsSound x) (inside : Bool) (rest : ℕ → Bool) (s
   z_if true false b v same zero l e = never (sym e)
   z_if false g b v same zero l e = never (sym e)
 
-  move_alone : (j i : ℕ) → j ≡ i → Expects (note_ahead list) (moved (ToByte j) f) (one_moves f j d) → Lone (file_to_w (old_program x) p first m files.Movf (Silent i))
-  unfolding skips_with
+  move_alone : (j i : ℕ) → j ≡ i → ExpectsBy (ties_left x p.block inside n None (f.held j)) (note_ahead list) (moved (ToByte j) f) (one_moves f j d) → Lone (file_to_w (old_program x) p first m files.Movf (Silent i))
+  unfolding skips_with result_with
   move_alone j i is l =
       let same : f.held j ≡ true → r.w ≡ m i = λ e. scene.holds.held j e ∙ ap m is in (
-        moves None (moved (ToByte j) f) (one_moves f j d) l (record (flags_with r files.Movf (m i)) { w = result_with r files.Movf (m i) }) m
+        moves (ties_left x p.block inside n None (f.held j)) (moved (ToByte j) f) (one_moves f j d) l (record (flags_with r files.Movf (m i)) { w = result_with r files.Movf (m i) }) m
             (subst (λ (t : Registers). Alike (one_moves f j d) t s) (sym (move_is r (m i)))
             (record { w = λ e. w_if (f.held j) d.w (m i) r.w same scene.alike.w e; z = λ e. z_if (f.held j) f.zero d.z (m i) same scene.holds.zero scene.alike.z e; dc = scene.alike.dc; c = scene.alike.c; fsr = scene.alike.fsr; irp = scene.alike.irp }))
-            (to_w_holds f r m scene.holds files.Movf (ToByte j) (m i) (λ h e. ap m (sym is ∙ aim_eq j h e))) scene.still (none_carried m),
+            (to_w_holds f r m scene.holds files.Movf (ToByte j) (m i) (λ h e. ap m (sym is ∙ aim_eq j h e))) scene.still (tied_left None (f.held j) (record (flags_with r files.Movf (m i)) { w = result_with r files.Movf (m i) }) m (none_carried m) (λ e. sym (same e))),
         tt,
       )
 
   -- W of the other machine is what is read
   carry_alone : (j i c : ℕ) → j ≡ i → n.carry ≡ Some c → (q : Bool) → nat_eq c j ≡ q → DropsCarried x p.block inside n list j c q → Lone (file_to_w (old_program x) p first m files.Movf (Silent i))
-  unfolding skips_with
+  unfolding skips_with result_with
   carry_alone j i c is carried true q l = (
-    moves None (moved (ToByte j) f) (record d { w = false; z = true }) l (record (flags_with r files.Movf (m i)) { w = result_with r files.Movf (m i) }) m
+    moves (ties_left x p.block inside n None (f.held j)) (moved (ToByte j) f) (record d { w = false; z = true }) l (record (flags_with r files.Movf (m i)) { w = result_with r files.Movf (m i) }) m
         (subst (λ (t : Registers). Alike (record d { w = false; z = true }) t s) (sym (move_is r (m i)))
-        (record { w = λ e. ap m (sym (eqb-true c j q ∙ is)) ∙ scene.carry c carried; z = λ e. never (sym e); dc = scene.alike.dc; c = scene.alike.c; fsr = scene.alike.fsr; irp = scene.alike.irp }))
-        (to_w_holds f r m scene.holds files.Movf (ToByte j) (m i) (λ h e. ap m (sym is ∙ aim_eq j h e))) scene.still (none_carried m),
+        (record { w = λ e. ap m (sym (eqb-true c j q ∙ is)) ∙ scene.ties.carry c carried; z = λ e. never (sym e); dc = scene.alike.dc; c = scene.alike.c; fsr = scene.alike.fsr; irp = scene.alike.irp }))
+        (to_w_holds f r m scene.holds files.Movf (ToByte j) (m i) (λ h e. ap m (sym is ∙ aim_eq j h e))) scene.still
+        (tied_left None (f.held j) (record (flags_with r files.Movf (m i)) { w = result_with r files.Movf (m i) }) m (none_carried m) (λ e. sym (scene.holds.held j e ∙ ap m is))),
     tt,
   )
   carry_alone j i c is carried false q l =
       let same : f.held j ≡ true → r.w ≡ m i = λ e. scene.holds.held j e ∙ ap m is in (
-        moves (Some c) (moved (ToByte j) f) (one_moves f j d) l (record (flags_with r files.Movf (m i)) { w = result_with r files.Movf (m i) }) m
+        moves (ties_left x p.block inside n (Some c) (f.held j)) (moved (ToByte j) f) (one_moves f j d) l (record (flags_with r files.Movf (m i)) { w = result_with r files.Movf (m i) }) m
             (subst (λ (t : Registers). Alike (one_moves f j d) t s) (sym (move_is r (m i)))
             (record { w = λ e. w_if (f.held j) d.w (m i) r.w same scene.alike.w e; z = λ e. z_if (f.held j) f.zero d.z (m i) same scene.holds.zero scene.alike.z e; dc = scene.alike.dc; c = scene.alike.c; fsr = scene.alike.fsr; irp = scene.alike.irp }))
-            (to_w_holds f r m scene.holds files.Movf (ToByte j) (m i) (λ h e. ap m (sym is ∙ aim_eq j h e))) scene.still (λ h e. scene.carry h (carried ∙ e)),
+            (to_w_holds f r m scene.holds files.Movf (ToByte j) (m i) (λ h e. ap m (sym is ∙ aim_eq j h e))) scene.still
+            (tied_left (Some c) (f.held j) (record (flags_with r files.Movf (m i)) { w = result_with r files.Movf (m i) }) m (λ h e. scene.ties.carry h (carried ∙ e)) (λ e. sym (same e))),
         tt,
       )
 
@@ -263,11 +313,12 @@ module _ (x : Lean) (sound : IsSound x) (inside : Bool) (rest : ℕ → Bool) (s
       let says = known_says j i is in
       let v = result_with r op (m i) in
       let made : Says (computed op f.number (f.known j)) v = λ h e. computed_is op r (m i) h f.number (f.known j) scene.holds.number says e in (
-        pass (carry_but j n.carry) (way_of op (f.known j)) (skips_with r op (m i)) (λ b h. way_is op r (m i) (f.known j) b says h) (after_to_file x.hidden op (ToByte j) f) (one_writes op j f d) l
+        pass (ties_but x p.block inside n j) (way_of op (f.known j)) (skips_with r op (m i)) (λ b h. way_is op r (m i) (f.known j) b says h) (after_to_file x.hidden op (ToByte j) f) (one_writes op j f d) l
             (flags_with r op (m i)) (with_byte m i v) (writes_regs op j (m i))
+            (bits_hold (flags_in op) (learned x.hidden (ToByte j) (computed op f.number (f.known j)) (without_zero f)) (flags_with r op (m i)) (with_byte m i v) (λ z. carry_set op r (m i) z) (λ z. zero_set op r (m i) z)
             (subst (λ (h : ℕ). Holds (learned x.hidden (ToByte h) (computed op f.number (f.known j)) (without_zero f)) (flags_with r op (m i)) (with_byte m i v)) (sym is)
-            (learned_says x.hidden (without_zero f) (flags_with r op (m i)) m i v (computed op f.number (f.known j)) made (flags_hold f r m scene.holds op (m i))))
-            (written_same op j i v is (λ e. same_known_is (computed op f.number (f.known j)) (f.known j) v (m i) made says e)) (carried_but j i v is),
+            (learned_says x.hidden (without_zero f) (flags_with r op (m i)) m i v (computed op f.number (f.known j)) made (flags_hold f r m scene.holds op (m i)))))
+            (written_same op j i v is (λ e. same_known_is (computed op f.number (f.known j)) (f.known j) v (m i) made says e)) (tied_but j i v is (flags_with r op (m i)) (flags_w r op (m i))),
         own_other inside (owner x.layout i) t,
       )
   file_to_file_alone op (ToByte j) Denied is t l = tt
@@ -285,9 +336,9 @@ module _ (x : Lean) (sound : IsSound x) (inside : Bool) (rest : ℕ → Bool) (s
 
   store_alone : (a : Aim) (c : Access) → Aims x a c → Told x inside true c → DropsStore x p.block inside n list a → Lone (store (old_program x) p first r r.w c)
   store_alone (ToByte j) (Silent i) is t l = (
-    moves (carry_but j n.carry) (stored x.hidden (ToByte j) f) (one_stores f j d) l r (with_byte m i r.w) (store_regs (f.held j) j)
+    moves (ties_but x p.block inside n j) (stored x.hidden (ToByte j) f) (one_stores f j d) l r (with_byte m i r.w) (store_regs (f.held j) j)
         (subst (λ (h : ℕ). Holds (stored x.hidden (ToByte h) f) r (with_byte m i r.w)) (sym is) (stored_byte x.hidden f r m i scene.holds))
-        (store_byte (f.held j) j i is (λ e. scene.holds.held j e ∙ ap m is)) (carried_but j i r.w is),
+        (store_byte (f.held j) j i is (λ e. scene.holds.held j e ∙ ap m is)) (tied_but j i r.w is r refl),
     own_other inside (owner x.layout i) t,
   )
   store_alone (ToByte j) Denied is t l = tt
@@ -304,10 +355,10 @@ module _ (x : Lean) (sound : IsSound x) (inside : Bool) (rest : ℕ → Bool) (s
 
   clear_byte_alone : (a : Aim) (c : Access) → Aims x a c → Told x inside true c → DropsClear x p.block inside n list a → Lone (store (old_program x) p first (record r { z = 1 }) 0 c)
   clear_byte_alone (ToByte j) (Silent i) is t l = (
-    moves (carry_but j n.carry) (learned x.hidden (ToByte j) (Some 0) (without_zero f)) (one_clears f j d) l (record r { z = 1 }) (with_byte m i 0) (clear_regs (is_number (f.known j) 0) j)
+    moves (ties_but x p.block inside n j) (learned x.hidden (ToByte j) (Some 0) (without_zero f)) (one_clears f j d) l (record r { z = 1 }) (with_byte m i 0) (clear_regs (is_number (f.known j) 0) j)
         (subst (λ (h : ℕ). Holds (learned x.hidden (ToByte h) (Some 0) (without_zero f)) (record r { z = 1 }) (with_byte m i 0)) (sym is)
-        (learned_byte x.hidden (without_zero f) (record r { z = 1 }) m i 0 (lose_zero f r m scene.holds (record r { z = 1 }) refl)))
-        (clear_bytes (is_number (f.known j) 0) j i is (λ e. ap m (sym is) ∙ scene.holds.known j 0 (number_of (f.known j) 0 e))) (carried_but j i 0 is),
+        (learned_byte x.hidden (without_zero f) (record r { z = 1 }) m i 0 (lose_zero f r m scene.holds (record r { z = 1 }) refl (scene.holds.carry_bit, λ e. truth_small true))))
+        (clear_bytes (is_number (f.known j) 0) j i is (λ e. ap m (sym is) ∙ scene.holds.known j 0 (number_of (f.known j) 0 e))) (tied_but j i 0 is (record r { z = 1 }) refl),
     own_other inside (owner x.layout i) t,
   )
   clear_byte_alone (ToByte j) Denied is t l = tt
@@ -317,10 +368,10 @@ module _ (x : Lean) (sound : IsSound x) (inside : Bool) (rest : ℕ → Bool) (s
   -- ---- bits of bytes
   change_alone : (g : ℕ → ℕ) (a : Aim) (c : Access) → Aims x a c → Told x inside true c → DropsChange x p.block inside n list a → Lone (change (old_program x) p first m g c)
   change_alone g (ToByte j) (Silent i) is t l = (
-    moves (carry_but j n.carry) (lost x.hidden (ToByte j) f) (other_byte j d) l r (with_byte m i (g (m i)))
+    moves (ties_but x p.block inside n j) (lost x.hidden (ToByte j) f) (other_byte j d) l r (with_byte m i (g (m i)))
         (record { w = scene.alike.w; z = scene.alike.z; dc = scene.alike.dc; c = scene.alike.c; fsr = scene.alike.fsr; irp = scene.alike.irp })
         (subst (λ (h : ℕ). Holds (lost x.hidden (ToByte h) f) r (with_byte m i (g (m i)))) (sym is) (lost_byte f r m scene.holds x.hidden i (g (m i))))
-        (written_alone d j i (g (m i)) is (λ b. refl)) (carried_but j i (g (m i)) is),
+        (written_alone d j i (g (m i)) is (λ b. refl)) (tied_but j i (g (m i)) is r refl),
     own_other inside (owner x.layout i) t,
   )
   change_alone g (ToByte j) Denied is t l = tt
@@ -328,27 +379,41 @@ module _ (x : Lean) (sound : IsSound x) (inside : Bool) (rest : ℕ → Bool) (s
   change_alone g a c is t l = absurd l
 
   test_alone : (op : BitOperation) (b : ℕ) (says : ℕ → Bool) → ((byte : Option ℕ) (v : ℕ) (c : Bool) → Says byte v → way_of_bit op byte b ≡ Some c → says v ≡ c) → (a : Aim) (c : Access) → Aims x a c → DropsTest x p.block inside n list op a b → Lone (test (old_program x) p first m says c)
-  test_alone op b says ok (ToByte j) (Silent i) is l = (pass n.carry (way_of_bit op (f.known j) b) (says (m i)) (λ c h. ok (f.known j) (m i) c (known_says j i is) h) f d l r m scene.alike scene.holds scene.still scene.carry, tt)
+  test_alone op b says ok (ToByte j) (Silent i) is l = (pass (ties x p.block inside n) (way_of_bit op (f.known j) b) (says (m i)) (λ c h. ok (f.known j) (m i) c (known_says j i is) h) f d l r m scene.alike scene.holds scene.still (tied_same r refl), tt)
   test_alone op b says ok (ToByte j) Denied is l = tt
   test_alone op b says ok (ToByte j) c is l = absurd is
   test_alone op b says ok a c is l = absurd l
 
   -- ---- flags
-  put_alone : (b v : ℕ) → nat_lt b 3 ≡ true → ExpectsBy n.carry (note_ahead list) (without_zero f) (with_flag b true d) → (o : Option Registers) → with_status_bit r b v ≡ o → Lone (put_flag (old_program x) p first o)
-  put_alone b v low l None is = tt
-  put_alone b v low l (Some t) is =
-      let z = set_alone d r s scene.alike b v t low is in
-      (moves n.carry (without_zero f) (with_flag b true d) l t m z.0 (lose_zero f r m scene.holds t z.1) (λ j e o w. scene.still j (sym (flag_bytes b true d j) ∙ e) o w) scene.carry, tt)
+  put_alone : (b v : ℕ) → v < 2 → nat_lt b 3 ≡ true → ExpectsBy (ties x p.block inside n) (note_ahead list) (without_zero f) (with_flag b true d) → (o : Option Registers) → with_status_bit r b v ≡ o → Lone (put_flag (old_program x) p first o)
+  put_alone b v small low l None is = tt
+  put_alone b v small low l (Some t) is =
+      let z = set_alone d r s scene.alike b v t low is in (
+        moves (ties x p.block inside n) (without_zero f) (with_flag b true d) l t m z.0
+            (lose_zero f r m scene.holds t z.1 (λ e. status_carry r b v t small is (scene.holds.carry_bit e), λ e. status_zero r b v t small is (scene.holds.zero_bit e)))
+            (λ j e o w. scene.still j (sym (flag_bytes b true d j) ∙ e) o w) (tied_same t z.1),
+        tt,
+      )
 
-  test_flag_alone : (v : ℕ) → Passes n.carry list None f d → (o : Option ℕ) → Lone (test_flag (old_program x) p first v o)
-  test_flag_alone v l None = tt
-  test_flag_alone v l (Some i) = (pass n.carry None (nat_eq i v) (λ b h. absurd (cc)) f d l r m scene.alike scene.holds scene.still scene.carry, tt)
+  test_flag_alone : (v b : ℕ) (k : Bool) → ((i : ℕ) → nat_eq i v ≡ false → i < 2 → i ≡ truth (not k)) → ((i : ℕ) → nat_eq i v ≡ true → i ≡ truth k) → PassesBoth (ties_seen x p.block inside n b (not k)) (ties_seen x p.block inside n b k) list f d
+      → (o : Option ℕ) → status_bit r b ≡ o → Lone (test_flag (old_program x) p first v o)
+  test_flag_alone v b k off on l None is = tt
+  test_flag_alone v b k off on l (Some i) is = (by_way (nat_eq i v) refl, tt)
+    where
+      same_bit : (j : ℕ) → status_bit r b ≡ Some j → i ≡ j
+      same_bit j e = some_is i j (sym is ∙ e)
+
+      by_way : (c : Bool) → nat_eq i v ≡ c → Goes x inside rest (goes first (onward (old_program x) p c) r) second m scene.k
+      by_way false e =
+          pass_on (ties_seen x p.block inside n b (not k)) f d l.runs r m scene.alike scene.holds scene.still (tied_seen b (not k) (λ j h small. off j (ap (λ (z : ℕ). nat_eq z v) (sym (same_bit j h)) ∙ e) small))
+      by_way true e =
+          pass_over (ties_seen x p.block inside n b k) f d l.skips l.drops r m scene.alike scene.holds scene.still (tied_seen b k (λ j h small. on j (ap (λ (z : ℕ). nat_eq z v) (sym (same_bit j h)) ∙ e)))
 
   flag_alone : (op : BitOperation) (b : ℕ) → DropsBit x p.block inside n list op (operands.Register Status) b → Lone (flag (old_program x) p first op b)
-  flag_alone Bcf b e = put_alone b 0 e.0 e.1 (with_status_bit r b 0) refl
-  flag_alone Bsf b e = put_alone b 1 e.0 e.1 (with_status_bit r b 1) refl
-  flag_alone Btfsc b e = test_flag_alone 0 e (status_bit r b)
-  flag_alone Btfss b e = test_flag_alone 1 e (status_bit r b)
+  flag_alone Bcf b e = put_alone b 0 (truth_small false) e.0 e.1 (with_status_bit r b 0) refl
+  flag_alone Bsf b e = put_alone b 1 (truth_small true) e.0 e.1 (with_status_bit r b 1) refl
+  flag_alone Btfsc b e = test_flag_alone 0 b false not_off is_off e (status_bit r b) refl
+  flag_alone Btfss b e = test_flag_alone 1 b true not_on is_on e (status_bit r b) refl
 
   -- ---- others
   number_regs : (v : ℕ) (c : Bool) → is_number f.number v ≡ c → Alike (if c then d else other_w d) (record r { w = v }) s
@@ -379,28 +444,28 @@ module _ (x : Lean) (sound : IsSound x) (inside : Bool) (rest : ℕ → Bool) (s
   literal_bytes op (Number v) a = number_literal_bytes op v (file_for op) a
   literal_bytes op value a = refl
 
-  literal_lone : (op : LiteralOperation) (value : Literal) → is_retlw op ≡ false → ExpectsBy n.carry (note_ahead list) (after_literal f op value) (dropped_literal f d op value)
+  literal_lone : (op : LiteralOperation) (value : Literal) → is_retlw op ≡ false → ExpectsBy (ties_left x p.block inside n n.carry false) (note_ahead list) (after_literal f op value) (dropped_literal f d op value)
       → Lone (literal (old_program x) p first op (after_row (literal_row op (literal_value x.layout value)) r))
   literal_lone op value plain_op l =
       let t = after_row (literal_row op (literal_value x.layout value)) r in
       subst Lone (sym (literal_quiet (old_program x) p first op t plain_op)) (
-        moves n.carry (after_literal f op value) (dropped_literal f d op value) l t m (literal_regs op value plain_op) (literal_holds x sound inside rest scene op value)
-            (λ a z o w. scene.still a (sym (literal_bytes op value a) ∙ z) o w) scene.carry,
+        moves (ties_left x p.block inside n n.carry false) (after_literal f op value) (dropped_literal f d op value) l t m (literal_regs op value plain_op) (literal_holds x sound inside rest scene op value)
+            (λ a z o w. scene.still a (sym (literal_bytes op value a) ∙ z) o w) (tied_left n.carry false t m scene.ties.carry (λ e. never e)),
         tt,
       )
 
   plain_alone : (op : PlainOperation) → DropsPlain x p.block inside n list op → Lone (plain (old_program x) p first op)
-  plain_alone Clrw e = (moves n.carry (record f { number = Some 0; held = λ a. false; zero = true }) (record d { w = true; z = true }) e (after_row ins.Clrw r) m (clear_alone d r s scene.alike) (cleared_holds x sound inside rest scene) scene.still scene.carry, tt)
-  plain_alone Nop e = (moves n.carry f d e r m scene.alike scene.holds scene.still scene.carry, tt)
+  plain_alone Clrw e = (moves (ties_left x p.block inside n n.carry false) (record f { number = Some 0; held = λ a. false; zero = true }) (record d { w = true; z = true }) e (after_row ins.Clrw r) m (clear_alone d r s scene.alike) (cleared_holds x sound inside rest scene) scene.still (tied_left n.carry false (after_row ins.Clrw r) m scene.ties.carry (λ e. never e)), tt)
+  plain_alone Nop e = (moves (ties x p.block inside n) f d e r m scene.alike scene.holds scene.still (tied_same r refl), tt)
   plain_alone Retfie e = absurd e
   plain_alone Return e = absurd e
 
-  jump_alone : (o : Option ℕ) → ((i : ℕ) → o ≡ Some i → place_in (x.rows p.block) i ≡ place_in (x.rows p.block) p.index) → ExpectsBy n.carry (noted (x.rows p.block) o) f d
+  jump_alone : (o : Option ℕ) → ((i : ℕ) → o ≡ Some i → place_in (x.rows p.block) i ≡ place_in (x.rows p.block) p.index) → ExpectsBy (ties x p.block inside n) (noted (x.rows p.block) o) f d
       → Lone (jump_to first (option_map (λ i. stand (old_program x) (position p.block i)) o))
   jump_alone None there e = tt
   jump_alone (Some i) there e = (
-    go_by x sound inside rest scene n.carry (note_ahead (drop i (x.rows p.block))) f d (stand (old_program x) (position p.block i)) (under x p) (to_label x p.block i)
-        (sym (under_stand x p.block i ∙ ap (position p.block) (there i refl))) e None None refl tt r s m k scene.alike scene.holds scene.still scene.carry,
+    go_by x sound inside rest scene (ties x p.block inside n) (note_ahead (drop i (x.rows p.block))) f d (stand (old_program x) (position p.block i)) (under x p) (to_label x p.block i)
+        (sym (under_stand x p.block i ∙ ap (position p.block) (there i refl))) e None None refl tt r s m k scene.alike scene.holds scene.still (tied_same r refl),
     tt,
   )
 

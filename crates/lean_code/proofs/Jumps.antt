@@ -10,6 +10,7 @@ use Rattle.sym_code.specs.declared.code.Target.TheVariants as targets
 use Rattle.lean_code.specs.Rows.{Apart, Note, olds, note_ahead, Lean, old_program, new_program, old_setting, new_setting}
 use Rattle.lean_code.specs.Changes.{Weaker, Covers}
 use Rattle.lean_code.specs.Right.{Expects, Comes, Enters, noted, KeepsGoto, KeepsCall, IsSound}
+use Rattle.lean_code.proofs.Shown.{untied}
 use Rattle.lean_code.proofs.Lists.{never, stands_at}
 use Rattle.lean_code.proofs.Places.{under, note_at, row_at, to_behind, to_front, to_label, under_behind, under_front, under_label}
 use Rattle.lean_code.proofs.Relation.{Frame, held, apart_of, or_left, or_right, or_both, old_back, olds_of, news_of, WaitsFor, Waits, Ready, Goes, IsLeft, Match, arrive}
@@ -22,7 +23,7 @@ as_long x (k ∷ ks) = ap suc (as_long x ks)
 enters_expects : (o : Option (Option Note)) (n : Note) → Enters o n → Expects o n.facts (record n.apart { bytes = λ a. false })
 enters_expects None n e = tt
 enters_expects (Some None) n e = e
-enters_expects (Some (Some k)) n e = (e.0, record { flags = record { w = e.1.w; z = e.1.z; dc = e.1.dc; c = e.1.c }; bytes = λ a z. refl }, e.2)
+enters_expects (Some (Some k)) n e = (e.0, record { flags = record { w = e.1.w; z = e.1.z; dc = e.1.dc; c = e.1.c }; bytes = λ a z. refl }, untied k n.facts.number e.2)
 
 -- what a call leaves, and the caller's own bytes
 abbrev back_apart : Apart → (ℕ → Bool) → Apart
@@ -32,12 +33,12 @@ comes_expects : (o : Option (Option Note)) (k n : Note) (across : ℕ → Bool) 
 comes_expects None k n across e w c = tt
 comes_expects (Some None) k n across e w c = e
 comes_expects (Some (Some b)) k n across e w c = (
-  record { number = λ i z. w.number i (e.0.number i z); held = λ a z. w.held a (e.0.held a z); zero = λ z. w.zero (e.0.zero z); known = λ a i z. w.known a i (e.0.known a i z); twin = λ a b z. w.twin a b (e.0.twin a b z) },
+  record { number = λ i z. w.number i (e.0.number i z); held = λ a z. w.held a (e.0.held a z); zero = λ z. w.zero (e.0.zero z); known = λ a i z. w.known a i (e.0.known a i z); twin = λ a b z. w.twin a b (e.0.twin a b z); carry_bit = λ z. w.carry_bit (e.0.carry_bit z); zero_bit = λ z. w.zero_bit (e.0.zero_bit z) },
   record {
     flags = record { w = λ z. c.flags.w (e.1.w z); z = λ z. c.flags.z (e.1.z z); dc = λ z. c.flags.dc (e.1.dc z); c = λ z. c.flags.c (e.1.c z) };
     bytes = λ a z. or_both (n.apart.bytes a) (across a) (c.bytes a (e.3 a z).0) (e.3 a z).1;
   },
-  e.2,
+  untied b n.facts.number e.2,
 )
 
 module _ (x : Lean) (sound : IsSound x) (inside : Bool) (rest : ℕ → Bool) (scene : Scene x inside rest) where
@@ -68,7 +69,7 @@ module _ (x : Lean) (sound : IsSound x) (inside : Bool) (rest : ℕ → Bool) (s
     home = p.block;
     note = n;
     frames = ks;
-    tied = record { same_root = scene.inside_is; rest = refl; loud = tt; at = refl; olds = a; news = b; waits = scene.waits; alike = scene.alike; holds = scene.holds; note = scene.note; carry = scene.carry };
+    tied = record { same_root = scene.inside_is; rest = refl; loud = tt; at = refl; olds = a; news = b; waits = scene.waits; alike = scene.alike; holds = scene.holds; note = scene.note; ties = scene.ties };
     same = λ c u v. scene.still c (or_left (n.apart.bytes c) (held ks c) u) (or_right (n.apart.bytes c) (held ks c) u) v;
   }
 

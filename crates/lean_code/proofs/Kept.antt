@@ -1,6 +1,6 @@
 -- An instruction that both machines execute.
 use Rattle.std.proofs.Common.{◌≡◌, ℕ, suc, Bool, true, false, not, if◌then◌else◌, List, drop, Option, Some, None, refl, sym, ap, ◌∙◌, subst}
-use Rattle.std.specs.Prelude.{nat_eq}
+use Rattle.std.specs.Prelude.{nat_eq, ◌<◌}
 use Rattle.std.proofs.lemmas.Bool.{eqb-true}
 use Rattle.std.proofs.lemmas.Option.{none-some}
 use Rattle.sym_code.specs.Effect.{Loud, Port, Shared, Rest, Thread, Memory, with_byte, written, Access, Pointer, Event, Silent, Denied, Effect, file_to_w, file_to_file, store, change, test}
@@ -11,15 +11,17 @@ use Rattle.sym_code.specs.Registers.{Registers, result_with, flags_with, skips_w
 use Rattle.sym_code.specs.declared.code.FileOperation.{FileOperation}
 use Rattle.lean_code.specs.Computed.{computed, way_of}
 use Rattle.lean_code.specs.Rows.{Facts, Apart, Note, Row, note_ahead, past, keeps_first, Lean, old_program, new_program}
-use Rattle.lean_code.specs.Changes.{Holds, Alike, Aim, ToFsr, ToEvent, ToByte, Through, is_own, is_near, Weaker, lost, without_zero, number_at, after_to_w, after_to_file, flags_in, uses_w, uses_c, both_set, same_w, same_byte}
+use Rattle.lean_code.specs.Changes.{Ties, Holds, Alike, Aim, ToFsr, ToEvent, ToByte, Through, is_own, is_near, Weaker, lost, without_zero, number_at, learned, after_to_w, after_to_file, flags_in, uses_w, uses_c, both_set, same_w, same_byte}
 use Rattle.lean_code.specs.Right.{Expects, ExpectsBy, Leads, Same, IsNote, IsSound}
 use Rattle.lean_code.proofs.Lists.{never, stands_at}
 use Rattle.lean_code.proofs.Places.{under, row_at, To, to_behind, to_past, under_behind, keeps_behind}
 use Rattle.lean_code.proofs.Alike.{result_same, skips_same, flags_same}
 use Rattle.lean_code.proofs.Computing.{Says, computed_is, way_is}
-use Rattle.lean_code.proofs.Facts.{weaker_holds, near_other, own_near, own_other, keep_all, number_says, to_w_holds, flags_hold, lost_byte, learned_says, lost_through, lost_weaker, elsewhere}
+use Rattle.lean_code.proofs.Bits.{carry_set, zero_set}
+use Rattle.lean_code.proofs.Shown.{AreTied}
+use Rattle.lean_code.proofs.Facts.{bits_hold, weaker_holds, near_other, own_near, own_other, keep_all, number_says, to_w_holds, flags_hold, lost_byte, learned_says, lost_through, lost_weaker, elsewhere}
 use Rattle.lean_code.proofs.Accesses.{IsLoud, Told, Aims}
-use Rattle.lean_code.proofs.Relation.{Frame, held, olds_of, news_of, Waits, held_outer, held_own, RestIsLoud, Goes, SameLoud, Match, arrive_by, arrive}
+use Rattle.lean_code.proofs.Relation.{Frame, ties_of, held, olds_of, news_of, Waits, held_outer, held_own, RestIsLoud, Goes, SameLoud, Match, arrive_by, arrive}
 
 pub nothing_said : (v : ℕ) → Says None v
 nothing_said v i e = absurd (none-some i e)
@@ -87,7 +89,7 @@ pub record Scene (x : Lean) (inside : Bool) (rest : ℕ → Bool) : Type 0 where
   pub holds : Holds n.facts r m
   pub note : IsNote x inside n
   pub still : (a : ℕ) → n.apart.bytes a ≡ false → held ks a ≡ false → rest a ≡ false → m a ≡ k a
-  pub carry : (j : ℕ) → n.carry ≡ Some j → m j ≡ s.w
+  pub ties : AreTied (ties_of n) r s m
   -- what the other thread has apart is its own
   pub far : (a : ℕ) → is_own (not inside) (owner x.layout a) ≡ false → rest a ≡ false
 
@@ -156,10 +158,10 @@ module _ (x : Lean) (sound : IsSound x) (inside : Bool) (rest : ℕ → Bool) (s
   abbrev pub at_other : Option Rest → Position → Registers → Thread
   at_other w q t = record { rest = w; at = Some q; stack = new_stack; registers = t }
 
-  pub go_by : (c : Option ℕ) (o : Option (Option Note)) (f : Facts) (d : Apart) (q v : Position) → To x p.block o q → v ≡ under x q → ExpectsBy c o f d → (w y : Option Rest) → w ≡ y → RestIsLoud x w → (t u : Registers) (a b : Memory)
-      → Alike d t u → Holds f t a → ((j : ℕ) → d.bytes j ≡ false → held ks j ≡ false → rest j ≡ false → a j ≡ b j) → ((j : ℕ) → c ≡ Some j → a j ≡ u.w) → Goes x inside rest (at_one w q t) (at_other y v u) a b
-  go_by c o f d q v to is expects w y same_rest loud t u a b al h same carries =
-      arrive_by x sound inside rest c p.block q o f d to scene.inside_is expects ks waits (at_one w q t) (at_other y v u) a b refl (ap (λ (z : Position). Some z) is) same_rest loud scene.olds scene.news al h same carries
+  pub go_by : (c : Ties) (o : Option (Option Note)) (f : Facts) (d : Apart) (q v : Position) → To x p.block o q → v ≡ under x q → ExpectsBy c o f d → (w y : Option Rest) → w ≡ y → RestIsLoud x w → (t u : Registers) (a b : Memory)
+      → Alike d t u → Holds f t a → ((j : ℕ) → d.bytes j ≡ false → held ks j ≡ false → rest j ≡ false → a j ≡ b j) → AreTied c t u a → Goes x inside rest (at_one w q t) (at_other y v u) a b
+  go_by c o f d q v to is expects w y same_rest loud t u a b al h same tied =
+      arrive_by x sound inside rest c p.block q o f d to scene.inside_is expects ks waits (at_one w q t) (at_other y v u) a b refl (ap (λ (z : Position). Some z) is) same_rest loud scene.olds scene.news al h same tied
 
   pub go : (o : Option (Option Note)) (f : Facts) (d : Apart) (q v : Position) → To x p.block o q → v ≡ under x q → Expects o f d → (w y : Option Rest) → w ≡ y → RestIsLoud x w → (t u : Registers) (a b : Memory)
       → Alike d t u → Holds f t a → ((j : ℕ) → d.bytes j ≡ false → held ks j ≡ false → rest j ≡ false → a j ≡ b j) → Goes x inside rest (at_one w q t) (at_other y v u) a b
@@ -264,22 +266,26 @@ module _ (x : Lean) (sound : IsSound x) (inside : Bool) (rest : ℕ → Bool) (s
       zero_lost : (v : ℕ) → Holds (without_zero n.facts) (flags_with r op v) m
       zero_lost v = flags_hold n.facts r m holds op v
 
+      abbrev learned_facts : Aim → Facts
+      learned_facts a = learned x.hidden a (computed op n.facts.number (number_at a n.facts)) (without_zero n.facts)
+
       to_file : (a : Aim) → Leads rows (way_of op (number_at a n.facts)) (after_file_facts a) (same_byte a d_flags) → (v y : ℕ) → v ≡ y → ((j : ℕ) → a ≡ ToByte j → v ≡ m j) → (t u : Registers) (w z : Option Rest) → w ≡ z → RestIsLoud x w → (b c : Memory)
-          → Alike (same_byte a d_flags) t u → Holds (after_file_facts a) t b → ((j : ℕ) → (same_byte a d_flags).bytes j ≡ false → held ks j ≡ false → rest j ≡ false → b j ≡ c j)
+          → t.c ≡ (flags_with r op v).c → t.z ≡ (flags_with r op v).z → Alike (same_byte a d_flags) t u → Holds (learned_facts a) t b → ((j : ℕ) → (same_byte a d_flags).bytes j ≡ false → held ks j ≡ false → rest j ≡ false → b j ≡ c j)
           → Goes x inside rest (at_one w (onward (old_program x) p (skips_with r op v)) t) (at_other z (onward (new_program x) (under x p) (skips_with s op y)) u) b c
-      to_file a l v y e known t u w z same_rest loud b c al h same =
+      to_file a l v y e known t u w z same_rest loud b c carry zero al h same =
           subst (λ (i : Bool). Goes x inside rest (at_one w (onward (old_program x) p (skips_with r op v)) t) (at_other z (onward (new_program x) (under x p) i) u) b c)
           (skips_same n.apart r s alike op v y e)
-          (lead stands (way_of op (number_at a n.facts)) (skips_with r op v) (λ i h. way_is op r v (number_at a n.facts) i (number_says n.facts r m holds a v known) h) (after_file_facts a) (same_byte a d_flags) l w z same_rest loud t u b c al h same)
+          (lead stands (way_of op (number_at a n.facts)) (skips_with r op v) (λ i h. way_is op r v (number_at a n.facts) i (number_says n.facts r m holds a v known) h) (after_file_facts a) (same_byte a d_flags) l w z same_rest loud t u b c al
+          (bits_hold (flags_in op) (learned_facts a) t b (λ i. subst (λ (i : ℕ). i < 2) (sym carry) (carry_set op r v i)) (λ i. subst (λ (i : ℕ). i < 2) (sym zero) (zero_set op r v i)) h) same)
 
-      event_to_file : (a : Aim) (b : Loud) → IsLoud x b → (same_byte a d_flags ≡ d_flags) → Weaker (after_file_facts a) (without_zero n.facts) → ((j : ℕ) → a ≡ ToByte j → ⊥) → Leads rows (way_of op (number_at a n.facts)) (after_file_facts a) (same_byte a d_flags) → (v : ℕ)
+      event_to_file : (a : Aim) (b : Loud) → IsLoud x b → (same_byte a d_flags ≡ d_flags) → Weaker (learned_facts a) (without_zero n.facts) → ((j : ℕ) → a ≡ ToByte j → ⊥) → Leads rows (way_of op (number_at a n.facts)) (after_file_facts a) (same_byte a d_flags) → (v : ℕ)
           → Goes x inside rest (at_one (Some (record { to = b; byte = result_with r op v })) (onward (old_program x) p (skips_with r op v)) (flags_with r op v))
           (at_other (Some (record { to = b; byte = result_with s op v })) (onward (new_program x) (under x p) (skips_with s op v)) (flags_with s op v)) m k
       event_to_file a b loud is weaker none l v =
           to_file a l v v refl (λ j h. absurd (none j h)) (flags_with r op v) (flags_with s op v) (Some (record { to = b; byte = result_with r op v })) (Some (record { to = b; byte = result_with s op v }))
-          (ap (λ (z : ℕ). Some (record { to = b; byte = z })) (result_same n.apart r s alike op v v use_w use_c refl)) loud m k
+          (ap (λ (z : ℕ). Some (record { to = b; byte = z })) (result_same n.apart r s alike op v v use_w use_c refl)) loud m k refl refl
           (subst (λ (d : Apart). Alike d (flags_with r op v) (flags_with s op v)) (sym is) (flags_alike v v refl))
-          (weaker_holds (after_file_facts a) (without_zero n.facts) (flags_with r op v) m weaker (zero_lost v))
+          (weaker_holds (learned_facts a) (without_zero n.facts) (flags_with r op v) m weaker (zero_lost v))
           (subst (λ (d : Apart). (j : ℕ) → d.bytes j ≡ false → held ks j ≡ false → rest j ≡ false → m j ≡ k j) (sym is) still)
 
       pub file_to_file_both : (a : Aim) (c : Access) → Aims x a c → Told x inside true c → Same x.hidden a n.apart (x.outer p.block)
@@ -290,8 +296,8 @@ module _ (x : Lean) (sound : IsSound x) (inside : Bool) (rest : ℕ → Bool) (s
           let res = result_same n.apart r s alike op r.fsr s.fsr use_w use_c alike.fsr in
           let t = record (flags_with r op r.fsr) { fsr = result_with r op r.fsr } in
           let u = record (flags_with s op s.fsr) { fsr = result_with s op s.fsr } in (
-            to_file ToFsr l r.fsr s.fsr alike.fsr (λ j h. absurd (cc)) t u None None refl tt m k (record { w = al.w; z = al.z; dc = al.dc; c = al.c; fsr = res; irp = al.irp })
-                (keep_all (without_zero n.facts) (flags_with r op r.fsr) m (zero_lost r.fsr) t refl refl) still,
+            to_file ToFsr l r.fsr s.fsr alike.fsr (λ j h. absurd (cc)) t u None None refl tt m k refl refl (record { w = al.w; z = al.z; dc = al.dc; c = al.c; fsr = res; irp = al.irp })
+                (keep_all (without_zero n.facts) (flags_with r op r.fsr) m (zero_lost r.fsr) t refl refl refl) still,
             tt,
           )
       file_to_file_both ToEvent (Event b) is t q l = (refl, loud_same b t, event_to_file ToEvent b t refl (lost_weaker x.hidden ToEvent (without_zero n.facts)) (λ j h. cc) l)
@@ -302,8 +308,8 @@ module _ (x : Lean) (sound : IsSound x) (inside : Bool) (rest : ℕ → Bool) (s
           let res = result_same n.apart r s alike op (m i) (k i) use_w use_c e in
           let a = with_byte m i (result_with r op (m i)) in
           let b = with_byte k i (result_with s op (k i)) in (
-            to_file (ToByte j) l (m i) (k i) e (byte_known (ToByte j) i is) (flags_with r op (m i)) (flags_with s op (k i)) None None refl tt a b (record { w = al.w; z = al.z; dc = al.dc; c = al.c; fsr = al.fsr; irp = al.irp })
-                (subst (λ (z : ℕ). Holds (after_file_facts (ToByte z)) (flags_with r op (m i)) a) (sym is)
+            to_file (ToByte j) l (m i) (k i) e (byte_known (ToByte j) i is) (flags_with r op (m i)) (flags_with s op (k i)) None None refl tt a b refl refl (record { w = al.w; z = al.z; dc = al.dc; c = al.c; fsr = al.fsr; irp = al.irp })
+                (subst (λ (z : ℕ). Holds (learned_facts (ToByte z)) (flags_with r op (m i)) a) (sym is)
                 (learned_says x.hidden (without_zero n.facts) (flags_with r op (m i)) m i (result_with r op (m i)) (computed op n.facts.number (n.facts.known i)) (λ v h. computed_is op r (m i) v n.facts.number (n.facts.known i) holds.number (holds.known i) h) (zero_lost (m i))))
                 (λ z u v w. byte_same (nat_eq z i) (n.apart.bytes z) (result_with r op (m i)) (result_with s op (k i)) (m z) (k z) res (λ o. still z o v w) (subst (λ (h : ℕ). (if nat_eq z h then false else n.apart.bytes z) ≡ false) is u)),
             own_other inside (owner x.layout i) t,
@@ -314,7 +320,7 @@ module _ (x : Lean) (sound : IsSound x) (inside : Bool) (rest : ℕ → Bool) (s
           let res = result_same n.apart r s alike op (m i) (k i) use_w use_c e in
           let a = with_byte m i (result_with r op (m i)) in
           let b = with_byte k i (result_with s op (k i)) in (
-            to_file Through l (m i) (k i) e (byte_known Through i is) (flags_with r op (m i)) (flags_with s op (k i)) None None refl tt a b al
+            to_file Through l (m i) (k i) e (byte_known Through i is) (flags_with r op (m i)) (flags_with s op (k i)) None None refl tt a b refl refl al
                 (lost_through x.hidden (without_zero n.facts) (flags_with r op (m i)) m i (result_with r op (m i)) is (zero_lost (m i)))
                 (λ z u v w. byte_both (nat_eq z i) (result_with r op (m i)) (result_with s op (k i)) (m z) (k z) res (still z u v w)),
             own_other inside (owner x.layout i) t,
@@ -333,7 +339,7 @@ module _ (x : Lean) (sound : IsSound x) (inside : Bool) (rest : ℕ → Bool) (s
         → Both (change (old_program x) p one m f c) (change (new_program x) (under x p) other k f c)
     change_both f ToFsr Pointer is t q l = (
       next stands n.facts n.apart l None None refl tt (record r { fsr = f r.fsr }) (record s { fsr = f s.fsr }) m k
-          (record { w = alike.w; z = alike.z; dc = alike.dc; c = alike.c; fsr = ap f alike.fsr; irp = alike.irp }) (keep_all n.facts r m holds (record r { fsr = f r.fsr }) refl refl) still,
+          (record { w = alike.w; z = alike.z; dc = alike.dc; c = alike.c; fsr = ap f alike.fsr; irp = alike.irp }) (keep_all n.facts r m holds (record r { fsr = f r.fsr }) refl refl refl) still,
       tt,
     )
     change_both f ToEvent (Event b) is t q l = (refl, loud_same b t, changed_event ToEvent b t f l)

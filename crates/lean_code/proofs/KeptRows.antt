@@ -1,6 +1,6 @@
 -- Each instruction that both machines execute.
 use Rattle.std.proofs.Common.{◌≡◌, ℕ, Bool, true, false, if◌then◌else◌, List, Option, Some, None, refl, sym, ◌∙◌, subst}
-use Rattle.std.specs.Prelude.{nat_eq}
+use Rattle.std.specs.Prelude.{nat_eq, ◌<◌}
 use Rattle.pic_isa.specs.declared.Ins.TheVariants as ins
 use Rattle.pic_world.specs.Bits.{bit, set_bit, clear_bit, truth}
 use Rattle.sym_code.specs.Effect.{Thread, Memory, with_byte, Access, Effect, access_of, goes, quiet, file_to_w, file_to_file, store, change, test, put_flag, test_flag, flag, literal, literal_value, plain, effect_of}
@@ -35,7 +35,8 @@ use Rattle.lean_code.proofs.Lists.{never, stands_at}
 use Rattle.lean_code.proofs.Places.{under, row_at}
 use Rattle.lean_code.proofs.Alike.{literal_same, literal_is, clear_same, moved_w, cleared_w}
 use Rattle.lean_code.proofs.Computing.{bit_way_is, file_is, no_move}
-use Rattle.lean_code.proofs.Facts.{number_of, weaker_holds, lose_zero, lose_w, keep_all, lost_weaker, lost_through, learned_byte, stored_byte, some_is, worked_holds}
+use Rattle.lean_code.proofs.Bits.{truth_small, literal_carry, literal_zero, status_carry, status_zero}
+use Rattle.lean_code.proofs.Facts.{AreBits, number_of, weaker_holds, lose_zero, lose_w, keep_all, lost_weaker, lost_through, learned_byte, stored_byte, some_is, worked_holds}
 use Rattle.lean_code.proofs.Flags.{SameFlag, bit_same, set_same}
 use Rattle.lean_code.proofs.Accesses.{access_told, access_aims, access_same}
 use Rattle.lean_code.proofs.Relation.{held, apart_of, Goes, Match}
@@ -56,21 +57,24 @@ literal_quiet q at th literals.Retlw t e = never (sym e)
 literal_quiet q at th op t e = refl
 
 module _ (x : Lean) (sound : IsSound x) (inside : Bool) (rest : ℕ → Bool) (scene : Scene x inside rest) where
+  literal_bits : (op : LiteralOperation) (k : ℕ) → AreBits scene.n.facts (after_row (literal_row op k) scene.r)
+  literal_bits op k = (λ e. literal_carry op scene.r k (scene.holds.carry_bit e), λ e. literal_zero op scene.r k (scene.holds.zero_bit e))
+
   number_holds : (new : LiteralOperation) (i : ℕ) (o : Option FileOperation) → file_for new ≡ o → Holds (after_number scene.n.facts o i) (after_row (literal_row new i) scene.r) scene.m
-  number_holds new i None e = lose_w scene.n.facts scene.r scene.m scene.holds (after_row (literal_row new i) scene.r)
+  number_holds new i None e = lose_w scene.n.facts scene.r scene.m scene.holds (after_row (literal_row new i) scene.r) (literal_bits new i)
   number_holds new i (Some op) e =
       subst (λ (t : Registers). Holds (worked op (Some i) scene.n.facts) t scene.m) (literal_is op new scene.r i (file_is new op e) (no_move new op e))
       (worked_holds scene.n.facts scene.r scene.m scene.holds op (Some i) i (λ j h. some_is i j h))
 
   pub literal_holds : (op : LiteralOperation) (value : Literal) → Holds (after_literal scene.n.facts op value) (after_row (literal_row op (literal_value x.layout value)) scene.r) scene.m
   literal_holds literals.Movlw (Number i) =
-      subst (λ (t : Registers). Holds (record scene.n.facts { number = Some i; held = λ a. is_number (scene.n.facts.known a) i; zero = false }) t scene.m) (sym (moved_w scene.r i)) (record { number = λ j e. some_is i j e; held = λ a e. sym (scene.holds.known a i (number_of (scene.n.facts.known a) i e)); zero = λ e. never e; known = scene.holds.known; twin = scene.holds.twin })
+      subst (λ (t : Registers). Holds (record scene.n.facts { number = Some i; held = λ a. is_number (scene.n.facts.known a) i; zero = false }) t scene.m) (sym (moved_w scene.r i)) (record { number = λ j e. some_is i j e; held = λ a e. sym (scene.holds.known a i (number_of (scene.n.facts.known a) i e)); zero = λ e. never e; known = scene.holds.known; twin = scene.holds.twin; carry_bit = scene.holds.carry_bit; zero_bit = scene.holds.zero_bit })
   literal_holds op (Number i) = number_holds op i (file_for op) refl
-  literal_holds op value = lose_w scene.n.facts scene.r scene.m scene.holds (after_row (literal_row op (literal_value x.layout value)) scene.r)
+  literal_holds op value = lose_w scene.n.facts scene.r scene.m scene.holds (after_row (literal_row op (literal_value x.layout value)) scene.r) (literal_bits op (literal_value x.layout value))
 
   pub cleared_holds : Holds (record scene.n.facts { number = Some 0; held = λ a. false; zero = true }) (after_row ins.Clrw scene.r) scene.m
   cleared_holds =
-      subst (λ (t : Registers). Holds (record scene.n.facts { number = Some 0; held = λ a. false; zero = true }) t scene.m) (sym (cleared_w scene.r)) (record { number = λ j e. some_is 0 j e; held = λ a e. never e; zero = λ e. refl; known = scene.holds.known; twin = scene.holds.twin })
+      subst (λ (t : Registers). Holds (record scene.n.facts { number = Some 0; held = λ a. false; zero = true }) t scene.m) (sym (cleared_w scene.r)) (record { number = λ j e. some_is 0 j e; held = λ a e. never e; zero = λ e. refl; known = scene.holds.known; twin = scene.holds.twin; carry_bit = scene.holds.carry_bit; zero_bit = λ e. truth_small true })
 
 module _ (x : Lean) (sound : IsSound x) (inside : Bool) (rest : ℕ → Bool) (scene : Scene x inside rest) (stands : stands_at (row_at x scene.p) ≡ true) where
   abbrev p : Position
@@ -124,13 +128,13 @@ module _ (x : Lean) (sound : IsSound x) (inside : Bool) (rest : ℕ → Bool) (s
       subst (λ (c : Access). Both (e (access_of (old_setting x) inside writes r operand)) (g c)) (sym (access_same x inside writes r s operand scene.alike.fsr scene.alike.irp)) does
 
   -- ---- flags
-  put_both : (b v : ℕ) → Expects (note_ahead list) (without_zero f) (with_flag b false d) → (o : Option Registers) → with_status_bit r b v ≡ o
+  put_both : (b v : ℕ) → v < 2 → Expects (note_ahead list) (without_zero f) (with_flag b false d) → (o : Option Registers) → with_status_bit r b v ≡ o
       → Both (put_flag (old_program x) p first o) (put_flag (new_program x) (under x p) second (with_status_bit s b v))
-  put_both b v l None is = tt
-  put_both b v l (Some t) is =
+  put_both b v small l None is = tt
+  put_both b v small l (Some t) is =
       let z = set_same d r s scene.alike b v t is in
       subst (λ (o : Option Registers). Both (put_flag (old_program x) p first (Some t)) (put_flag (new_program x) (under x p) second o)) (sym z.1)
-      (goes_both (without_zero f) (with_flag b false d) l t z.0 z.2 (lose_zero f r m scene.holds t z.3)
+      (goes_both (without_zero f) (with_flag b false d) l t z.0 z.2 (lose_zero f r m scene.holds t z.3 (λ e. status_carry r b v t small is (scene.holds.carry_bit e), λ e. status_zero r b v t small is (scene.holds.zero_bit e)))
       (λ j e o w. scene.still j (sym (flag_bytes b false d j) ∙ e) o w))
 
   test_flag_both : (v : ℕ) → Leads list None f d → (o q : Option ℕ) → SameFlag o q → Both (test_flag (old_program x) p first v o) (test_flag (new_program x) (under x p) second v q)
@@ -143,8 +147,8 @@ module _ (x : Lean) (sound : IsSound x) (inside : Bool) (rest : ℕ → Bool) (s
   )
 
   flag_both : (op : BitOperation) (b : ℕ) → KeepsBit x p.block inside n list op (operands.Register Status) b → Both (flag (old_program x) p first op b) (flag (new_program x) (under x p) second op b)
-  flag_both Bcf b e = put_both b 0 e (with_status_bit r b 0) refl
-  flag_both Bsf b e = put_both b 1 e (with_status_bit r b 1) refl
+  flag_both Bcf b e = put_both b 0 (truth_small false) e (with_status_bit r b 0) refl
+  flag_both Bsf b e = put_both b 1 (truth_small true) e (with_status_bit r b 1) refl
   flag_both Btfsc b e = test_flag_both 0 e.1 (status_bit r b) (status_bit s b) (bit_same d r s scene.alike b e.0)
   flag_both Btfss b e = test_flag_both 1 e.1 (status_bit r b) (status_bit s b) (bit_same d r s scene.alike b e.0)
 
@@ -185,7 +189,7 @@ module _ (x : Lean) (sound : IsSound x) (inside : Bool) (rest : ℕ → Bool) (s
   store_w : (operand : Operand) → Clear operand true → d.w ≡ false → Expects (note_ahead list) (stored x.hidden (aim x.layout inside true operand) f) (same_byte (aim x.layout inside true operand) d)
       → Both (store (old_program x) p first r r.w (access_of (old_setting x) inside true r operand)) (store (new_program x) (under x p) second s s.w (access_of (new_setting x) inside true s operand))
   store_w operand clear same l =
-      stores d r s r.w s.w (scene.alike.w same) scene.alike (λ j. refl) (λ a. stored x.hidden a f) (keep_all f r m scene.holds (record r { fsr = r.w }) refl refl) all_near scene.holds
+      stores d r s r.w s.w (scene.alike.w same) scene.alike (λ j. refl) (λ a. stored x.hidden a f) (keep_all f r m scene.holds (record r { fsr = r.w }) refl refl refl) all_near scene.holds
       (lost_near x inside Through f all_near) (lost_holds f r scene.holds) (λ i e. lost_through x.hidden f r m i r.w e scene.holds) (λ i. stored_byte x.hidden f r m i scene.holds) operand clear l
 
   abbrev cleared : Apart
@@ -200,8 +204,9 @@ module _ (x : Lean) (sound : IsSound x) (inside : Bool) (rest : ℕ → Bool) (s
   store_zero : (operand : Operand) → Clear operand true → Expects (note_ahead list) (learned x.hidden (aim x.layout inside true operand) (Some 0) (without_zero f)) (same_byte (aim x.layout inside true operand) cleared)
       → Both (store (old_program x) p first (record r { z = 1 }) 0 (access_of (old_setting x) inside true r operand)) (store (new_program x) (under x p) second (record s { z = 1 }) 0 (access_of (new_setting x) inside true s operand))
   store_zero operand clear l =
-      let h = lose_zero f r m scene.holds (record r { z = 1 }) refl in
-      stores cleared (record r { z = 1 }) (record s { z = 1 }) 0 0 refl clear_alike (λ j. refl) (λ a. learned x.hidden a (Some 0) (without_zero f)) (lose_zero f r m scene.holds (record r { z = 1; fsr = 0 }) refl) zero_near h
+      let bits : AreBits f (record r { z = 1 }) = (scene.holds.carry_bit, λ e. truth_small true) in
+      let h = lose_zero f r m scene.holds (record r { z = 1 }) refl bits in
+      stores cleared (record r { z = 1 }) (record s { z = 1 }) 0 0 refl clear_alike (λ j. refl) (λ a. learned x.hidden a (Some 0) (without_zero f)) (lose_zero f r m scene.holds (record r { z = 1; fsr = 0 }) refl bits) zero_near h
       (lost_near x inside Through (without_zero f) zero_near) (lost_holds (without_zero f) (record r { z = 1 }) h) (λ i e. lost_through x.hidden (without_zero f) (record r { z = 1 }) m i 0 e h)
       (λ i. learned_byte x.hidden (without_zero f) (record r { z = 1 }) m i 0 h) operand clear l
 
@@ -227,17 +232,17 @@ module _ (x : Lean) (sound : IsSound x) (inside : Bool) (rest : ℕ → Bool) (s
   bank_alike Irp v = record { w = scene.alike.w; z = scene.alike.z; dc = scene.alike.dc; c = scene.alike.c; fsr = scene.alike.fsr; irp = refl }
 
   bank_holds : (which : BankBit) (v : ℕ) → Holds f (with_bank_bit r which v) m
-  bank_holds Rp0 v = keep_all f r m scene.holds (record r { rp0 = v }) refl refl
-  bank_holds Rp1 v = keep_all f r m scene.holds (record r { rp1 = v }) refl refl
-  bank_holds Irp v = keep_all f r m scene.holds (record r { irp = v }) refl refl
+  bank_holds Rp0 v = keep_all f r m scene.holds (record r { rp0 = v }) refl refl refl
+  bank_holds Rp1 v = keep_all f r m scene.holds (record r { rp1 = v }) refl refl refl
+  bank_holds Irp v = keep_all f r m scene.holds (record r { irp = v }) refl refl refl
 
   page_alike : (which : PageBit) (v y : ℕ) → Alike d (with_page_bit r which v) (with_page_bit s which y)
   page_alike page_bits.Low v y = record { w = scene.alike.w; z = scene.alike.z; dc = scene.alike.dc; c = scene.alike.c; fsr = scene.alike.fsr; irp = scene.alike.irp }
   page_alike page_bits.High v y = record { w = scene.alike.w; z = scene.alike.z; dc = scene.alike.dc; c = scene.alike.c; fsr = scene.alike.fsr; irp = scene.alike.irp }
 
   page_holds : (which : PageBit) (v : ℕ) → Holds f (with_page_bit r which v) m
-  page_holds page_bits.Low v = keep_all f r m scene.holds (record r { page_low = v }) refl refl
-  page_holds page_bits.High v = keep_all f r m scene.holds (record r { page_high = v }) refl refl
+  page_holds page_bits.Low v = keep_all f r m scene.holds (record r { page_low = v }) refl refl refl
+  page_holds page_bits.High v = keep_all f r m scene.holds (record r { page_high = v }) refl refl refl
 
   pub kept_both : (i : Sym) → clears x.hidden r (touches i) ≡ true → IsKept x p.block inside n list i
       → Both (effect_of (old_setting x) inside p first m i) (effect_of (new_setting x) inside (under x p) second k i)

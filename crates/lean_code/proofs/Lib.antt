@@ -2,6 +2,8 @@ mod Lists
 mod Places
 mod Alike
 mod Computing
+mod Bits
+mod Shown
 mod Facts
 mod Flags
 mod Accesses
@@ -12,6 +14,7 @@ mod KeptRows
 mod Dropped
 mod Narrow
 mod Reading
+mod Testing
 mod Cleared
 mod Put
 mod Steps

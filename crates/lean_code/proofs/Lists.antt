@@ -4,7 +4,7 @@ use Rattle.sym_code.specs.Programs.{is_word, labels_in_front, label_from, same_l
 use Rattle.sym_code.specs.declared.code.Label.{Label}
 use Rattle.sym_code.specs.declared.code.Sym.{Sym}
 use Rattle.sym_code.specs.declared.code.Sym.TheVariants as syms
-use Rattle.lean_code.specs.Rows.{Note, Act, Keeps, Drops, Puts, Narrows, Clears, Reads, Row, At, old_of, olds, put_by, in_front, puts, is_label, is_none, is_dropped, place_in, note_ahead, past, drops_first, keeps_first, goes_on}
+use Rattle.lean_code.specs.Rows.{Note, Act, Keeps, Drops, Puts, Narrows, Clears, Reads, Tests, Row, At, old_of, olds, put_by, in_front, puts, is_label, is_none, is_dropped, place_in, note_ahead, past, drops_first, keeps_first, goes_on}
 
 pub never : {A : Type 0} → false ≡ true → A
 never e = absurd (true≢false (sym e))
@@ -69,6 +69,7 @@ place_dropped (At s (Puts op n) said ∷ rows) zero e = never e
 place_dropped (At s Narrows said ∷ rows) zero e = never e
 place_dropped (At s Clears said ∷ rows) zero e = never e
 place_dropped (At s (Reads n) said ∷ rows) zero e = never e
+place_dropped (At s (Tests flag turned) said ∷ rows) zero e = never e
 place_dropped (row ∷ rows) (suc j) e = ap (λ n. if is_dropped row then n else suc n) (place_dropped rows j e)
 
 -- behind an instruction that is made the code that is made goes on behind it
@@ -81,6 +82,7 @@ place_behind (At s (Puts op n) said ∷ rows) zero e = ap suc (settle_zero (puts
 place_behind (At s Narrows said ∷ rows) zero e = ap suc (settle_zero (puts rows) ∙ sym (place_zero rows))
 place_behind (At s Clears said ∷ rows) zero e = ap suc (settle_zero (puts rows) ∙ sym (place_zero rows))
 place_behind (At s (Reads n) said ∷ rows) zero e = ap suc (settle_zero (puts rows) ∙ sym (place_zero rows))
+place_behind (At s (Tests flag turned) said ∷ rows) zero e = ap suc (settle_zero (puts rows) ∙ sym (place_zero rows))
 place_behind (row ∷ rows) (suc j) e = by_put (put_by row) (place_behind rows j e)
   where
     by_put : (o : Option Sym) → settle (puts rows) (suc (place_in rows j)) ≡ place_in rows (suc j)
@@ -98,6 +100,7 @@ place_fetches (At s (Puts op n) said ∷ rows) zero e = refl
 place_fetches (At s Narrows said ∷ rows) zero e = refl
 place_fetches (At s Clears said ∷ rows) zero e = refl
 place_fetches (At s (Reads n) said ∷ rows) zero e = refl
+place_fetches (At s (Tests flag turned) said ∷ rows) zero e = refl
 place_fetches (row ∷ rows) (suc j) e = by_put (put_by row) (place_fetches rows j e)
   where
     by_put : (o : Option Sym) → slice_get (puts rows) (place_in rows j) ≡ put_at (slice_get rows j)
@@ -116,6 +119,7 @@ place_lands (At s (Puts op n) said ∷ rows) zero e = refl
 place_lands (At s Narrows said ∷ rows) zero e = refl
 place_lands (At s Clears said ∷ rows) zero e = refl
 place_lands (At s (Reads n) said ∷ rows) zero e = refl
+place_lands (At s (Tests flag turned) said ∷ rows) zero e = refl
 place_lands (row ∷ rows) (suc j) e = by_put (put_by row) (place_lands rows j e)
   where
     by_put : (o : Option Sym) → is_word (slice_get (puts rows) (place_in rows j)) ≡ true
@@ -218,3 +222,7 @@ label_place (At s (Reads n) said ∷ rows) label =
     ap (option_map (place_in (At s (Reads n) said ∷ rows))) (label_suc (olds rows) label 0) ∙ suc_out (place_in (At s (Reads n) said ∷ rows)) (place_in rows) (label_from (olds rows) label 0) (λ k. refl)
     ∙ ap (option_map suc) (label_place rows label)
     ∙ sym (ap (option_map (settle (puts (At s (Reads n) said ∷ rows)))) (label_suc (puts rows) label 0) ∙ suc_out (settle (puts (At s (Reads n) said ∷ rows))) (settle (puts rows)) (label_from (puts rows) label 0) (λ k. refl))
+label_place (At s (Tests flag turned) said ∷ rows) label =
+    ap (option_map (place_in (At s (Tests flag turned) said ∷ rows))) (label_suc (olds rows) label 0) ∙ suc_out (place_in (At s (Tests flag turned) said ∷ rows)) (place_in rows) (label_from (olds rows) label 0) (λ k. refl)
+    ∙ ap (option_map suc) (label_place rows label)
+    ∙ sym (ap (option_map (settle (puts (At s (Tests flag turned) said ∷ rows)))) (label_suc (puts rows) label 0) ∙ suc_out (settle (puts (At s (Tests flag turned) said ∷ rows))) (settle (puts rows)) (label_from (puts rows) label 0) (λ k. refl))

@@ -140,7 +140,7 @@ module _ (x : Lean) where
     holds = elsewhere n.facts a.registers m t.holds w.number w.byte (λ j e. far_from x false j w.number (t.note.held j e) far) (λ j i e. far_from x false j w.number (t.note.known j i e) far)
         (λ j i e. (far_from x false j w.number (t.note.twin j i e).0 far, far_from x false i w.number (t.note.twin j i e).1 far));
     note = t.note;
-    carry = λ j h. ap (λ (c : Bool). if c then w.byte else m j) (far_from x false j w.number (t.note.carry j h) far) ∙ t.carry j h;
+    ties = record { carry = λ j h. ap (λ (c : Bool). if c then w.byte else m j) (far_from x false j w.number (t.note.carry j h) far) ∙ t.ties.carry j h; shown = t.ties.shown };
   }
 
   other_write : (c : Bool) (a b : Thread) (m : Memory) (rest : ℕ → Bool) (w : Option Write) → IsFar x c w → Other c a b m rest → Other c a b (written w m) rest
@@ -454,7 +454,7 @@ module _ (x : Lean) where
             let y = arrive x sound true apart (Copy copy) (front (old_program x) (Copy copy)) (note_ahead (x.rows (Copy copy))) nothing_known d (to_front x (Copy copy)) begins.0 (begin_expects x.rest (note_ahead (x.rows (Copy copy))) begins.1) [] tt
             (at_front (old_program x) copy (e n)) (at_front (new_program x) copy (e n)) m k refl (ap (λ (q : Position). Some q) (under_front x (Copy copy))) refl tt refl refl
             (record { w = λ h. refl; z = λ h. refl; dc = λ h. refl; c = λ h. refl; fsr = refl; irp = refl })
-            (record { number = λ i h. absurd (none-some i h); held = λ i h. never h; zero = λ h. never h; known = λ i j h. absurd (none-some j h); twin = λ i j h. never h })
+            (record { number = λ i h. absurd (none-some i h); held = λ i h. never h; zero = λ h. never h; known = λ i j h. absurd (none-some j h); twin = λ i j h. never h; carry_bit = λ h. never h; zero_bit = λ h. never h })
             (λ j h i l. ready.same j l (other j ∙ h)) stands in (
               record {
                 inside = true;

@@ -7,17 +7,21 @@ use Rattle.sym_code.specs.Machine.{write_by, lands_at}
 use Rattle.sym_code.specs.Programs.{Position, behind, lands}
 use Rattle.sym_code.specs.declared.code.BlockName.{BlockName}
 use Rattle.lean_code.specs.Rows.{Facts, Apart, Note, At, Lean, old_program, new_program}
-use Rattle.lean_code.specs.Changes.{Holds, Alike, is_own, is_near}
+use Rattle.lean_code.specs.Changes.{Ties, no_ties, Holds, Alike, is_own, is_near}
 use Rattle.lean_code.specs.Right.{Expects, ExpectsBy, Comes, IsNote, IsSound}
 use Rattle.lean_code.proofs.Lists.{never, stood, place_lands}
 use Rattle.lean_code.proofs.Places.{under, note_at, To}
 use Rattle.lean_code.proofs.Facts.{weaker_holds, covers_alike}
 use Rattle.lean_code.proofs.Accesses.{IsLoud}
+use Rattle.lean_code.proofs.Shown.{AreTied, none_tied, claims_tied}
 
 -- a call that waits: where it stands, and what is known there
 pub record Frame : Type 0 where
   pub at : Position
   pub note : Note
+
+abbrev pub ties_of : Note → Ties
+ties_of n = record { carry = n.carry; shown = n.shown }
 
 abbrev pub held : List Frame → ℕ → Bool
 held [] a = false
@@ -93,7 +97,7 @@ module _ (x : Lean) where
     pub alike : Alike n.apart th.registers tv.registers
     pub holds : Holds n.facts th.registers m
     pub note : IsNote x inside n
-    pub carry : (j : ℕ) → n.carry ≡ Some j → m j ≡ tv.registers.w
+    pub ties : AreTied (ties_of n) th.registers tv.registers m
 
   -- the thread that runs; `rest` says what the other one may have apart
   pub record Ready (inside : Bool) (rest : ℕ → Bool) (th tv : Thread) (m k : Memory) : Type 0 where
@@ -151,11 +155,11 @@ module _ (x : Lean) where
 
     module _ (inside : Bool) (rest : ℕ → Bool) where
       -- A thread of both comes to a place with facts and apart that are expected there.
-      pub arrive_by : (c : Option ℕ) (home : BlockName) (q : Position) (o : Option (Option Note)) (f : Facts) (d : Apart) → To x home o q → x.inside home ≡ inside → ExpectsBy c o f d → (ks : List Frame) → Waits inside home ks
+      pub arrive_by : (c : Ties) (home : BlockName) (q : Position) (o : Option (Option Note)) (f : Facts) (d : Apart) → To x home o q → x.inside home ≡ inside → ExpectsBy c o f d → (ks : List Frame) → Waits inside home ks
           → (th tv : Thread) (m k : Memory) → th.at ≡ Some q → tv.at ≡ Some (under x q) → th.rest ≡ tv.rest → RestIsLoud th.rest → th.stack ≡ olds_of ks → tv.stack ≡ news_of ks
-          → Alike d th.registers tv.registers → Holds f th.registers m → ((a : ℕ) → d.bytes a ≡ false → held ks a ≡ false → rest a ≡ false → m a ≡ k a) → ((j : ℕ) → c ≡ Some j → m j ≡ tv.registers.w)
+          → Alike d th.registers tv.registers → Holds f th.registers m → ((a : ℕ) → d.bytes a ≡ false → held ks a ≡ false → rest a ≡ false → m a ≡ k a) → AreTied c th.registers tv.registers m
           → Goes inside rest th tv m k
-      arrive_by c home q o f d to home_inside expects ks waits th tv m k at new_at same_rest loud olds news alike holds same carries there =
+      arrive_by c home q o f d to home_inside expects ks waits th tv m k at new_at same_rest loud olds news alike holds same tied there =
           by_note o to expects
         where
           stands : lands (old_program x) q ≡ true
@@ -187,17 +191,17 @@ module _ (x : Lean) where
                 alike = covers_alike n.apart d th.registers tv.registers e.1.flags alike;
                 holds = weaker_holds n.facts f th.registers m e.0 holds;
                 note = note_of_it n to;
-                carry = λ j h. carries j (e.2 j h);
+                ties = claims_tied n f.number c th.registers tv.registers m holds.number e.2 tied;
               };
               same = λ a u v. same a (e.1.bytes a (or_left (n.apart.bytes a) (held ks a) u)) (or_right (n.apart.bytes a) (held ks a) u) v;
             },
             subst (λ (p : Option Position). lands_at (new_program x) p ≡ true) (sym new_at) (lands_new q n to.note stands),
           )
 
-      -- nothing is carried
+      -- nothing is tied
       pub arrive : (home : BlockName) (q : Position) (o : Option (Option Note)) (f : Facts) (d : Apart) → To x home o q → x.inside home ≡ inside → Expects o f d → (ks : List Frame) → Waits inside home ks
           → (th tv : Thread) (m k : Memory) → th.at ≡ Some q → tv.at ≡ Some (under x q) → th.rest ≡ tv.rest → RestIsLoud th.rest → th.stack ≡ olds_of ks → tv.stack ≡ news_of ks
           → Alike d th.registers tv.registers → Holds f th.registers m → ((a : ℕ) → d.bytes a ≡ false → held ks a ≡ false → rest a ≡ false → m a ≡ k a)
           → Goes inside rest th tv m k
       arrive home q o f d to home_inside expects ks waits th tv m k at new_at same_rest loud olds news alike holds same =
-          arrive_by None home q o f d to home_inside expects ks waits th tv m k at new_at same_rest loud olds news alike holds same (λ j h. absurd (none-some j h))
+          arrive_by no_ties home q o f d to home_inside expects ks waits th tv m k at new_at same_rest loud olds news alike holds same (none_tied th.registers tv.registers m)

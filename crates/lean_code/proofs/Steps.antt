@@ -11,7 +11,7 @@ use Rattle.sym_code.specs.declared.code.Literal.TheVariants.{Number}
 use Rattle.sym_code.specs.declared.code.LiteralOperation.{LiteralOperation}
 use Rattle.sym_code.specs.declared.code.Sym.{Sym}
 use Rattle.sym_code.specs.declared.code.Sym.TheVariants as syms
-use Rattle.lean_code.specs.Rows.{Note, Act, Keeps, Drops, Puts, Narrows, narrowed, Clears, cleared, Reads, reads_before, Row, At, put_of, is_label, place_in, Lean, old_program, new_program, old_setting, new_setting}
+use Rattle.lean_code.specs.Rows.{Note, Act, Keeps, Drops, Puts, Narrows, narrowed, Clears, cleared, Reads, reads_before, Tests, FlagName, tests_flag, Row, At, put_of, is_label, place_in, Lean, old_program, new_program, old_setting, new_setting}
 use Rattle.lean_code.specs.Changes.{is_own}
 use Rattle.lean_code.specs.Right.{IsRight, IsSound}
 use Rattle.lean_code.specs.Links.{clears, clears_if, is_open}
@@ -25,6 +25,7 @@ use Rattle.lean_code.proofs.Cleared.{cleared_both}
 use Rattle.lean_code.proofs.Narrow.{narrow_both}
 use Rattle.lean_code.proofs.Put.{put_both}
 use Rattle.lean_code.proofs.Reading.{read_both}
+use Rattle.lean_code.proofs.Testing.{tested_both}
 
 -- ---- rows
 put_keeps : (s : Sym) → put_of s Keeps ≡ Some s
@@ -66,6 +67,14 @@ put_reads s i e = refl
 stands_reads : (s : Sym) (i : ℕ) (said : Option Note) → is_label s ≡ false → stands_at (Some (At s (Reads i) said)) ≡ true
 stands_reads (syms.Label label) i said e = never (sym e)
 stands_reads s i said e = refl
+
+put_tests : (s : Sym) (flag : FlagName) (turned : Bool) → is_label s ≡ false → put_of s (Tests flag turned) ≡ Some (tests_flag flag turned s)
+put_tests (syms.Label label) flag turned e = never (sym e)
+put_tests s flag turned e = refl
+
+stands_tests : (s : Sym) (flag : FlagName) (turned : Bool) (said : Option Note) → is_label s ≡ false → stands_at (Some (At s (Tests flag turned) said)) ≡ true
+stands_tests (syms.Label label) flag turned said e = never (sym e)
+stands_tests s flag turned said e = refl
 
 drops_drops : (s : Sym) (said : Option Note) → is_label s ≡ false → dropped_at (Some (At s Drops said)) ≡ true
 drops_drops (syms.Label label) said e = never (sym e)
@@ -134,7 +143,7 @@ module _ (x : Lean) (sound : IsSound x) (inside : Bool) (rest : ℕ → Bool) (f
             alike = t.alike;
             holds = event_holds x inside n.facts r m w.to w.byte (record { held = t.note.held; known = t.note.known; twin = t.note.twin }) t.loud t.holds;
             note = t.note;
-            carry = λ j h. event_elsewhere x inside w.to w.byte m j (t.note.carry j h) t.loud ∙ t.carry j h;
+            ties = record { carry = λ j h. event_elsewhere x inside w.to w.byte m j (t.note.carry j h) t.loud ∙ t.ties.carry j h; shown = t.ties.shown };
           };
           same = λ a u v. event_same w.to w.byte m k a (same a u v);
         },
@@ -178,7 +187,7 @@ module _ (x : Lean) (sound : IsSound x) (inside : Bool) (rest : ℕ → Bool) (f
       alike = t.alike;
       holds = t.holds;
       note = t.note;
-      carry = t.carry;
+      ties = t.ties;
       still = λ a u v w. same a (or_both (n.apart.bytes a) (held ks a) u v) w;
       far = far;
     }
@@ -218,6 +227,9 @@ module _ (x : Lean) (sound : IsSound x) (inside : Bool) (rest : ℕ → Bool) (f
       by_act (Reads before) row right =
           let stands : stands_at (row_at x p) ≡ true = subst (λ (o : Option Row). stands_at o ≡ true) (sym row) (stands_reads i before (Some n) word) in
           subst (λ (o : Option Sym). ByRow (Some i) o) (sym (made_at stands (Some (reads_before before i)) (ap put_at row ∙ put_reads i before word))) (Matched (read_both x sound inside rest scene stands before i clear right) (pays stands))
+      by_act (Tests flag turned) row right =
+          let stands : stands_at (row_at x p) ≡ true = subst (λ (o : Option Row). stands_at o ≡ true) (sym row) (stands_tests i flag turned (Some n) word) in
+          subst (λ (o : Option Sym). ByRow (Some i) o) (sym (made_at stands (Some (tests_flag flag turned i)) (ap put_at row ∙ put_tests i flag turned word))) (Matched (tested_both x sound inside rest scene stands flag turned i right) (pays stands))
 
     by_stood : (y : Stood (x.rows p.block) p.index) → clears_if x.hidden r (fetched (old_program x) p) ≡ true → ByRow (fetched (old_program x) p) (fetched (new_program x) (under x p))
     by_stood y open_at =

@@ -7,9 +7,9 @@ use Rattle.sym_code.specs.declared.code.LiteralOperation.{LiteralOperation}
 use Rattle.sym_code.specs.declared.code.LiteralOperation.TheVariants as literals
 use Rattle.lean_code.specs.Rows as rows_of
 use Rattle.lean_code.specs.Rows.{Facts, Apart, Note, Row, is_label, note_ahead}
-use Rattle.lean_code.specs.Changes.{Weaker, CoversFlags, Aim, ToByte, Through, same_byte, other_byte, is_number}
-use Rattle.lean_code.specs.Right.{Claims, Expects, ExpectsBy, Leads, Passes, Same, Comes, Enters, with_flag}
-use Rattle.lean_code.specs.Checked.{among, all_of, KnownByte, number_in, ListedFacts, ListedApart, ListedNote, ListedRow, Listed, facts_in, apart_in, note_in, rows_in, is_twin, gives_number, gives_known, gives_twins, gives, covers_flags, covers_bytes, same_number, expects_by, expects, ahead, past, leads, passes, comes, enters, same, same_side, same_operation, is_operation, all_known, all_twins}
+use Rattle.lean_code.specs.Changes.{Ties, no_ties, shows, Weaker, CoversFlags, Aim, ToByte, Through, same_byte, other_byte, is_number}
+use Rattle.lean_code.specs.Right.{Claims, Expects, ExpectsBy, Leads, PassesBoth, Passes, Same, Comes, Enters, with_flag}
+use Rattle.lean_code.specs.Checked.{among, all_of, KnownByte, number_in, ListedFacts, ListedApart, ListedNote, ListedRow, Listed, facts_in, apart_in, note_in, rows_in, is_twin, gives_number, gives_known, gives_twins, gives, covers_flags, covers_bytes, same_number, claims, expects_by, expects, ahead, past, leads, passes_both, passes, comes, enters, same, same_side, same_operation, is_operation, all_known, all_twins}
 use Rattle.lean_code.proofs.Lists.{never}
 use Rattle.lean_code.proofs.Facts.{not_false}
 use Rattle.lean_code.proofs.KeptRows.{flag_bytes}
@@ -99,17 +99,25 @@ twins_all test (b ∷ bs) e a c k = by_case (nat_eq a b.byte) refl (twins_all te
 pub gives_is : (f : Facts) (n : ListedFacts) → gives f n ≡ true → Weaker (facts_in n) f
 gives_is f n e =
     let known = gives_known f.known n.known in
-    let twins = gives_twins f.twin n.twins in
+    let all_twins = gives_twins f.twin n.twins in
+    let carry = not n.carry_bit || f.carry_bit in
+    let last = not n.zero_bit || f.zero_bit in
+    let bits = carry && last in
+    let twins = all_twins && bits in
     let zero = not n.zero || f.zero in
     let one = and_r (gives_number f.number n.number) (all_of f.held n.held && (zero && (known && twins))) e in
     let two = and_r (all_of f.held n.held) (zero && (known && twins)) one in
     let three = and_r zero (known && twins) two in
+    let four = and_r known twins three in
+    let five = and_r all_twins bits four in
     record {
       number = number_of n.number (and_l (gives_number f.number n.number) (all_of f.held n.held && (zero && (known && twins))) e);
       held = λ a k. all_is f.held n.held (and_l (all_of f.held n.held) (zero && (known && twins)) one) a k;
       zero = λ k. not_or n.zero f.zero (and_l zero (known && twins) two) k;
       known = λ a i k. known_is f.known n.known (and_l known twins three) a i k;
-      twin = λ a c k. twins_is f.twin n.twins (and_r known twins three) a c k;
+      twin = λ a c k. twins_is f.twin n.twins (and_l all_twins bits four) a c k;
+      carry_bit = λ k. not_or n.carry_bit f.carry_bit (and_l carry last five) k;
+      zero_bit = λ k. not_or n.zero_bit f.zero_bit (and_r carry last five) k;
     }
   where
     number_of : (o : Option ℕ) → gives_number f.number o ≡ true → (i : ℕ) → o ≡ Some i → f.number ≡ Some i
@@ -135,27 +143,31 @@ pub bytes_are : (b : List ℕ) (d : Apart) (candidates : List ℕ) → Within d 
 bytes_are b d candidates within e a k =
     not_false (d.bytes a) (λ h. sym k ∙ not_or (d.bytes a) (among a b) (all_is (λ j. not (d.bytes j) || among j b) candidates e a (within a h)) h)
 
-pub numbers_are : (a b : Option ℕ) → same_number a b ≡ true → Claims a b
+numbers_are : (a b : Option ℕ) → same_number a b ≡ true → (j : ℕ) → a ≡ Some j → b ≡ Some j
 numbers_are None b e = λ j h. absurd (none-some j h)
 numbers_are (Some a) b e = λ j h. number_is b a e ∙ h
 
-pub expects_by_is : (carry : Option ℕ) (q : Option (Option ListedNote)) (f : Facts) (d : Apart) (candidates : List ℕ) → Within d candidates → expects_by carry q f d candidates ≡ true → ExpectsBy carry (option_map (option_map note_in) q) f d
-expects_by_is carry None f d candidates within e = tt
-expects_by_is carry (Some None) f d candidates within e = never e
-expects_by_is carry (Some (Some n)) f d candidates within e =
+pub claims_are : (n : ListedNote) (number : Option ℕ) (t : Ties) → claims n number t ≡ true → Claims (note_in n) number t
+claims_are n number t e =
+    record { carry = numbers_are n.carry t.carry (and_l (same_number n.carry t.carry) (shows n.shown number t.shown) e); shown = and_r (same_number n.carry t.carry) (shows n.shown number t.shown) e }
+
+pub expects_by_is : (c : Ties) (q : Option (Option ListedNote)) (f : Facts) (d : Apart) (candidates : List ℕ) → Within d candidates → expects_by c q f d candidates ≡ true → ExpectsBy c (option_map (option_map note_in) q) f d
+expects_by_is c None f d candidates within e = tt
+expects_by_is c (Some None) f d candidates within e = never e
+expects_by_is c (Some (Some n)) f d candidates within e =
     let one = gives f n.facts in
     let two = covers_flags n.apart d in
     let three = covers_bytes n.apart.bytes d.bytes candidates in
-    let four = same_number n.carry carry in
+    let four = claims n f.number c in
     let more = and_r one (two && (three && four)) e in
     let last = and_r two (three && four) more in (
       gives_is f n.facts (and_l one (two && (three && four)) e),
       record { flags = flags_are n.apart d (and_l two (three && four) more); bytes = bytes_are n.apart.bytes d candidates within (and_l three four last) },
-      numbers_are n.carry carry (and_r three four last),
+      claims_are n f.number c (and_r three four last),
     )
 
 pub expects_is : (q : Option (Option ListedNote)) (f : Facts) (d : Apart) (candidates : List ℕ) → Within d candidates → expects q f d candidates ≡ true → Expects (option_map (option_map note_in) q) f d
-expects_is q f d candidates within e = expects_by_is None q f d candidates within e
+expects_is q f d candidates within e = expects_by_is no_ties q f d candidates within e
 
 pub ahead_is : (rows : List ListedRow) → note_ahead (rows_in rows) ≡ option_map (option_map note_in) (ahead rows)
 ahead_is [] = refl
@@ -181,8 +193,8 @@ drop_is (suc i) (row ∷ rows) = drop_is i rows
 pub expects_at : (rows : List ListedRow) (f : Facts) (d : Apart) (candidates : List ℕ) → Within d candidates → expects (ahead rows) f d candidates ≡ true → Expects (note_ahead (rows_in rows)) f d
 expects_at rows f d candidates within e = subst (λ (q : Option (Option Note)). Expects q f d) (sym (ahead_is rows)) (expects_is (ahead rows) f d candidates within e)
 
-pub expects_by_at : (carry : Option ℕ) (rows : List ListedRow) (f : Facts) (d : Apart) (candidates : List ℕ) → Within d candidates → expects_by carry (ahead rows) f d candidates ≡ true → ExpectsBy carry (note_ahead (rows_in rows)) f d
-expects_by_at carry rows f d candidates within e = subst (λ (q : Option (Option Note)). ExpectsBy carry q f d) (sym (ahead_is rows)) (expects_by_is carry (ahead rows) f d candidates within e)
+pub expects_by_at : (c : Ties) (rows : List ListedRow) (f : Facts) (d : Apart) (candidates : List ℕ) → Within d candidates → expects_by c (ahead rows) f d candidates ≡ true → ExpectsBy c (note_ahead (rows_in rows)) f d
+expects_by_at c rows f d candidates within e = subst (λ (q : Option (Option Note)). ExpectsBy c q f d) (sym (ahead_is rows)) (expects_by_is c (ahead rows) f d candidates within e)
 
 pub expects_past : (rows : List ListedRow) (f : Facts) (d : Apart) (candidates : List ℕ) → Within d candidates → expects (ahead (past rows)) f d candidates ≡ true → Expects (note_ahead (rows_of.past (rows_in rows))) f d
 expects_past rows f d candidates within e = subst (λ (l : List Row). Expects (note_ahead l) f d) (sym (past_is rows)) (expects_at (past rows) f d candidates within e)
@@ -200,25 +212,28 @@ leads_is rest None f d candidates within e =
     let more = and_r one (two && keeps) e in
     record { runs = expects_at rest f d candidates within (and_l one (two && keeps) e); skips = expects_past rest f d candidates within (and_l two keeps more); keeps = and_r two keeps more }
 
-expects_by_past : (carry : Option ℕ) (rest : List ListedRow) (f : Facts) (d : Apart) (candidates : List ℕ) → Within d candidates → expects_by carry (ahead (past rest)) f d candidates ≡ true → ExpectsBy carry (note_ahead (rows_of.past (rows_in rest))) f d
-expects_by_past carry rest f d candidates within e = subst (λ (l : List Row). ExpectsBy carry (note_ahead l) f d) (sym (past_is rest)) (expects_by_at carry (past rest) f d candidates within e)
+expects_by_past : (c : Ties) (rest : List ListedRow) (f : Facts) (d : Apart) (candidates : List ℕ) → Within d candidates → expects_by c (ahead (past rest)) f d candidates ≡ true → ExpectsBy c (note_ahead (rows_of.past (rows_in rest))) f d
+expects_by_past c rest f d candidates within e = subst (λ (l : List Row). ExpectsBy c (note_ahead l) f d) (sym (past_is rest)) (expects_by_at c (past rest) f d candidates within e)
 
-pub passes_is : (carry : Option ℕ) (rest : List ListedRow) (way : Option Bool) (f : Facts) (d : Apart) (candidates : List ℕ) → Within d candidates → passes carry rest way f d candidates ≡ true → Passes carry (rows_in rest) way f d
-passes_is carry rest (Some false) f d candidates within e = expects_by_at carry rest f d candidates within e
-passes_is carry rest (Some true) f d candidates within e =
-    let one = expects_by carry (ahead (past rest)) f d candidates in
-    let drops = rows_of.drops_first (rows_in rest) in
-    (expects_by_past carry rest f d candidates within (and_l one drops e), and_r one drops e)
-passes_is carry rest None f d candidates within e =
-    let one = expects_by carry (ahead rest) f d candidates in
-    let two = expects_by carry (ahead (past rest)) f d candidates in
+pub passes_both_is : (on over : Ties) (rest : List ListedRow) (f : Facts) (d : Apart) (candidates : List ℕ) → Within d candidates → passes_both on over rest f d candidates ≡ true → PassesBoth on over (rows_in rest) f d
+passes_both_is on over rest f d candidates within e =
+    let one = expects_by on (ahead rest) f d candidates in
+    let two = expects_by over (ahead (past rest)) f d candidates in
     let drops = rows_of.drops_first (rows_in rest) in
     let more = and_r one (two && drops) e in
     record {
-      runs = expects_by_at carry rest f d candidates within (and_l one (two && drops) e);
-      skips = expects_by_past carry rest f d candidates within (and_l two drops more);
+      runs = expects_by_at on rest f d candidates within (and_l one (two && drops) e);
+      skips = expects_by_past over rest f d candidates within (and_l two drops more);
       drops = and_r two drops more;
     }
+
+pub passes_is : (c : Ties) (rest : List ListedRow) (way : Option Bool) (f : Facts) (d : Apart) (candidates : List ℕ) → Within d candidates → passes c rest way f d candidates ≡ true → Passes c (rows_in rest) way f d
+passes_is c rest (Some false) f d candidates within e = expects_by_at c rest f d candidates within e
+passes_is c rest (Some true) f d candidates within e =
+    let one = expects_by c (ahead (past rest)) f d candidates in
+    let drops = rows_of.drops_first (rows_in rest) in
+    (expects_by_past c rest f d candidates within (and_l one drops e), and_r one drops e)
+passes_is c rest None f d candidates within e = passes_both_is c c rest f d candidates within e
 
 pub same_is : (hidden : ℕ → Bool) (a : Aim) (d : ListedApart) (outer : List ℕ) → same hidden a d.bytes outer ≡ true → Same hidden a (apart_in d) (λ j. among j outer)
 same_is hidden (ToByte k) d outer e = (is_not (among k d.bytes) (and_l (not (among k d.bytes)) (not (among k outer)) e), is_not (among k outer) (and_r (not (among k d.bytes)) (not (among k outer)) e))
@@ -232,9 +247,9 @@ enters_is (Some None) n e = never e
 enters_is (Some (Some k)) n e =
     let one = gives (facts_in n.facts) k.facts in
     let two = covers_flags k.apart (apart_in n.apart) in
-    let three = same_number k.carry None in
+    let three = claims k None no_ties in
     let more = and_r one (two && three) e in
-    (gives_is (facts_in n.facts) k.facts (and_l one (two && three) e), flags_are k.apart (apart_in n.apart) (and_l two three more), numbers_are k.carry None (and_r two three more))
+    (gives_is (facts_in n.facts) k.facts (and_l one (two && three) e), flags_are k.apart (apart_in n.apart) (and_l two three more), claims_are k None no_ties (and_r two three more))
 
 pub comes_is : (q : Option (Option ListedNote)) (k : ListedNote) (across : List ℕ) → comes q k across ≡ true → Comes (option_map (option_map note_in) q) (note_in k) (λ a. among a across)
 comes_is None k across e = tt
@@ -244,13 +259,13 @@ comes_is (Some (Some n)) k across e =
     let two = covers_flags n.apart (apart_in k.apart) in
     let three = all_of (λ a. among a n.apart.bytes) k.apart.bytes in
     let four = all_of (λ a. among a n.apart.bytes) across in
-    let five = same_number n.carry None in
+    let five = claims n None no_ties in
     let more = and_r one (two && (three && (four && five))) e in
     let last = and_r two (three && (four && five)) more in
     let end = and_r three (four && five) last in (
       gives_is (facts_in k.facts) n.facts (and_l one (two && (three && (four && five))) e),
       flags_are n.apart (apart_in k.apart) (and_l two (three && (four && five)) more),
-      numbers_are n.carry None (and_r four five end),
+      claims_are n None no_ties (and_r four five end),
       λ a h. (all_not (λ j. among j n.apart.bytes) k.apart.bytes (and_l three (four && five) last) a h, all_not (λ j. among j n.apart.bytes) across (and_l four five end) a h),
     )
 

@@ -106,7 +106,7 @@ module _ (x : Lean) (sound : IsSound x) (old new : BlockName → ℕ → ℕ) (c
       (arrive x sound false x.rest (Copy 0) (front (old_program x) (Copy 0)) (note_ahead (x.rows (Copy 0))) nothing_known d (to_front x (Copy 0)) sound.main.0 (main_expects (note_ahead (x.rows (Copy 0))) sound.main.1) [] tt
       (at_front (old_program x) 0 r) (at_front (new_program x) 0 r) m m refl (ap (λ (q : Position). Some q) (under_front x (Copy 0))) refl tt refl refl
       (record { w = λ h. refl; z = λ h. refl; dc = λ h. refl; c = λ h. refl; fsr = refl; irp = refl })
-      (record { number = λ i h. absurd (none-some i h); held = λ i h. never h; zero = λ h. never h; known = λ i j h. absurd (none-some j h); twin = λ i j h. never h })
+      (record { number = λ i h. absurd (none-some i h); held = λ i h. never h; zero = λ h. never h; known = λ i j h. absurd (none-some j h); twin = λ i j h. never h; carry_bit = λ h. never h; zero_bit = λ h. never h })
       (λ j h i l. refl) sound.stands).0
 
   begins_at : Together x (settled o first) (settled o last)

@@ -13,7 +13,7 @@ use Rattle.sym_code.specs.declared.code.Sym.TheVariants as syms
 use Rattle.sym_code.specs.declared.code.SymBlock.{SymBlock}
 use Rattle.lean_code.specs.Checked as listed
 use Rattle.lean_code.specs.Checked.{ListedBlock, Sketch, rows_in}
-use Rattle.lean_code.specs.Rows.{Act, Keeps, Puts, narrowed, cleared, reads_before, Row, At, old_of, is_reached, is_label, is_dropped, olds, puts}
+use Rattle.lean_code.specs.Rows.{Act, Keeps, Puts, FlagName, narrowed, cleared, reads_before, tests_flag, Row, At, old_of, is_reached, is_label, is_dropped, olds, puts}
 
 -- ---- rows
 -- The instruction is one that counts, something comes to it, and it is left out. Given is how many bytes the variables of each copy have.
@@ -99,8 +99,8 @@ abbrev pub KeptIsSame : Type 0
 KeptIsSame = (rows : List Row) → keeps_all rows ≡ true → puts rows ≡ olds rows
 
 -- What holds of each instruction of the given code, of each operation on W and a byte, of an instruction wherever its result goes, of
--- the clearing of a byte in which W may be stored, and of a byte before one of the same frame, holds of each that is made.
+-- the clearing of a byte in which W may be stored, of a byte before one of the same frame, and of a flag that is tested in its place, holds of each that is made.
 abbrev pub BytesKeep : Type 0
 BytesKeep =
-    (test : Sym → Bool) (rows : List Row) → puts_bytes rows ≡ true → ((op : LiteralOperation) (n : ℕ) → n < 256 → test (syms.Literal op (Number n)) ≡ true) → ((s : Sym) → test s ≡ true → test (narrowed s) ≡ true) → ((s : Sym) → test s ≡ true → test (cleared s) ≡ true) → ((n : ℕ) (s : Sym) → test s ≡ true → test (reads_before n s) ≡ true)
+    (test : Sym → Bool) (rows : List Row) → puts_bytes rows ≡ true → ((op : LiteralOperation) (n : ℕ) → n < 256 → test (syms.Literal op (Number n)) ≡ true) → ((s : Sym) → test s ≡ true → test (narrowed s) ≡ true) → ((s : Sym) → test s ≡ true → test (cleared s) ≡ true) → ((n : ℕ) (s : Sym) → test s ≡ true → test (reads_before n s) ≡ true) → ((flag : FlagName) (turned : Bool) (s : Sym) → test s ≡ true → test (tests_flag flag turned s) ≡ true)
     → list_all test (olds rows) ≡ true → list_all test (puts rows) ≡ true

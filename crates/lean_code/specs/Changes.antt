@@ -1,5 +1,5 @@
 -- What instructions do to what is known and to what may differ.
-use Rattle.std.specs.Prelude.{◌≡◌, ℕ, Bool, true, false, not, ◌&&◌, ◌||◌, nat_eq, if◌then◌else◌, Option, Some, None}
+use Rattle.std.specs.Prelude.{◌≡◌, ℕ, Bool, true, false, not, ◌&&◌, ◌||◌, nat_eq, nat_le, ◌<◌, if◌then◌else◌, Option, Some, None}
 use Rattle.pic_world.specs.Bits.{truth}
 use Rattle.pic_world.specs.declared.Root.TheVariants.{Main, Isr}
 use Rattle.core_code.specs.declared.code.Byte.TheVariants as bytes
@@ -14,7 +14,7 @@ use Rattle.sym_code.specs.declared.code.Operand.{Operand}
 use Rattle.sym_code.specs.declared.code.Operand.TheVariants as operands
 use Rattle.sym_code.specs.declared.code.Register.TheVariants.{Indf, Fsr}
 use Rattle.lean_code.specs.Computed.{computed}
-use Rattle.lean_code.specs.Rows.{Facts, Apart}
+use Rattle.lean_code.specs.Rows.{Facts, Apart, FlagName, Carry, Zero, Shown, Unshown, Sees, Chooses}
 
 -- ---- what is said
 pub record Holds (f : Facts) (r : Registers) (m : Memory) : Type 0 where
@@ -23,6 +23,8 @@ pub record Holds (f : Facts) (r : Registers) (m : Memory) : Type 0 where
   pub zero : f.zero ≡ true → r.z ≡ truth (nat_eq r.w 0)
   pub known : (a n : ℕ) → f.known a ≡ Some n → m a ≡ n
   pub twin : (a b : ℕ) → f.twin a b ≡ true → m a ≡ m b
+  pub carry_bit : f.carry_bit ≡ true → r.c < 2
+  pub zero_bit : f.zero_bit ≡ true → r.z < 2
 
 -- the registers of the two machines; FSR and IRP never differ
 pub record Alike (d : Apart) (r s : Registers) : Type 0 where
@@ -40,6 +42,8 @@ pub record Weaker (f k : Facts) : Type 0 where
   pub zero : f.zero ≡ true → k.zero ≡ true
   pub known : (a n : ℕ) → f.known a ≡ Some n → k.known a ≡ Some n
   pub twin : (a b : ℕ) → f.twin a b ≡ true → k.twin a b ≡ true
+  pub carry_bit : f.carry_bit ≡ true → k.carry_bit ≡ true
+  pub zero_bit : f.zero_bit ≡ true → k.zero_bit ≡ true
 
 -- W and the flags of b may differ wherever those of d may
 pub record CoversFlags (b d : Apart) : Type 0 where
@@ -191,13 +195,17 @@ lost hidden aim f = f
 abbrev pub without_zero : Facts → Facts
 without_zero f = record f { zero = false }
 
+-- flags are written, which are bits then
+abbrev pub with_bits : Flags → Facts → Facts
+with_bits g f = record f { carry_bit = g.c || f.carry_bit; zero_bit = g.z || f.zero_bit }
+
 abbrev pub without_w : Facts → Facts
 without_w f = record f { number = None; held = λ a. false; zero = false }
 
 -- a byte is read to W, which is then what the bytes hold of which it is a copy
 abbrev pub moved : Aim → Facts → Facts
-moved (ToByte k) f = record f { number = f.known k; held = λ a. if nat_eq a k then true else f.twin k a; zero = true }
-moved aim f = record f { number = None; held = λ a. false; zero = true }
+moved (ToByte k) f = record f { number = f.known k; held = λ a. if nat_eq a k then true else f.twin k a; zero = true; zero_bit = true }
+moved aim f = record f { number = None; held = λ a. false; zero = true; zero_bit = true }
 
 -- what is known of the byte that is read
 abbrev pub number_at : Aim → Facts → Option ℕ
@@ -210,8 +218,11 @@ with_number None zero f = record f { number = None; held = λ a. false; zero = z
 with_number (Some n) zero f = record f { number = Some n; held = λ a. is_number (f.known a) n; zero = zero }
 
 -- an operation on W and a byte of which this is known
+abbrev pub worked_by : FileOperation → Option ℕ → Facts → Facts
+worked_by op byte f = if leaves_w op byte then record f { zero = true } else with_number (computed op f.number byte) (flags_in op).z f
+
 abbrev pub worked : FileOperation → Option ℕ → Facts → Facts
-worked op byte f = if leaves_w op byte then record f { zero = true } else with_number (computed op f.number byte) (flags_in op).z f
+worked op byte f = with_bits (flags_in op) (worked_by op byte f)
 
 abbrev pub after_to_w : FileOperation → Aim → Facts → Facts
 after_to_w files.Movf aim f = moved aim f
@@ -224,7 +235,7 @@ learned hidden aim number f = lost hidden aim f
 
 -- the result of an operation is written
 abbrev pub after_to_file : (ℕ → Bool) → FileOperation → Aim → Facts → Facts
-after_to_file hidden op aim f = learned hidden aim (computed op f.number (number_at aim f)) (without_zero f)
+after_to_file hidden op aim f = with_bits (flags_in op) (learned hidden aim (computed op f.number (number_at aim f)) (without_zero f))
 
 -- it is a copy of the bytes that hold W
 abbrev pub twin_stored : ℕ → Facts → ℕ → ℕ → Bool
@@ -279,3 +290,69 @@ one_writes op k f d = if same_known (computed op f.number (f.known k)) (f.known 
 -- only one of them clears byte k
 abbrev pub one_clears : Facts → ℕ → Apart → Apart
 one_clears f k d = if is_number (f.known k) 0 then record d { z = true } else other_byte k (record d { z = true })
+
+-- ---- flags that tell
+-- what is tied to the machine that runs the code that is made
+pub record Ties : Type 0 where
+  pub carry : Option ℕ
+  pub shown : Shown
+
+abbrev pub no_ties : Ties
+no_ties = record { carry = None; shown = Unshown }
+
+abbrev pub carries : ℕ → Ties
+carries k = record { carry = Some k; shown = Unshown }
+
+abbrev pub flag_of : FlagName → Registers → ℕ
+flag_of Carry r = r.c
+flag_of Zero r = r.z
+
+-- what is shown is so, with W of the one machine and the registers of the other
+abbrev pub IsShown : Shown → ℕ → Registers → Type 0
+IsShown Unshown w s = Unit {0}
+IsShown (Sees flag v) w s = flag_of flag s ≡ truth v
+IsShown (Chooses flag a b) w s = (v : Bool) × (flag_of flag s ≡ truth v) × (w ≡ (if v then a else b))
+
+abbrev pub same_flag : FlagName → FlagName → Bool
+same_flag Carry Carry = true
+same_flag Carry Zero = false
+same_flag Zero Carry = false
+same_flag Zero Zero = true
+
+abbrev pub same_truth : Bool → Bool → Bool
+same_truth true b = b
+same_truth false b = not b
+
+-- no more is said to be shown than is, where this is known of W
+abbrev pub shows : Shown → Option ℕ → Shown → Bool
+shows Unshown number has = true
+shows (Sees flag v) number (Sees g u) = same_flag flag g && same_truth v u
+shows (Sees flag v) number has = false
+shows (Chooses flag a b) number Unshown = false
+shows (Chooses flag a b) number (Sees g v) = same_flag flag g && is_number number (if v then a else b)
+shows (Chooses flag a b) number (Chooses g c e) = same_flag flag g && (nat_eq a c && nat_eq b e)
+
+-- what is shown where W stays, or not
+abbrev pub left : Bool → Shown → Shown
+left true shown = shown
+left false (Chooses flag a b) = Unshown
+left false shown = shown
+
+-- behind a test of a flag by the number of its bit, which is this there: the other machine has it alike, if it is a bit
+abbrev pub sees : Facts → Apart → ℕ → Bool → Shown → Shown
+sees f d b v shown = if nat_eq b 0 then (if f.carry_bit && not d.c then Sees Carry v else shown) else (if nat_eq b 2 then (if f.zero_bit && not d.z then Sees Zero v else shown) else shown)
+
+-- Z, which says whether W is 0, is what this flag is, or the opposite
+abbrev pub shows_zero : Shown → FlagName → Bool → Bool
+shows_zero (Chooses g a b) flag turned = same_flag g flag && (if turned then not (nat_eq a 0) && nat_eq b 0 else nat_eq a 0 && not (nat_eq b 0))
+shows_zero shown flag turned = false
+
+-- A number that a carry chose is taken away from one that leaves the same carry.
+abbrev pub leaves_carry : FileOperation → Option ℕ → Shown → Bool
+leaves_carry files.Subwf (Some k) (Chooses Carry a b) = nat_le a k && not (nat_le b k)
+leaves_carry op byte shown = false
+
+-- so C doesn't differ
+abbrev pub same_carry : Bool → Apart → Apart
+same_carry true d = record d { c = false }
+same_carry false d = d

@@ -26,8 +26,8 @@ use Rattle.sym_code.specs.declared.code.SymBlock.{SymBlock}
 use Rattle.sym_code.specs.declared.code.Target.{Target}
 use Rattle.sym_code.specs.declared.code.Target.TheVariants as targets
 use Rattle.lean_code.specs.Computed.{computed, way_of, way_of_bit}
-use Rattle.lean_code.specs.Rows.{Facts, Apart, Note, nothing_known, Act, Keeps, Drops, Puts, Narrows, Clears, Reads, may_clear, operand_before, Row, At, olds, puts, is_label, place_in, drops_first, keeps_first, goes_on, Lean, old_program}
-use Rattle.lean_code.specs.Changes.{Aim, ToByte, Through, aim, is_own, is_near, lost, without_zero, moved, after_to_w, number_at, learned, after_to_file, stored, flags_in, uses_w, uses_c, may_skip, literal_flags, literal_uses, is_retlw, literal_for, both_set, one_sets, same_w, other_w, same_byte, other_byte, one_moves, one_stores, is_number, one_works, one_writes, one_clears}
+use Rattle.lean_code.specs.Rows.{Facts, Apart, Note, nothing_known, Act, Keeps, Drops, Puts, Narrows, Clears, Reads, Tests, FlagName, Shown, Unshown, may_clear, operand_before, Row, At, olds, puts, is_label, place_in, drops_first, keeps_first, goes_on, Lean, old_program}
+use Rattle.lean_code.specs.Changes.{Ties, no_ties, carries, shows, left, sees, shows_zero, leaves_carry, same_carry, stays, with_bits, Aim, ToByte, Through, aim, is_own, is_near, lost, without_zero, moved, after_to_w, number_at, learned, after_to_file, stored, flags_in, uses_w, uses_c, may_skip, literal_flags, literal_uses, is_retlw, literal_for, both_set, one_sets, same_w, other_w, same_byte, other_byte, one_moves, one_stores, is_number, one_works, one_writes, one_clears}
 use Rattle.lean_code.specs.Right as right
 use Rattle.lean_code.specs.Right.{flag_apart, with_flag}
 
@@ -60,6 +60,8 @@ pub record ListedFacts : Type 0 where
   pub known : List KnownByte
   -- bytes that are copies, each with the byte of which it is one
   pub twins : List KnownByte
+  pub carry_bit : Bool
+  pub zero_bit : Bool
 
 pub record ListedApart : Type 0 where
   pub w : Bool
@@ -72,6 +74,7 @@ pub record ListedNote : Type 0 where
   pub facts : ListedFacts
   pub apart : ListedApart
   pub carry : Option ℕ
+  pub shown : Shown
 
 pub data ListedRow : Type 0 where
   Listed : Sym → Act → Option ListedNote → ListedRow
@@ -97,13 +100,13 @@ pub record Sketch : Type 0 where
 
 -- ---- what the lists say
 abbrev pub facts_in : ListedFacts → Facts
-facts_in f = record { number = f.number; held = λ a. among a f.held; zero = f.zero; known = λ a. number_in a f.known; twin = is_twin f.twins }
+facts_in f = record { number = f.number; held = λ a. among a f.held; zero = f.zero; known = λ a. number_in a f.known; twin = is_twin f.twins; carry_bit = f.carry_bit; zero_bit = f.zero_bit }
 
 abbrev pub apart_in : ListedApart → Apart
 apart_in d = record { w = d.w; z = d.z; dc = d.dc; c = d.c; bytes = λ a. among a d.bytes }
 
 abbrev pub note_in : ListedNote → Note
-note_in n = record { facts = facts_in n.facts; apart = apart_in n.apart; carry = n.carry }
+note_in n = record { facts = facts_in n.facts; apart = apart_in n.apart; carry = n.carry; shown = n.shown }
 
 abbrev pub row_in : ListedRow → Row
 row_in (Listed s act n) = At s act (option_map note_in n)
@@ -113,7 +116,7 @@ rows_in [] = []
 rows_in (row ∷ rows) = row_in row ∷ rows_in rows
 
 abbrev pub no_note : ListedNote
-no_note = record { facts = record { number = None; held = []; zero = false; known = []; twins = [] }; apart = record { w = true; z = true; dc = true; c = true; bytes = [] }; carry = None }
+no_note = record { facts = record { number = None; held = []; zero = false; known = []; twins = []; carry_bit = false; zero_bit = false }; apart = record { w = true; z = true; dc = true; c = true; bytes = [] }; carry = None; shown = Unshown }
 
 -- a block that isn't there
 abbrev pub no_block : ListedBlock
@@ -152,9 +155,12 @@ abbrev pub gives_twins : (ℕ → ℕ → Bool) → List KnownByte → Bool
 gives_twins has [] = true
 gives_twins has (b ∷ bs) = has b.byte b.number && gives_twins has bs
 
+abbrev pub gives_bits : Facts → ListedFacts → Bool
+gives_bits f n = (not n.carry_bit || f.carry_bit) && (not n.zero_bit || f.zero_bit)
+
 -- the facts are enough for those that are listed
 abbrev pub gives : Facts → ListedFacts → Bool
-gives f n = gives_number f.number n.number && (all_of f.held n.held && ((not n.zero || f.zero) && (gives_known f.known n.known && gives_twins f.twin n.twins)))
+gives f n = gives_number f.number n.number && (all_of f.held n.held && ((not n.zero || f.zero) && (gives_known f.known n.known && (gives_twins f.twin n.twins && gives_bits f n))))
 
 abbrev pub covers_flags : ListedApart → Apart → Bool
 covers_flags b d = (b.w || not d.w) && ((b.z || not d.z) && ((b.dc || not d.dc) && (b.c || not d.c)))
@@ -168,13 +174,16 @@ abbrev pub same_number : Option ℕ → Option ℕ → Bool
 same_number None carry = true
 same_number (Some a) carry = is_number carry a
 
-abbrev pub expects_by : Option ℕ → Option (Option ListedNote) → Facts → Apart → List ℕ → Bool
-expects_by carry None f d candidates = true
-expects_by carry (Some None) f d candidates = false
-expects_by carry (Some (Some n)) f d candidates = gives f n.facts && (covers_flags n.apart d && (covers_bytes n.apart.bytes d.bytes candidates && same_number n.carry carry))
+abbrev pub claims : ListedNote → Option ℕ → Ties → Bool
+claims n number t = same_number n.carry t.carry && shows n.shown number t.shown
+
+abbrev pub expects_by : Ties → Option (Option ListedNote) → Facts → Apart → List ℕ → Bool
+expects_by ties None f d candidates = true
+expects_by ties (Some None) f d candidates = false
+expects_by ties (Some (Some n)) f d candidates = gives f n.facts && (covers_flags n.apart d && (covers_bytes n.apart.bytes d.bytes candidates && claims n f.number ties))
 
 abbrev pub expects : Option (Option ListedNote) → Facts → Apart → List ℕ → Bool
-expects o f d candidates = expects_by None o f d candidates
+expects o f d candidates = expects_by no_ties o f d candidates
 
 abbrev pub ahead : List ListedRow → Option (Option ListedNote)
 ahead [] = None
@@ -190,21 +199,25 @@ leads rest None f d candidates = expects (ahead rest) f d candidates && (expects
 leads rest (Some false) f d candidates = expects (ahead rest) f d candidates
 leads rest (Some true) f d candidates = expects (ahead (past rest)) f d candidates && keeps_first (rows_in rest)
 
-abbrev pub passes : Option ℕ → List ListedRow → Option Bool → Facts → Apart → List ℕ → Bool
-passes carry rest None f d candidates = expects_by carry (ahead rest) f d candidates && (expects_by carry (ahead (past rest)) f d candidates && drops_first (rows_in rest))
-passes carry rest (Some false) f d candidates = expects_by carry (ahead rest) f d candidates
-passes carry rest (Some true) f d candidates = expects_by carry (ahead (past rest)) f d candidates && drops_first (rows_in rest)
+-- with these ties where it runs on, and with those where it skips
+abbrev pub passes_both : Ties → Ties → List ListedRow → Facts → Apart → List ℕ → Bool
+passes_both on over rest f d candidates = expects_by on (ahead rest) f d candidates && (expects_by over (ahead (past rest)) f d candidates && drops_first (rows_in rest))
+
+abbrev pub passes : Ties → List ListedRow → Option Bool → Facts → Apart → List ℕ → Bool
+passes ties rest None f d candidates = passes_both ties ties rest f d candidates
+passes ties rest (Some false) f d candidates = expects_by ties (ahead rest) f d candidates
+passes ties rest (Some true) f d candidates = expects_by ties (ahead (past rest)) f d candidates && drops_first (rows_in rest)
 
 abbrev pub comes : Option (Option ListedNote) → ListedNote → List ℕ → Bool
 comes None k across = true
 comes (Some None) k across = false
 comes (Some (Some n)) k across =
-    gives (facts_in k.facts) n.facts && (covers_flags n.apart (apart_in k.apart) && (all_of (λ a. among a n.apart.bytes) k.apart.bytes && (all_of (λ a. among a n.apart.bytes) across && same_number n.carry None)))
+    gives (facts_in k.facts) n.facts && (covers_flags n.apart (apart_in k.apart) && (all_of (λ a. among a n.apart.bytes) k.apart.bytes && (all_of (λ a. among a n.apart.bytes) across && claims n None no_ties)))
 
 abbrev pub enters : Option (Option ListedNote) → ListedNote → Bool
 enters None n = true
 enters (Some None) n = false
-enters (Some (Some k)) n = gives (facts_in n.facts) k.facts && (covers_flags k.apart (apart_in n.apart) && same_number k.carry None)
+enters (Some (Some k)) n = gives (facts_in n.facts) k.facts && (covers_flags k.apart (apart_in n.apart) && claims k None no_ties)
 
 -- what is read may not differ
 abbrev pub same : (ℕ → Bool) → Aim → List ℕ → List ℕ → Bool
@@ -257,6 +270,18 @@ module _ (k : Sketch) (block : ListedBlock) (n : ListedNote) where
 
   abbrev pub here_bytes : List ℕ
   here_bytes = n.apart.bytes
+
+  abbrev pub ties : Ties
+  ties = record { carry = n.carry; shown = n.shown }
+
+  abbrev pub ties_but : ℕ → Ties
+  ties_but i = record { carry = right.carry_but i n.carry; shown = n.shown }
+
+  abbrev pub ties_left : Option ℕ → Bool → Ties
+  ties_left carry kept = record { carry = carry; shown = left kept n.shown }
+
+  abbrev pub ties_seen : ℕ → Bool → Ties
+  ties_seen b v = record { carry = n.carry; shown = sees f d b v n.shown }
 
   abbrev pub read : Operand → Aim
   read operand = aim k.layout block.inside false operand
@@ -318,53 +343,53 @@ module _ (k : Sketch) (block : ListedBlock) (n : ListedNote) where
   is_kept rest (syms.SelectPage bit target) = expects (ahead rest) f d here_bytes
 
   abbrev pub drops_carried : List ListedRow → ℕ → ℕ → Bool → Bool
-  drops_carried rest i c true = expects (ahead rest) (moved (ToByte i) f) (record d { w = false; z = true }) here_bytes
-  drops_carried rest i c false = expects_by (Some c) (ahead rest) (moved (ToByte i) f) (one_moves f i d) here_bytes
+  drops_carried rest i c true = expects_by (ties_left None (f.held i)) (ahead rest) (moved (ToByte i) f) (record d { w = false; z = true }) here_bytes
+  drops_carried rest i c false = expects_by (ties_left (Some c) (f.held i)) (ahead rest) (moved (ToByte i) f) (one_moves f i d) here_bytes
 
   abbrev pub drops_move : List ListedRow → ℕ → Option ℕ → Bool
-  drops_move rest i None = expects (ahead rest) (moved (ToByte i) f) (one_moves f i d) here_bytes
+  drops_move rest i None = expects_by (ties_left None (f.held i)) (ahead rest) (moved (ToByte i) f) (one_moves f i d) here_bytes
   drops_move rest i (Some c) = drops_carried rest i c (nat_eq c i)
 
   abbrev pub drops_to_w : List ListedRow → FileOperation → Aim → Bool
   drops_to_w rest files.Movf (ToByte i) = drops_move rest i n.carry
-  drops_to_w rest op (ToByte i) = passes n.carry rest (way_of op (f.known i)) (after_to_w op (ToByte i) f) (one_works op (f.known i) f d) here_bytes
+  drops_to_w rest op (ToByte i) = passes (ties_left n.carry (stays op (f.known i) f)) rest (way_of op (f.known i)) (after_to_w op (ToByte i) f) (same_carry (leaves_carry op (f.known i) n.shown) (one_works op (f.known i) f d)) here_bytes
   drops_to_w rest op a = false
 
   abbrev pub drops_to_file : List ListedRow → FileOperation → Aim → Bool
-  drops_to_file rest op (ToByte i) = passes (right.carry_but i n.carry) rest (way_of op (f.known i)) (after_to_file k.hidden op (ToByte i) f) (one_writes op i f d) (i ∷ here_bytes)
+  drops_to_file rest op (ToByte i) = passes (ties_but i) rest (way_of op (f.known i)) (after_to_file k.hidden op (ToByte i) f) (one_writes op i f d) (i ∷ here_bytes)
   drops_to_file rest op a = false
 
   abbrev pub drops_store : List ListedRow → Aim → Bool
-  drops_store rest (ToByte i) = expects_by (right.carry_but i n.carry) (ahead rest) (stored k.hidden (ToByte i) f) (one_stores f i d) (i ∷ here_bytes)
+  drops_store rest (ToByte i) = expects_by (ties_but i) (ahead rest) (stored k.hidden (ToByte i) f) (one_stores f i d) (i ∷ here_bytes)
   drops_store rest a = false
 
   abbrev pub drops_clear : List ListedRow → Aim → Bool
-  drops_clear rest (ToByte i) = expects_by (right.carry_but i n.carry) (ahead rest) (learned k.hidden (ToByte i) (Some 0) (without_zero f)) (one_clears f i d) (i ∷ here_bytes)
+  drops_clear rest (ToByte i) = expects_by (ties_but i) (ahead rest) (learned k.hidden (ToByte i) (Some 0) (without_zero f)) (one_clears f i d) (i ∷ here_bytes)
   drops_clear rest a = false
 
   abbrev pub drops_change : List ListedRow → Aim → Bool
-  drops_change rest (ToByte i) = expects_by (right.carry_but i n.carry) (ahead rest) (lost k.hidden (ToByte i) f) (other_byte i d) (i ∷ here_bytes)
+  drops_change rest (ToByte i) = expects_by (ties_but i) (ahead rest) (lost k.hidden (ToByte i) f) (other_byte i d) (i ∷ here_bytes)
   drops_change rest a = false
 
   abbrev pub drops_test : List ListedRow → BitOperation → Aim → ℕ → Bool
-  drops_test rest op (ToByte i) b = passes n.carry rest (way_of_bit op (f.known i) b) f d here_bytes
+  drops_test rest op (ToByte i) b = passes ties rest (way_of_bit op (f.known i) b) f d here_bytes
   drops_test rest op a b = false
 
   abbrev pub drops_bit : List ListedRow → BitOperation → Operand → ℕ → Bool
-  drops_bit rest bit_ops.Bcf (operands.Register Status) b = nat_lt b 3 && expects_by n.carry (ahead rest) (without_zero f) (with_flag b true d) here_bytes
-  drops_bit rest bit_ops.Bsf (operands.Register Status) b = nat_lt b 3 && expects_by n.carry (ahead rest) (without_zero f) (with_flag b true d) here_bytes
-  drops_bit rest op (operands.Register Status) b = passes n.carry rest None f d here_bytes
+  drops_bit rest bit_ops.Bcf (operands.Register Status) b = nat_lt b 3 && expects_by ties (ahead rest) (without_zero f) (with_flag b true d) here_bytes
+  drops_bit rest bit_ops.Bsf (operands.Register Status) b = nat_lt b 3 && expects_by ties (ahead rest) (without_zero f) (with_flag b true d) here_bytes
+  drops_bit rest op (operands.Register Status) b = passes_both (ties_seen b (not (right.skips_at op))) (ties_seen b (right.skips_at op)) rest f d here_bytes
   drops_bit rest bit_ops.Bcf operand b = drops_change rest (write operand)
   drops_bit rest bit_ops.Bsf operand b = drops_change rest (write operand)
   drops_bit rest op operand b = drops_test rest op (read operand) b
 
   abbrev pub drops_plain : List ListedRow → PlainOperation → Bool
-  drops_plain rest plains.Clrw = expects_by n.carry (ahead rest) (record f { number = Some 0; held = λ a. false; zero = true }) (record d { w = true; z = true }) here_bytes
-  drops_plain rest plains.Nop = expects_by n.carry (ahead rest) f d here_bytes
+  drops_plain rest plains.Clrw = expects_by (ties_left n.carry false) (ahead rest) (record f { number = Some 0; held = λ a. false; zero = true }) (record d { w = true; z = true }) here_bytes
+  drops_plain rest plains.Nop = expects_by ties (ahead rest) f d here_bytes
   drops_plain rest op = false
 
   abbrev pub drops_goto : ℕ → Target → Bool
-  drops_goto here (targets.Label (labels.Inner l)) = expects_by n.carry (at_label (labels.Inner l)) f d here_bytes && is_here block.rows here (label_from (olds (rows_in block.rows)) (labels.Inner l) 0)
+  drops_goto here (targets.Label (labels.Inner l)) = expects_by ties (at_label (labels.Inner l)) f d here_bytes && is_here block.rows here (label_from (olds (rows_in block.rows)) (labels.Inner l) 0)
   drops_goto here target = false
 
   abbrev pub is_left_out : ℕ → List ListedRow → Sym → Bool
@@ -373,7 +398,7 @@ module _ (k : Sketch) (block : ListedBlock) (n : ListedNote) where
   is_left_out here rest (syms.Movwf operand) = drops_store rest (write operand)
   is_left_out here rest (syms.Clrf operand) = drops_clear rest (write operand)
   is_left_out here rest (syms.Bit op operand b) = drops_bit rest op operand b
-  is_left_out here rest (syms.Literal op value) = not (is_retlw op) && expects_by n.carry (ahead rest) (right.after_literal f op value) (right.dropped_literal f d op value) here_bytes
+  is_left_out here rest (syms.Literal op value) = not (is_retlw op) && expects_by (ties_left n.carry false) (ahead rest) (right.after_literal f op value) (right.dropped_literal f d op value) here_bytes
   is_left_out here rest (syms.Plain op) = drops_plain rest op
   is_left_out here rest (syms.Goto target) = drops_goto here target
   is_left_out here rest s = false
@@ -403,7 +428,7 @@ module _ (k : Sketch) (block : ListedBlock) (n : ListedNote) where
   abbrev pub narrows_for : List ListedRow → FileOperation → Aim → Aim → Bool
   narrows_for rest op (ToByte i) (ToByte j) =
       uses op && (is_same (ToByte i) && (not (may_skip op) && (nat_eq j i
-      && expects_by (Some i) (ahead rest) (lost k.hidden (ToByte i) (without_zero f)) (other_w (other_byte i (both_set (flags_in op) d))) (i ∷ here_bytes))))
+      && expects_by (carries i) (ahead rest) (with_bits (flags_in op) (lost k.hidden (ToByte i) (without_zero f))) (other_w (other_byte i (both_set (flags_in op) d))) (i ∷ here_bytes))))
   narrows_for rest op a b = false
 
   abbrev pub is_narrowed : List ListedRow → Sym → Bool
@@ -427,7 +452,7 @@ module _ (k : Sketch) (block : ListedBlock) (n : ListedNote) where
   abbrev pub reads_to : List ListedRow → FileOperation → Aim → Aim → Aim → Bool
   reads_to rest op (ToByte i) (ToByte h) (ToByte j) =
       uses op && (is_twin n.facts.twins i j && (is_same (ToByte j) && (not (may_skip op) && (nat_eq h i
-      && expects_by (Some i) (ahead rest) (lost k.hidden (ToByte i) (without_zero f)) (other_w (other_byte i (both_set (flags_in op) d))) (i ∷ here_bytes)))))
+      && expects_by (carries i) (ahead rest) (with_bits (flags_in op) (lost k.hidden (ToByte i) (without_zero f))) (other_w (other_byte i (both_set (flags_in op) d))) (i ∷ here_bytes)))))
   reads_to rest op a b c = false
 
   abbrev pub tests_for : List ListedRow → BitOperation → ℕ → Aim → Aim → Bool
@@ -446,6 +471,15 @@ module _ (k : Sketch) (block : ListedBlock) (n : ListedNote) where
   is_read rest before (syms.Label label) = true
   is_read rest before s = false
 
+  abbrev pub tests_zero : List ListedRow → FlagName → Bool → ℕ → Bool
+  tests_zero rest flag turned b = nat_eq b 2 && (f.zero && (shows_zero n.shown flag turned && leads rest None f d here_bytes))
+
+  abbrev pub is_tested : List ListedRow → FlagName → Bool → Sym → Bool
+  is_tested rest flag turned (syms.Bit bit_ops.Btfsc (operands.Register Status) b) = tests_zero rest flag turned b
+  is_tested rest flag turned (syms.Bit bit_ops.Btfss (operands.Register Status) b) = tests_zero rest flag turned b
+  is_tested rest flag turned (syms.Label label) = true
+  is_tested rest flag turned s = false
+
   abbrev pub is_right_row : ℕ → List ListedRow → Act → Sym → Bool
   is_right_row here rest Keeps s = is_kept rest s
   is_right_row here rest Drops s = is_left_out here rest s
@@ -453,6 +487,7 @@ module _ (k : Sketch) (block : ListedBlock) (n : ListedNote) where
   is_right_row here rest Narrows s = is_narrowed rest s
   is_right_row here rest Clears s = is_cleared rest s
   is_right_row here rest (Reads before) s = is_read rest before s
+  is_right_row here rest (Tests flag turned) s = is_tested rest flag turned s
 
 -- ---- notes
 abbrev pub all_known : (ℕ → Bool) → List KnownByte → Bool
@@ -494,7 +529,7 @@ are_right_blocks k (b ∷ bs) = is_right_block k (block_in k.blocks b.name) && a
 abbrev pub begins : List ℕ → Option (Option ListedNote) → Bool
 begins rest None = true
 begins rest (Some None) = false
-begins rest (Some (Some n)) = gives nothing_known n.facts && (all_of (λ a. among a n.apart.bytes) rest && same_number n.carry None)
+begins rest (Some (Some n)) = gives nothing_known n.facts && (all_of (λ a. among a n.apart.bytes) rest && claims n None no_ties)
 
 abbrev pub begins_at : Sketch → Option ℕ → Bool
 begins_at k None = true

@@ -1,6 +1,6 @@
 -- When a certificate is right: what is said before each instruction leads to what is said where it goes, and what is read is the same
 -- on both machines.
-use Rattle.std.specs.Prelude.{◌≡◌, ℕ, suc, Bool, true, false, ◌&&◌, nat_eq, nat_lt, if◌then◌else◌, List, drop, Option, Some, None, slice_get}
+use Rattle.std.specs.Prelude.{◌≡◌, ℕ, suc, Bool, true, false, not, ◌&&◌, nat_eq, nat_lt, if◌then◌else◌, List, drop, Option, Some, None, slice_get}
 use Rattle.sym_code.specs.Layout.{owner}
 use Rattle.sym_code.specs.Programs.{label_from, front, lands}
 use Rattle.sym_code.specs.declared.code.BitOperation.{BitOperation}
@@ -27,27 +27,28 @@ use Rattle.sym_code.specs.declared.code.Sym.TheVariants as syms
 use Rattle.sym_code.specs.declared.code.Target.{Target}
 use Rattle.sym_code.specs.declared.code.Target.TheVariants as targets
 use Rattle.lean_code.specs.Computed.{computed, file_for, way_of, way_of_bit}
-use Rattle.lean_code.specs.Rows.{Facts, Apart, Note, nothing_known, Row, At, Act, Keeps, Drops, Puts, Narrows, Clears, Reads, may_clear, operand_before, olds, place_in, note_ahead, past, drops_first, keeps_first, goes_on, Lean, old_program}
-use Rattle.lean_code.specs.Changes.{Weaker, CoversFlags, Covers, Aim, ToByte, Through, aim, is_own, is_near, lost, without_zero, without_w, moved, after_to_w, number_at, worked, learned, after_to_file, stored, flags_in, uses_w, uses_c, may_skip, literal_flags, literal_uses, is_retlw, literal_for, both_set, one_sets, same_w, other_w, same_byte, other_byte, one_moves, one_stores, is_number, one_works, one_writes, one_clears}
+use Rattle.lean_code.specs.Rows.{Facts, Apart, Note, nothing_known, Row, At, Act, Keeps, Drops, Puts, Narrows, Clears, Reads, Tests, FlagName, may_clear, operand_before, olds, place_in, note_ahead, past, drops_first, keeps_first, goes_on, Lean, old_program}
+use Rattle.lean_code.specs.Changes.{Ties, no_ties, carries, shows, left, sees, shows_zero, leaves_carry, same_carry, stays, with_bits, Weaker, CoversFlags, Covers, Aim, ToByte, Through, aim, is_own, is_near, lost, without_zero, without_w, moved, after_to_w, number_at, worked, learned, after_to_file, stored, flags_in, uses_w, uses_c, may_skip, literal_flags, literal_uses, is_retlw, literal_for, both_set, one_sets, same_w, other_w, same_byte, other_byte, one_moves, one_stores, is_number, one_works, one_writes, one_clears}
 
 -- ---- where the code goes on
 -- With these facts, and this apart, where something stands.
--- no more is said to be carried than is
-abbrev pub Claims : Option ℕ → Option ℕ → Type 0
-Claims said carry = (j : ℕ) → said ≡ Some j → carry ≡ Some j
+-- no more is said to be carried and shown than is, where this is known of W
+pub record Claims (n : Note) (number : Option ℕ) (t : Ties) : Type 0 where
+  pub carry : (j : ℕ) → n.carry ≡ Some j → t.carry ≡ Some j
+  pub shown : shows n.shown number t.shown ≡ true
 
 -- what is carried behind a write of byte k on one machine
 abbrev pub carry_but : ℕ → Option ℕ → Option ℕ
 carry_but k None = None
 carry_but k (Some j) = if nat_eq j k then None else Some j
 
-abbrev pub ExpectsBy : Option ℕ → Option (Option Note) → Facts → Apart → Type 0
-ExpectsBy carry None f d = Unit {0}
-ExpectsBy carry (Some None) f d = ⊥
-ExpectsBy carry (Some (Some n)) f d = Weaker n.facts f × Covers n.apart d × Claims n.carry carry
+abbrev pub ExpectsBy : Ties → Option (Option Note) → Facts → Apart → Type 0
+ExpectsBy ties None f d = Unit {0}
+ExpectsBy ties (Some None) f d = ⊥
+ExpectsBy ties (Some (Some n)) f d = Weaker n.facts f × Covers n.apart d × Claims n f.number ties
 
 abbrev pub Expects : Option (Option Note) → Facts → Apart → Type 0
-Expects o f d = ExpectsBy None o f d
+Expects o f d = ExpectsBy no_ties o f d
 
 -- behind an instruction that both execute, and that may skip the next one
 pub record LeadsBoth (rest : List Row) (f : Facts) (d : Apart) : Type 0 where
@@ -61,28 +62,28 @@ Leads rest None f d = LeadsBoth rest f d
 Leads rest (Some false) f d = Expects (note_ahead rest) f d
 Leads rest (Some true) f d = Expects (note_ahead (past rest)) f d × (keeps_first rest ≡ true)
 
--- behind one that is left out
-pub record PassesBoth (carry : Option ℕ) (rest : List Row) (f : Facts) (d : Apart) : Type 0 where
-  pub runs : ExpectsBy carry (note_ahead rest) f d
-  pub skips : ExpectsBy carry (note_ahead (past rest)) f d
+-- behind one that is left out: with these ties where it runs on, and with those where it skips
+pub record PassesBoth (on over : Ties) (rest : List Row) (f : Facts) (d : Apart) : Type 0 where
+  pub runs : ExpectsBy on (note_ahead rest) f d
+  pub skips : ExpectsBy over (note_ahead (past rest)) f d
   pub drops : drops_first rest ≡ true
 
-abbrev pub Passes : Option ℕ → List Row → Option Bool → Facts → Apart → Type 0
-Passes carry rest None f d = PassesBoth carry rest f d
-Passes carry rest (Some false) f d = ExpectsBy carry (note_ahead rest) f d
-Passes carry rest (Some true) f d = ExpectsBy carry (note_ahead (past rest)) f d × (drops_first rest ≡ true)
+abbrev pub Passes : Ties → List Row → Option Bool → Facts → Apart → Type 0
+Passes ties rest None f d = PassesBoth ties ties rest f d
+Passes ties rest (Some false) f d = ExpectsBy ties (note_ahead rest) f d
+Passes ties rest (Some true) f d = ExpectsBy ties (note_ahead (past rest)) f d × (drops_first rest ≡ true)
 
 -- behind a call that leaves k, where these bytes may differ meanwhile
 abbrev pub Comes : Option (Option Note) → Note → (ℕ → Bool) → Type 0
 Comes None k across = Unit {0}
 Comes (Some None) k across = ⊥
-Comes (Some (Some n)) k across = Weaker n.facts k.facts × CoversFlags n.apart k.apart × Claims n.carry None × ((a : ℕ) → n.apart.bytes a ≡ false → (k.apart.bytes a ≡ false) × (across a ≡ false))
+Comes (Some (Some n)) k across = Weaker n.facts k.facts × CoversFlags n.apart k.apart × Claims n None no_ties × ((a : ℕ) → n.apart.bytes a ≡ false → (k.apart.bytes a ≡ false) × (across a ≡ false))
 
 -- at the front of what is called; none of the caller's bytes are read there
 abbrev pub Enters : Option (Option Note) → Note → Type 0
 Enters None n = Unit {0}
 Enters (Some None) n = ⊥
-Enters (Some (Some k)) n = Weaker k.facts n.facts × CoversFlags k.apart n.apart × Claims k.carry None
+Enters (Some (Some k)) n = Weaker k.facts n.facts × CoversFlags k.apart n.apart × Claims k None no_ties
 
 -- at an index, if there is one
 abbrev pub noted : List Row → Option ℕ → Option (Option Note)
@@ -128,12 +129,32 @@ abbrev pub literal_apart : Facts → Apart → FileOperation → ℕ → Apart
 literal_apart f d files.Movf k = record d { w = false; z = if f.held k && f.zero then d.z else true }
 literal_apart f d op k = same_w (both_set (flags_in op) d)
 
+-- where a test skips, the bit is this
+abbrev pub skips_at : BitOperation → Bool
+skips_at bit_ops.Btfss = true
+skips_at op = false
+
 module _ (x : Lean) (own : BlockName) (inside : Bool) (n : Note) where
   abbrev pub f : Facts
   f = n.facts
 
   abbrev pub d : Apart
   d = n.apart
+
+  abbrev pub ties : Ties
+  ties = record { carry = n.carry; shown = n.shown }
+
+  -- behind a write of byte k on one machine
+  abbrev pub ties_but : ℕ → Ties
+  ties_but k = record { carry = carry_but k n.carry; shown = n.shown }
+
+  -- where W stays on one machine, or not
+  abbrev pub ties_left : Option ℕ → Bool → Ties
+  ties_left carry kept = record { carry = carry; shown = left kept n.shown }
+
+  -- where a flag is seen to be this
+  abbrev pub ties_seen : ℕ → Bool → Ties
+  ties_seen b v = record { carry = n.carry; shown = sees f d b v n.shown }
 
   abbrev pub read : Operand → Aim
   read operand = aim x.layout inside false operand
@@ -198,55 +219,55 @@ module _ (x : Lean) (own : BlockName) (inside : Bool) (n : Note) where
   -- ---- only the given code has it
   -- W may be on the other machine already what is read
   abbrev pub DropsCarried : List Row → ℕ → ℕ → Bool → Type 0
-  DropsCarried rest k c true = Expects (note_ahead rest) (moved (ToByte k) f) (record d { w = false; z = true })
-  DropsCarried rest k c false = ExpectsBy (Some c) (note_ahead rest) (moved (ToByte k) f) (one_moves f k d)
+  DropsCarried rest k c true = ExpectsBy (ties_left None (f.held k)) (note_ahead rest) (moved (ToByte k) f) (record d { w = false; z = true })
+  DropsCarried rest k c false = ExpectsBy (ties_left (Some c) (f.held k)) (note_ahead rest) (moved (ToByte k) f) (one_moves f k d)
 
   abbrev pub DropsMove : List Row → ℕ → Option ℕ → Type 0
-  DropsMove rest k None = Expects (note_ahead rest) (moved (ToByte k) f) (one_moves f k d)
+  DropsMove rest k None = ExpectsBy (ties_left None (f.held k)) (note_ahead rest) (moved (ToByte k) f) (one_moves f k d)
   DropsMove rest k (Some c) = DropsCarried rest k c (nat_eq c k)
 
   abbrev pub DropsToW : List Row → FileOperation → Aim → Type 0
   DropsToW rest files.Movf (ToByte k) = DropsMove rest k n.carry
-  DropsToW rest op (ToByte k) = Passes n.carry rest (way_of op (f.known k)) (after_to_w op (ToByte k) f) (one_works op (f.known k) f d)
+  DropsToW rest op (ToByte k) = Passes (ties_left n.carry (stays op (f.known k) f)) rest (way_of op (f.known k)) (after_to_w op (ToByte k) f) (same_carry (leaves_carry op (f.known k) n.shown) (one_works op (f.known k) f d))
   DropsToW rest op aim = ⊥
 
   abbrev pub DropsToFile : List Row → FileOperation → Aim → Type 0
-  DropsToFile rest op (ToByte k) = Passes (carry_but k n.carry) rest (way_of op (f.known k)) (after_to_file x.hidden op (ToByte k) f) (one_writes op k f d)
+  DropsToFile rest op (ToByte k) = Passes (ties_but k) rest (way_of op (f.known k)) (after_to_file x.hidden op (ToByte k) f) (one_writes op k f d)
   DropsToFile rest op aim = ⊥
 
   abbrev pub DropsStore : List Row → Aim → Type 0
-  DropsStore rest (ToByte k) = ExpectsBy (carry_but k n.carry) (note_ahead rest) (stored x.hidden (ToByte k) f) (one_stores f k d)
+  DropsStore rest (ToByte k) = ExpectsBy (ties_but k) (note_ahead rest) (stored x.hidden (ToByte k) f) (one_stores f k d)
   DropsStore rest aim = ⊥
 
   abbrev pub DropsClear : List Row → Aim → Type 0
-  DropsClear rest (ToByte k) = ExpectsBy (carry_but k n.carry) (note_ahead rest) (learned x.hidden (ToByte k) (Some 0) (without_zero f)) (one_clears f k d)
+  DropsClear rest (ToByte k) = ExpectsBy (ties_but k) (note_ahead rest) (learned x.hidden (ToByte k) (Some 0) (without_zero f)) (one_clears f k d)
   DropsClear rest aim = ⊥
 
   abbrev pub DropsChange : List Row → Aim → Type 0
-  DropsChange rest (ToByte k) = ExpectsBy (carry_but k n.carry) (note_ahead rest) (lost x.hidden (ToByte k) f) (other_byte k d)
+  DropsChange rest (ToByte k) = ExpectsBy (ties_but k) (note_ahead rest) (lost x.hidden (ToByte k) f) (other_byte k d)
   DropsChange rest aim = ⊥
 
   abbrev pub DropsTest : List Row → BitOperation → Aim → ℕ → Type 0
-  DropsTest rest op (ToByte k) b = Passes n.carry rest (way_of_bit op (f.known k) b) f d
+  DropsTest rest op (ToByte k) b = Passes ties rest (way_of_bit op (f.known k) b) f d
   DropsTest rest op aim b = ⊥
 
   abbrev pub DropsBit : List Row → BitOperation → Operand → ℕ → Type 0
-  DropsBit rest bit_ops.Bcf (operands.Register Status) b = (nat_lt b 3 ≡ true) × ExpectsBy n.carry (note_ahead rest) (without_zero f) (with_flag b true d)
-  DropsBit rest bit_ops.Bsf (operands.Register Status) b = (nat_lt b 3 ≡ true) × ExpectsBy n.carry (note_ahead rest) (without_zero f) (with_flag b true d)
-  DropsBit rest op (operands.Register Status) b = Passes n.carry rest None f d
+  DropsBit rest bit_ops.Bcf (operands.Register Status) b = (nat_lt b 3 ≡ true) × ExpectsBy ties (note_ahead rest) (without_zero f) (with_flag b true d)
+  DropsBit rest bit_ops.Bsf (operands.Register Status) b = (nat_lt b 3 ≡ true) × ExpectsBy ties (note_ahead rest) (without_zero f) (with_flag b true d)
+  DropsBit rest op (operands.Register Status) b = PassesBoth (ties_seen b (not (skips_at op))) (ties_seen b (skips_at op)) rest f d
   DropsBit rest bit_ops.Bcf operand b = DropsChange rest (write operand)
   DropsBit rest bit_ops.Bsf operand b = DropsChange rest (write operand)
   DropsBit rest op operand b = DropsTest rest op (read operand) b
 
   abbrev pub DropsPlain : List Row → PlainOperation → Type 0
-  DropsPlain rest plains.Clrw = ExpectsBy n.carry (note_ahead rest) (record f { number = Some 0; held = λ a. false; zero = true }) (record d { w = true; z = true })
-  DropsPlain rest plains.Nop = ExpectsBy n.carry (note_ahead rest) f d
+  DropsPlain rest plains.Clrw = ExpectsBy (ties_left n.carry false) (note_ahead rest) (record f { number = Some 0; held = λ a. false; zero = true }) (record d { w = true; z = true })
+  DropsPlain rest plains.Nop = ExpectsBy ties (note_ahead rest) f d
   DropsPlain rest op = ⊥
 
   -- A jump goes where the code that is made stands already; here is that place.
   abbrev pub DropsGoto : ℕ → Target → Type 0
   DropsGoto here (targets.Label (labels.Inner k)) =
-      ExpectsBy n.carry (at_label (labels.Inner k)) f d × ((i : ℕ) → label_from (olds (x.rows own)) (labels.Inner k) 0 ≡ Some i → place_in (x.rows own) i ≡ here)
+      ExpectsBy ties (at_label (labels.Inner k)) f d × ((i : ℕ) → label_from (olds (x.rows own)) (labels.Inner k) 0 ≡ Some i → place_in (x.rows own) i ≡ here)
   DropsGoto here target = ⊥
 
   abbrev pub IsDropped : ℕ → List Row → Sym → Type 0
@@ -255,7 +276,7 @@ module _ (x : Lean) (own : BlockName) (inside : Bool) (n : Note) where
   IsDropped here rest (syms.Movwf operand) = DropsStore rest (write operand)
   IsDropped here rest (syms.Clrf operand) = DropsClear rest (write operand)
   IsDropped here rest (syms.Bit op operand b) = DropsBit rest op operand b
-  IsDropped here rest (syms.Literal op value) = (is_retlw op ≡ false) × ExpectsBy n.carry (note_ahead rest) (after_literal f op value) (dropped_literal f d op value)
+  IsDropped here rest (syms.Literal op value) = (is_retlw op ≡ false) × ExpectsBy (ties_left n.carry false) (note_ahead rest) (after_literal f op value) (dropped_literal f d op value)
   IsDropped here rest (syms.Plain op) = DropsPlain rest op
   IsDropped here rest (syms.Goto target) = DropsGoto here target
   IsDropped here rest s = ⊥
@@ -285,7 +306,7 @@ module _ (x : Lean) (own : BlockName) (inside : Bool) (n : Note) where
   -- ---- a result that goes to W in place of its byte
   abbrev pub NarrowsFor : List Row → FileOperation → Aim → Aim → Type 0
   NarrowsFor rest op (ToByte k) (ToByte j) =
-      Uses op × IsSame (ToByte k) × (may_skip op ≡ false) × (j ≡ k) × ExpectsBy (Some k) (note_ahead rest) (lost x.hidden (ToByte k) (without_zero f)) (other_w (other_byte k (both_set (flags_in op) d)))
+      Uses op × IsSame (ToByte k) × (may_skip op ≡ false) × (j ≡ k) × ExpectsBy (carries k) (note_ahead rest) (with_bits (flags_in op) (lost x.hidden (ToByte k) (without_zero f))) (other_w (other_byte k (both_set (flags_in op) d)))
   NarrowsFor rest op a b = ⊥
 
   abbrev pub IsNarrowed : List Row → Sym → Type 0
@@ -311,7 +332,7 @@ module _ (x : Lean) (own : BlockName) (inside : Bool) (n : Note) where
   -- the result would go to the operand's byte
   abbrev pub ReadsTo : List Row → FileOperation → Aim → Aim → Aim → Type 0
   ReadsTo rest op (ToByte k) (ToByte j) (ToByte i) =
-      Uses op × (f.twin k i ≡ true) × IsSame (ToByte i) × (may_skip op ≡ false) × (j ≡ k) × ExpectsBy (Some k) (note_ahead rest) (lost x.hidden (ToByte k) (without_zero f)) (other_w (other_byte k (both_set (flags_in op) d)))
+      Uses op × (f.twin k i ≡ true) × IsSame (ToByte i) × (may_skip op ≡ false) × (j ≡ k) × ExpectsBy (carries k) (note_ahead rest) (with_bits (flags_in op) (lost x.hidden (ToByte k) (without_zero f))) (other_w (other_byte k (both_set (flags_in op) d)))
   ReadsTo rest op a b c = ⊥
 
   abbrev pub TestsFor : List Row → BitOperation → ℕ → Aim → Aim → Type 0
@@ -330,6 +351,16 @@ module _ (x : Lean) (own : BlockName) (inside : Bool) (n : Note) where
   IsRead rest before (syms.Label label) = Unit {0}
   IsRead rest before s = ⊥
 
+  -- ---- a flag that is tested in the place of Z
+  abbrev pub TestsZero : List Row → FlagName → Bool → ℕ → Type 0
+  TestsZero rest flag turned b = (nat_eq b 2 ≡ true) × (f.zero ≡ true) × (shows_zero n.shown flag turned ≡ true) × Leads rest None f d
+
+  abbrev pub IsTested : List Row → FlagName → Bool → Sym → Type 0
+  IsTested rest flag turned (syms.Bit bit_ops.Btfsc (operands.Register Status) b) = TestsZero rest flag turned b
+  IsTested rest flag turned (syms.Bit bit_ops.Btfss (operands.Register Status) b) = TestsZero rest flag turned b
+  IsTested rest flag turned (syms.Label label) = Unit {0}
+  IsTested rest flag turned s = ⊥
+
   abbrev pub IsRight : ℕ → List Row → Act → Sym → Type 0
   IsRight here rest Keeps s = IsKept rest s
   IsRight here rest Drops s = IsDropped here rest s
@@ -337,6 +368,7 @@ module _ (x : Lean) (own : BlockName) (inside : Bool) (n : Note) where
   IsRight here rest Narrows s = IsNarrowed rest s
   IsRight here rest Clears s = IsCleared rest s
   IsRight here rest (Reads before) s = IsRead rest before s
+  IsRight here rest (Tests flag turned) s = IsTested rest flag turned s
 
 -- facts are of bytes that the other thread can't change, and what may differ is the thread's own
 pub record IsNote (x : Lean) (inside : Bool) (n : Note) : Type 0 where
@@ -356,7 +388,7 @@ pub record IsRightAt (x : Lean) (own : BlockName) (j : ℕ) (s : Sym) (act : Act
 abbrev pub Begins : (ℕ → Bool) → Option (Option Note) → Type 0
 Begins rest None = Unit {0}
 Begins rest (Some None) = ⊥
-Begins rest (Some (Some n)) = Weaker n.facts nothing_known × Claims n.carry None × ((a : ℕ) → n.apart.bytes a ≡ false → rest a ≡ false)
+Begins rest (Some (Some n)) = Weaker n.facts nothing_known × Claims n None no_ties × ((a : ℕ) → n.apart.bytes a ≡ false → rest a ≡ false)
 
 abbrev pub BeginsAt : Lean → Option ℕ → Type 0
 BeginsAt x None = Unit {0}

@@ -6,12 +6,15 @@ use Rattle.core_code.specs.declared.code.Byte.TheVariants as bytes
 use Rattle.sym_code.specs.Effect.{Setting}
 use Rattle.sym_code.specs.Layout.{DataLayout}
 use Rattle.sym_code.specs.Programs.{Program, labels_in_front}
+use Rattle.sym_code.specs.declared.code.BitOperation.{BitOperation}
+use Rattle.sym_code.specs.declared.code.BitOperation.TheVariants as bit_ops
 use Rattle.sym_code.specs.declared.code.BlockName.{BlockName}
 use Rattle.sym_code.specs.declared.code.Into.TheVariants as into
 use Rattle.sym_code.specs.declared.code.Literal.TheVariants.{Number}
 use Rattle.sym_code.specs.declared.code.LiteralOperation.{LiteralOperation}
 use Rattle.sym_code.specs.declared.code.Operand.{Operand}
 use Rattle.sym_code.specs.declared.code.Operand.TheVariants as operands
+use Rattle.sym_code.specs.declared.code.Register.TheVariants.{Status}
 use Rattle.sym_code.specs.declared.code.Sym.{Sym}
 use Rattle.sym_code.specs.declared.code.Sym.TheVariants as syms
 
@@ -28,6 +31,10 @@ pub record Facts : Type 0 where
   pub known : ℕ → Option ℕ
   -- the first general byte holds what the second one does, of which it is a copy
   pub twin : ℕ → ℕ → Bool
+  -- C is 0 or 1
+  pub carry_bit : Bool
+  -- so is Z
+  pub zero_bit : Bool
 
 -- What may differ between the two machines: W, the flags, general bytes.
 pub record Apart : Type 0 where
@@ -37,14 +44,28 @@ pub record Apart : Type 0 where
   pub c : Bool
   pub bytes : ℕ → Bool
 
+-- a flag that a comparison leaves
+pub data FlagName : Type 0 where
+  Carry : FlagName
+  Zero : FlagName
+
+-- What a flag of the machine that runs the code that is made tells.
+pub data Shown : Type 0 where
+  Unshown : Shown
+  -- it is set, or it isn't
+  Sees : FlagName → Bool → Shown
+  -- W of the other machine is the first number where it is set, and else the second one
+  Chooses : FlagName → ℕ → ℕ → Shown
+
 pub record Note : Type 0 where
   pub facts : Facts
   pub apart : Apart
   -- W of the machine that runs the code that is made is what this byte holds for the other one
   pub carry : Option ℕ
+  pub shown : Shown
 
 abbrev pub nothing_known : Facts
-nothing_known = record { number = None; held = λ a. false; zero = false; known = λ a. None; twin = λ a b. false }
+nothing_known = record { number = None; held = λ a. false; zero = false; known = λ a. None; twin = λ a b. false; carry_bit = false; zero_bit = false }
 
 -- ---- rows
 -- what becomes of an instruction
@@ -59,6 +80,8 @@ pub data Act : Type 0 where
   Clears : Act
   -- another byte of its frame is read, so many bytes before its own, and the result goes to W
   Reads : ℕ → Act
+  -- a flag is tested in the place of Z, or its opposite
+  Tests : FlagName → Bool → Act
 
 -- an instruction of the given code, and what is known before it; none where nothing comes there
 pub data Row : Type 0 where
@@ -114,6 +137,21 @@ reads_before n (syms.File op operand to) = syms.File op (operand_before n operan
 reads_before n (syms.Bit op operand bit) = syms.Bit op (operand_before n operand) bit
 reads_before n s = s
 
+abbrev pub bit_of : FlagName → ℕ
+bit_of Carry = 0
+bit_of Zero = 2
+
+-- the opposite test
+abbrev pub turned_by : Bool → BitOperation → BitOperation
+turned_by true bit_ops.Btfsc = bit_ops.Btfss
+turned_by true bit_ops.Btfss = bit_ops.Btfsc
+turned_by turned op = op
+
+-- a test of that flag
+abbrev pub tests_flag : FlagName → Bool → Sym → Sym
+tests_flag flag turned (syms.Bit op operand bit) = syms.Bit (turned_by turned op) (operands.Register Status) (bit_of flag)
+tests_flag flag turned s = s
+
 -- a label always stays
 abbrev pub put_of : Sym → Act → Option Sym
 put_of (syms.Label label) act = Some (syms.Label label)
@@ -123,6 +161,7 @@ put_of s (Puts op n) = Some (syms.Literal op (Number n))
 put_of s Narrows = Some (narrowed s)
 put_of s Clears = Some (cleared s)
 put_of s (Reads n) = Some (reads_before n s)
+put_of s (Tests flag turned) = Some (tests_flag flag turned s)
 
 abbrev pub in_front : Option Sym → List Sym → List Sym
 in_front None list = list

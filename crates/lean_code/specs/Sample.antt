@@ -14,12 +14,12 @@ use Rattle.sym_code.specs.declared.code.Register.TheVariants.{Status}
 use Rattle.sym_code.specs.declared.code.Sym.{Sym}
 use Rattle.sym_code.specs.declared.code.Sym.TheVariants as syms
 use Rattle.sym_code.specs.declared.code.Target.TheVariants as targets
-use Rattle.lean_code.specs.Rows.{Keeps, Drops, Puts, Narrows, puts}
+use Rattle.lean_code.specs.Rows.{Keeps, Drops, Puts, Narrows, Unshown, puts}
 use Rattle.lean_code.specs.Checked.{KnownByte, ListedNote, ListedRow, Listed, Sketch, rows_in, is_lean}
 
 abbrev said : Option ℕ → List ℕ → Bool → List KnownByte → Bool → Bool → Bool → Bool → List ℕ → Option ℕ → ListedNote
 said number held zero known w z dc c bytes carry =
-    record { facts = record { number = number; held = held; zero = zero; known = known; twins = [] }; apart = record { w = w; z = z; dc = dc; c = c; bytes = bytes }; carry = carry }
+    record { facts = record { number = number; held = held; zero = zero; known = known; twins = []; carry_bit = false; zero_bit = false }; apart = record { w = w; z = z; dc = dc; c = c; bytes = bytes }; carry = carry; shown = Unshown }
 
 abbrev pub sample_rows : List ListedRow
 sample_rows =

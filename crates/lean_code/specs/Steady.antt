@@ -7,7 +7,7 @@ use Rattle.sym_code.specs.declared.code.Sym.{Sym}
 use Rattle.sym_code.specs.declared.code.Sym.TheVariants as syms
 use Rattle.lean_code.specs.Changes.{may_skip, is_retlw}
 use Rattle.lean_code.specs.Checked.{ListedBlock, rows_in}
-use Rattle.lean_code.specs.Rows.{Act, Keeps, Drops, Puts, Reads, Row, At, old_of, is_label, is_dropped}
+use Rattle.lean_code.specs.Rows.{Act, Keeps, Drops, Puts, Reads, Tests, Row, At, old_of, is_label, is_dropped}
 
 -- ---- skips
 abbrev pub tests_bit : BitOperation → Bool
@@ -54,6 +54,7 @@ is_steady_skip Keeps rest = next_stays rest
 is_steady_skip Drops rest = next_goes rest || next_leads_on rest
 is_steady_skip (Puts op n) rest = not (is_retlw op) && next_leads_on rest
 is_steady_skip (Reads n) rest = next_stays rest
+is_steady_skip (Tests flag turned) rest = next_stays rest
 is_steady_skip act rest = false
 
 abbrev pub is_steady_row : Sym → Act → List Row → Bool

@@ -4,7 +4,7 @@ use Rattle.sym_code.specs.declared.code.Sym.{Sym}
 use Rattle.sym_code.specs.declared.code.Sym.TheVariants as syms
 use Rattle.lean_code.specs.Checked.{row_in, rows_in}
 use Rattle.lean_code.specs.Admissible.{is_admissible_row, are_admissible_rows, becomes_word, ends_by_word}
-use Rattle.lean_code.specs.Rows.{Act, Keeps, Drops, Puts, Narrows, Clears, Reads, At, narrowed, cleared, reads_before, old_of, is_label, is_none, is_dropped, put_by, in_front, puts}
+use Rattle.lean_code.specs.Rows.{Act, Keeps, Drops, Puts, Narrows, Clears, Reads, Tests, FlagName, At, narrowed, cleared, reads_before, tests_flag, old_of, is_label, is_none, is_dropped, put_by, in_front, puts}
 use Rattle.lean_code.specs.Rows as certified
 use Rattle.lean_pass.specs.Tests.{ends_behind}
 use Rattle.lean_pass.specs.Views.{row_of, rows_of}
@@ -43,6 +43,11 @@ read_word n (syms.Bit op operand bit) = refl
 read_word n (syms.Label label) = refl
 read_word n s = refl
 
+test_word : (flag : FlagName) (turned : Bool) (s : Sym) → becomes_word (tests_flag flag turned s) ≡ not (is_label s)
+test_word flag turned (syms.Bit op operand bit) = refl
+test_word flag turned (syms.Label label) = refl
+test_word flag turned s = refl
+
 -- one row more
 word_behind : (last : Bool) (row : certified.Row) (list : List Sym) → ends_by_word last (in_front (put_by row) list) ≡ ends_by_word (if is_dropped row then last else not (is_label (old_of row))) list
 word_behind last (At (syms.Label label) act said) list = refl
@@ -52,6 +57,7 @@ word_behind last (At s (Puts op n) said) list = refl
 word_behind last (At s Narrows said) list = ap (λ (b : Bool). ends_by_word b list) (narrow_word s)
 word_behind last (At s Clears said) list = ap (λ (b : Bool). ends_by_word b list) (cleared_word s)
 word_behind last (At s (Reads n) said) list = ap (λ (b : Bool). ends_by_word b list) (read_word n s)
+word_behind last (At s (Tests flag turned) said) list = ap (λ (b : Bool). ends_by_word b list) (test_word flag turned s)
 
 pub ends_on : (whole last next : Bool) (left rest : List Row) (row : Row) → left ≡ row ∷ rest → next ≡ ends_behind last (row_of row) → ends_by_word last (made left) ≡ whole → ends_by_word next (made rest) ≡ whole
 ends_on whole last next left rest row is so e =

@@ -23,18 +23,21 @@ out_by (syms.Label label) (acts.Puts op value) = refl
 out_by (syms.Label label) acts.Narrows = refl
 out_by (syms.Label label) acts.Clears = refl
 out_by (syms.Label label) (acts.Reads before) = refl
+out_by (syms.Label label) (acts.Tests flag turned) = refl
 out_by (syms.File op operand to) acts.Keeps = refl
 out_by (syms.File op operand to) acts.Drops = refl
 out_by (syms.File op operand to) (acts.Puts new value) = refl
 out_by (syms.File op operand to) acts.Narrows = refl
 out_by (syms.File op operand to) acts.Clears = refl
 out_by (syms.File op operand to) (acts.Reads before) = refl
+out_by (syms.File op operand to) (acts.Tests flag turned) = refl
 out_by s acts.Keeps = refl
 out_by s acts.Drops = refl
 out_by s (acts.Puts op value) = refl
 out_by s acts.Narrows = refl
 out_by s acts.Clears = refl
 out_by s (acts.Reads before) = refl
+out_by s (acts.Tests flag turned) = refl
 
 pub out_is : (row : Row) → certified.is_dropped (listed.row_in (row_of row)) ≡ stays_out row.sym row.act
 out_is row = out_by row.sym row.act

@@ -15,8 +15,9 @@ use Rattle.sym_code.specs.declared.code.Register.TheVariants.{Indf, Status, Fsr,
 use Rattle.sym_code.specs.declared.code.Sym.TheVariants as syms
 use Rattle.sym_code.specs.declared.code.Target.TheVariants as targets
 use Rattle.lean_code.specs.Changes.{Aim, ToFsr, ToEvent, ToByte, Through, Nowhere}
-use Rattle.lean_code.specs.Checked.{ListedBlock, ListedNote, ListedRow, Sketch, block_in, keeps_bit, keeps_call, drops_bit, drops_to_w, is_left_out, narrows_for, same_operation, puts_same, puts_number, puts_byte}
-use Rattle.lean_pass.specs.Rules.{is_move, aim_byte, calls, keeps_bit_by, drops_bit_by, drops_file, on_byte, on_bytes}
+use Rattle.lean_code.specs.Checked.{ListedBlock, ListedNote, ListedRow, Sketch, block_in, keeps_bit, keeps_call, drops_bit, drops_to_w, is_left_out, is_tested, narrows_for, same_operation, puts_same, puts_number, puts_byte}
+use Rattle.lean_code.specs.Rows.{FlagName}
+use Rattle.lean_pass.specs.Rules.{is_move, aim_byte, calls, keeps_bit_by, drops_bit_by, drops_file, tests_bit, on_byte, on_bytes}
 
 module _ (k : Sketch) (block : ListedBlock) (n : ListedNote) where
   pub keeps_bit_is : (rest : List ListedRow) (op : BitOperation) (operand : Operand) (b : ℕ) → keeps_bit k block n rest op operand b ≡ keeps_bit_by k block n rest op operand b
@@ -248,3 +249,29 @@ module _ (k : Sketch) (block : ListedBlock) (n : ListedNote) where
 
   pub call_is : (rest : List ListedRow) (name : BlockName) (callee : ListedBlock) → callee ≡ block_in k.blocks name → calls k block n rest callee ≡ keeps_call k block n rest (targets.Block name)
   call_is rest name callee is = ap (calls k block n rest) is
+
+  pub tested_is : (rest : List ListedRow) (flag : FlagName) (turned : Bool) (op : BitOperation) (operand : Operand) (b : ℕ) → is_tested k block n rest flag turned (syms.Bit op operand b) ≡ tests_bit k block n rest flag turned op operand b
+  tested_is rest flag turned bit_ops.Bcf (operands.Register Status) b = refl
+  tested_is rest flag turned bit_ops.Bcf (operands.Register Indf) b = refl
+  tested_is rest flag turned bit_ops.Bcf (operands.Register Fsr) b = refl
+  tested_is rest flag turned bit_ops.Bcf (operands.Register Pclath) b = refl
+  tested_is rest flag turned bit_ops.Bcf (operands.Byte byte) b = refl
+  tested_is rest flag turned bit_ops.Bcf (operands.Saved cell) b = refl
+  tested_is rest flag turned bit_ops.Bsf (operands.Register Status) b = refl
+  tested_is rest flag turned bit_ops.Bsf (operands.Register Indf) b = refl
+  tested_is rest flag turned bit_ops.Bsf (operands.Register Fsr) b = refl
+  tested_is rest flag turned bit_ops.Bsf (operands.Register Pclath) b = refl
+  tested_is rest flag turned bit_ops.Bsf (operands.Byte byte) b = refl
+  tested_is rest flag turned bit_ops.Bsf (operands.Saved cell) b = refl
+  tested_is rest flag turned bit_ops.Btfsc (operands.Register Status) b = refl
+  tested_is rest flag turned bit_ops.Btfsc (operands.Register Indf) b = refl
+  tested_is rest flag turned bit_ops.Btfsc (operands.Register Fsr) b = refl
+  tested_is rest flag turned bit_ops.Btfsc (operands.Register Pclath) b = refl
+  tested_is rest flag turned bit_ops.Btfsc (operands.Byte byte) b = refl
+  tested_is rest flag turned bit_ops.Btfsc (operands.Saved cell) b = refl
+  tested_is rest flag turned bit_ops.Btfss (operands.Register Status) b = refl
+  tested_is rest flag turned bit_ops.Btfss (operands.Register Indf) b = refl
+  tested_is rest flag turned bit_ops.Btfss (operands.Register Fsr) b = refl
+  tested_is rest flag turned bit_ops.Btfss (operands.Register Pclath) b = refl
+  tested_is rest flag turned bit_ops.Btfss (operands.Byte byte) b = refl
+  tested_is rest flag turned bit_ops.Btfss (operands.Saved cell) b = refl

@@ -25,6 +25,7 @@ use Rattle.lean_pass.specs.Tests.{has_none}
 use Rattle.lean_pass.specs.Views.{act_of, row_of, rows_of, block_of, blocks_of, sketch_of, trues}
 use Rattle.lean_pass.specs.declared.rows.Act.{Act}
 use Rattle.lean_pass.specs.declared.rows.Act.TheVariants as acts
+use Rattle.lean_pass.specs.declared.rows.FlagName.TheVariants as flags
 use Rattle.lean_pass.specs.declared.rows.LeanBlock.{LeanBlock}
 use Rattle.lean_pass.specs.declared.rows.Row.{Row}
 use Rattle.lean_pass.specs.declared.rows.Sketch.{Sketch}
@@ -63,12 +64,14 @@ put_as (syms.Label label) (acts.Puts op value) = refl
 put_as (syms.Label label) acts.Narrows = refl
 put_as (syms.Label label) acts.Clears = refl
 put_as (syms.Label label) (acts.Reads before) = refl
+put_as (syms.Label label) (acts.Tests flag turned) = refl
 put_as s acts.Keeps = refl
 put_as s acts.Drops = refl
 put_as s (acts.Puts op value) = refl
 put_as s acts.Narrows = refl
 put_as s acts.Clears = refl
 put_as s (acts.Reads before) = refl
+put_as s (acts.Tests flag turned) = refl
 
 abbrev formed_if : Option Sym → Bool
 formed_if None = true
@@ -82,6 +85,9 @@ formed_by s (acts.Puts op value) e = refl
 formed_by s acts.Narrows e = e
 formed_by s acts.Clears e = e
 formed_by s (acts.Reads before) e = e
+formed_by (syms.Bit op operand bit) (acts.Tests flags.Carry turned) e = refl
+formed_by (syms.Bit op operand bit) (acts.Tests flags.Zero turned) e = refl
+formed_by s (acts.Tests flag turned) e = e
 
 pub put_formed : (s new : Sym) (act : Act) → is_well_formed s ≡ true → Some new ≡ put_of s act → is_well_formed new ≡ true
 put_formed s new act formed is = ap formed_if is ∙ formed_by s act formed

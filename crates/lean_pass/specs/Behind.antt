@@ -63,7 +63,11 @@ twins_by hidden f twins.Nothing = λ a b. false
 twins_by hidden f (twins.Stored k) = changes.twin_stored k f
 
 abbrev pub facts_by : (ℕ → Bool) → Facts → Behind → Facts
-facts_by hidden f b = record { number = b.number; held = held_by hidden f b.held; zero = b.zero; known = known_by hidden f b.known; twin = twins_by hidden f b.twins }
+facts_by hidden f b = record { number = b.number; held = held_by hidden f b.held; zero = b.zero; known = known_by hidden f b.known; twin = twins_by hidden f b.twins; carry_bit = b.carry_bit; zero_bit = b.zero_bit }
+
+-- flags are written, which are bits then
+abbrev pub with_bits : changes.Flags → Behind → Behind
+with_bits g b = record b { carry_bit = g.c || b.carry_bit; zero_bit = g.z || b.zero_bit }
 
 -- ---- what may differ
 abbrev pub flags_of : Flags → changes.Flags

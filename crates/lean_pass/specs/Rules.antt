@@ -11,10 +11,11 @@ use Rattle.sym_code.specs.declared.code.LiteralOperation.{LiteralOperation}
 use Rattle.sym_code.specs.declared.code.Operand.{Operand}
 use Rattle.sym_code.specs.declared.code.Operand.TheVariants as operands
 use Rattle.sym_code.specs.declared.code.Register.TheVariants.{Status}
-use Rattle.lean_code.specs.Changes.{Aim, ToByte, lost, without_zero, number_at, after_to_w, after_to_file, stored, learned, is_number, flags_in, literal_flags, literal_uses, is_retlw, both_set, one_works, same_w, same_byte}
+use Rattle.lean_code.specs.Changes.{Aim, ToByte, lost, without_zero, number_at, after_to_w, after_to_file, stored, learned, is_number, flags_in, literal_flags, literal_uses, is_retlw, stays, leaves_carry, same_carry, both_set, one_works, same_w, same_byte}
 use Rattle.lean_code.specs.Computed.{way_of, way_of_bit}
-use Rattle.lean_code.specs.Checked.{ListedBlock, ListedNote, ListedRow, Sketch, all_of, among, ahead, block_in, comes, drops_change, drops_test, drops_to_file, drops_to_w, enters, expects, expects_by, is_same, leads, passes, read, reads_for, reads_to, same_side, uses, write, facts_in, apart_in}
+use Rattle.lean_code.specs.Checked.{ListedBlock, ListedNote, ListedRow, Sketch, all_of, among, ahead, block_in, comes, drops_change, drops_test, drops_to_file, drops_to_w, enters, expects, expects_by, is_same, leads, passes, passes_both, read, reads_for, reads_to, same_side, tests_zero, ties, ties_left, ties_seen, uses, write, facts_in, apart_in}
 use Rattle.lean_code.specs.Right as right
+use Rattle.lean_code.specs.Rows.{FlagName}
 use Rattle.lean_code.specs.Right.{flag_apart, with_flag}
 
 abbrev pub is_status : Operand → Bool
@@ -68,16 +69,19 @@ module _ (k : Sketch) (block : ListedBlock) (n : ListedNote) where
       not (is_retlw op) && (not (literal_uses op && n.apart.w) && expects (ahead rest) (right.after_literal (facts_in n.facts) op value) (same_w (both_set (literal_flags op) (apart_in n.apart))) n.apart.bytes)
 
   abbrev pub drops_result : List ListedRow → FileOperation → ℕ → Bool
-  drops_result rest op i = passes n.carry rest (way_of op ((facts_in n.facts).known i)) (after_to_w op (ToByte i) (facts_in n.facts)) (one_works op ((facts_in n.facts).known i) (facts_in n.facts) (apart_in n.apart)) n.apart.bytes
+  drops_result rest op i = passes (ties_left k block n n.carry (stays op ((facts_in n.facts).known i) (facts_in n.facts))) rest (way_of op ((facts_in n.facts).known i)) (after_to_w op (ToByte i) (facts_in n.facts)) (same_carry (leaves_carry op ((facts_in n.facts).known i) n.shown) (one_works op ((facts_in n.facts).known i) (facts_in n.facts) (apart_in n.apart))) n.apart.bytes
 
   abbrev pub drops_skip : List ListedRow → Option Bool → Bool
-  drops_skip rest way = passes n.carry rest way (facts_in n.facts) (apart_in n.apart) n.apart.bytes
+  drops_skip rest way = passes (ties k block n) rest way (facts_in n.facts) (apart_in n.apart) n.apart.bytes
+
+  abbrev pub drops_seen : List ListedRow → BitOperation → ℕ → Bool
+  drops_seen rest op b = passes_both (ties_seen k block n b (not (right.skips_at op))) (ties_seen k block n b (right.skips_at op)) rest (facts_in n.facts) (apart_in n.apart) n.apart.bytes
 
   abbrev pub drops_flag : List ListedRow → ℕ → Bool
-  drops_flag rest b = nat_lt b 3 && expects_by n.carry (ahead rest) (without_zero (facts_in n.facts)) (with_flag b true (apart_in n.apart)) n.apart.bytes
+  drops_flag rest b = nat_lt b 3 && expects_by (ties k block n) (ahead rest) (without_zero (facts_in n.facts)) (with_flag b true (apart_in n.apart)) n.apart.bytes
 
   abbrev pub drops_literal : List ListedRow → LiteralOperation → Literal → Bool
-  drops_literal rest op value = not (is_retlw op) && expects_by n.carry (ahead rest) (right.after_literal (facts_in n.facts) op value) (right.dropped_literal (facts_in n.facts) (apart_in n.apart) op value) n.apart.bytes
+  drops_literal rest op value = not (is_retlw op) && expects_by (ties_left k block n n.carry false) (ahead rest) (right.after_literal (facts_in n.facts) op value) (right.dropped_literal (facts_in n.facts) (apart_in n.apart) op value) n.apart.bytes
 
   abbrev pub drops_file : List ListedRow → FileOperation → Operand → Into → Bool
   drops_file rest op operand into.W = drops_to_w k block n rest op (read k block n operand)
@@ -96,8 +100,13 @@ module _ (k : Sketch) (block : ListedBlock) (n : ListedNote) where
   abbrev pub drops_bit_by : List ListedRow → BitOperation → Operand → ℕ → Bool
   drops_bit_by rest bit_ops.Bcf operand b = if is_status operand then drops_flag rest b else drops_change k block n rest (write k block n operand)
   drops_bit_by rest bit_ops.Bsf operand b = if is_status operand then drops_flag rest b else drops_change k block n rest (write k block n operand)
-  drops_bit_by rest bit_ops.Btfsc operand b = if is_status operand then drops_skip rest None else drops_test k block n rest bit_ops.Btfsc (read k block n operand) b
-  drops_bit_by rest bit_ops.Btfss operand b = if is_status operand then drops_skip rest None else drops_test k block n rest bit_ops.Btfss (read k block n operand) b
+  drops_bit_by rest bit_ops.Btfsc operand b = if is_status operand then drops_seen rest bit_ops.Btfsc b else drops_test k block n rest bit_ops.Btfsc (read k block n operand) b
+  drops_bit_by rest bit_ops.Btfss operand b = if is_status operand then drops_seen rest bit_ops.Btfss b else drops_test k block n rest bit_ops.Btfss (read k block n operand) b
+
+  abbrev pub tests_bit : List ListedRow → FlagName → Bool → BitOperation → Operand → ℕ → Bool
+  tests_bit rest flag turned bit_ops.Btfsc operand b = is_status operand && tests_zero k block n rest flag turned b
+  tests_bit rest flag turned bit_ops.Btfss operand b = is_status operand && tests_zero k block n rest flag turned b
+  tests_bit rest flag turned op operand b = false
 
 -- of a general byte, and of nothing else
 abbrev pub on_byte : (Aim → Bool) → Option ℕ → Bool

@@ -2,6 +2,7 @@
 use Rattle.std.specs.Prelude.{ℕ, ◌+◌, Bool, true, false, List, [], ◌∷◌, slice_index_or, Option, Some, None, option_map}
 use Rattle.sym_code.specs.Layout.{DataLayout}
 use Rattle.lean_code.specs.Rows as certified
+use Rattle.lean_code.specs.Changes as changes
 use Rattle.lean_code.specs.Checked as listed
 use Rattle.lean_code.specs.Checked.{KnownByte}
 use Rattle.lean_pass.specs.declared.rows.Act.{Act}
@@ -9,10 +10,15 @@ use Rattle.lean_pass.specs.declared.rows.Act.TheVariants as acts
 use Rattle.lean_pass.specs.declared.rows.Apart.{Apart}
 use Rattle.lean_pass.specs.declared.rows.ByteSet.{ByteSet}
 use Rattle.lean_pass.specs.declared.rows.Facts.{Facts}
+use Rattle.lean_pass.specs.declared.rows.FlagName.{FlagName}
+use Rattle.lean_pass.specs.declared.rows.FlagName.TheVariants as flags
 use Rattle.lean_pass.specs.declared.rows.LeanBlock.{LeanBlock}
 use Rattle.lean_pass.specs.declared.rows.Note.{Note}
 use Rattle.lean_pass.specs.declared.rows.Row.{Row}
+use Rattle.lean_pass.specs.declared.rows.Shown.{Shown}
+use Rattle.lean_pass.specs.declared.rows.Shown.TheVariants as shows
 use Rattle.lean_pass.specs.declared.rows.Sketch.{Sketch}
+use Rattle.lean_pass.specs.declared.rows.Ties.{Ties}
 
 -- ---- sets
 -- the numbers from i on whose entry is true
@@ -40,13 +46,25 @@ known_entry (Some n) = n
 
 -- ---- notes
 abbrev pub facts_of : Facts → listed.ListedFacts
-facts_of f = record { number = f.number; held = set_of f.held; zero = f.zero; known = knowns 0 f.known.items; twins = knowns 0 f.twins.items }
+facts_of f = record { number = f.number; held = set_of f.held; zero = f.zero; known = knowns 0 f.known.items; twins = knowns 0 f.twins.items; carry_bit = f.carry_bit; zero_bit = f.zero_bit }
 
 abbrev pub apart_of : Apart → listed.ListedApart
 apart_of d = record { w = d.w; z = d.z; dc = d.dc; c = d.c; bytes = set_of d.bytes }
 
+abbrev pub name_of : FlagName → certified.FlagName
+name_of flags.Carry = certified.Carry
+name_of flags.Zero = certified.Zero
+
+abbrev pub shown_of : Shown → certified.Shown
+shown_of shows.Unshown = certified.Unshown
+shown_of (shows.Sees flag set) = certified.Sees (name_of flag) set
+shown_of (shows.Chooses flag set clear) = certified.Chooses (name_of flag) set clear
+
+abbrev pub ties_of : Ties → changes.Ties
+ties_of t = record { carry = t.carry; shown = shown_of t.shown }
+
 abbrev pub note_of : Note → listed.ListedNote
-note_of n = record { facts = facts_of n.facts; apart = apart_of n.apart; carry = n.carry }
+note_of n = record { facts = facts_of n.facts; apart = apart_of n.apart; carry = n.carry; shown = shown_of n.shown }
 
 -- ---- rows
 abbrev pub act_of : Act → certified.Act
@@ -56,6 +74,7 @@ act_of (acts.Puts op value) = certified.Puts op value
 act_of acts.Narrows = certified.Narrows
 act_of acts.Clears = certified.Clears
 act_of (acts.Reads before) = certified.Reads before
+act_of (acts.Tests flag turned) = certified.Tests (name_of flag) turned
 
 abbrev pub row_of : Row → listed.ListedRow
 row_of row = listed.Listed row.sym (act_of row.act) (option_map note_of row.note)

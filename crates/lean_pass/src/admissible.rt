@@ -40,6 +40,7 @@ fn is_byte_act(act: Act) -> bool
         Act::Narrows => true,
         Act::Clears => true,
         Act::Reads { .. } => true,
+        Act::Tests { .. } => true,
     }
 }
 
@@ -53,6 +54,7 @@ fn is_keep(act: Act) -> bool
         Act::Narrows => false,
         Act::Clears => false,
         Act::Reads { .. } => false,
+        Act::Tests { .. } => false,
     }
 }
 

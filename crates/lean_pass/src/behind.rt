@@ -68,6 +68,8 @@ pub struct Behind {
     pub zero: bool,
     pub known: Known,
     pub twins: Twins,
+    pub carry_bit: bool,
+    pub zero_bit: bool,
 }
 
 /// The flags that an instruction writes.
@@ -236,6 +238,17 @@ pub fn with_w(w: bool, marks: Marks) -> Marks
     Marks { w, ..marks }
 }
 
+/// The flags are bits that an instruction writes.
+pub fn with_bits(flags: Flags, facts: Behind) -> Behind
+    ensures { result ≡ stated.with_bits (flags_of flags) facts }
+{
+    Behind {
+        carry_bit: flags.c || facts.carry_bit,
+        zero_bit: flags.z || facts.zero_bit,
+        ..facts
+    }
+}
+
 impl<'a> Here<'a> {
     pub fn marks(&self) -> Marks
         ensures { result ≡ marks_at self.now }
@@ -337,7 +350,7 @@ impl<'a> Here<'a> {
     }
 
     /// W stays what it is behind an operation on a byte of which this is known.
-    fn stays(&self, op: FileOperation, byte: Option<u8>) -> bool
+    pub fn stays(&self, op: FileOperation, byte: Option<u8>) -> bool
         ensures { result ≡ changes.stays op byte (facts_at self.now) }
     {
         let number = self.note.facts.number;
@@ -523,6 +536,8 @@ impl<'a> Here<'a> {
             zero,
             known: Known::Same,
             twins: Twins::Same,
+            carry_bit: self.note.facts.carry_bit,
+            zero_bit: self.note.facts.zero_bit,
         }
     }
 
@@ -537,6 +552,8 @@ impl<'a> Here<'a> {
                 zero,
                 known: Known::Put(byte, None),
                 twins: Twins::Less(byte),
+                carry_bit: self.note.facts.carry_bit,
+                zero_bit: self.note.facts.zero_bit,
             },
             Aim::Through => Behind {
                 number: self.note.facts.number,
@@ -544,6 +561,8 @@ impl<'a> Here<'a> {
                 zero,
                 known: Known::Hidden,
                 twins: Twins::Hidden,
+                carry_bit: self.note.facts.carry_bit,
+                zero_bit: self.note.facts.zero_bit,
             },
             Aim::ToFsr => self.unchanged(zero),
             Aim::ToEvent => self.unchanged(zero),
@@ -561,6 +580,8 @@ impl<'a> Here<'a> {
             zero: false,
             known: Known::Same,
             twins: Twins::Same,
+            carry_bit: self.note.facts.carry_bit,
+            zero_bit: self.note.facts.zero_bit,
         }
     }
 
@@ -574,6 +595,8 @@ impl<'a> Here<'a> {
             zero: true,
             known: Known::Same,
             twins: Twins::Same,
+            carry_bit: self.note.facts.carry_bit,
+            zero_bit: true,
         };
         match aim {
             Aim::ToByte(byte) => Behind {
@@ -582,6 +605,8 @@ impl<'a> Here<'a> {
                 zero: true,
                 known: Known::Same,
                 twins: Twins::Same,
+                carry_bit: self.note.facts.carry_bit,
+                zero_bit: true,
             },
             Aim::ToFsr => unknown,
             Aim::ToEvent => unknown,
@@ -603,6 +628,18 @@ impl<'a> Here<'a> {
             zero,
             known: Known::Same,
             twins: Twins::Same,
+            carry_bit: self.note.facts.carry_bit,
+            zero_bit: self.note.facts.zero_bit,
+        }
+    }
+
+    fn worked_by(&self, op: FileOperation, byte: Option<u8>) -> Behind
+        ensures { facts_by (hidden_at self.now) (facts_at self.now) result ≡ changes.worked_by op byte (facts_at self.now) }
+    {
+        if leaves_w(op, byte) {
+            self.unchanged(true)
+        } else {
+            self.with_number(computed(op, self.note.facts.number, byte), flags_in(op).z)
         }
     }
 
@@ -610,11 +647,7 @@ impl<'a> Here<'a> {
     fn worked(&self, op: FileOperation, byte: Option<u8>) -> Behind
         ensures { facts_by (hidden_at self.now) (facts_at self.now) result ≡ changes.worked op byte (facts_at self.now) }
     {
-        if leaves_w(op, byte) {
-            self.unchanged(true)
-        } else {
-            self.with_number(computed(op, self.note.facts.number, byte), flags_in(op).z)
-        }
+        with_bits(flags_in(op), self.worked_by(op, byte))
     }
 
     /// What is known of the byte that is read.
@@ -664,6 +697,8 @@ impl<'a> Here<'a> {
                 zero: false,
                 known: Known::Put(byte, number),
                 twins: Twins::Less(byte),
+                carry_bit: self.note.facts.carry_bit,
+                zero_bit: self.note.facts.zero_bit,
             },
             Aim::ToFsr => self.lost(aim, false),
             Aim::ToEvent => self.lost(aim, false),
@@ -676,10 +711,8 @@ impl<'a> Here<'a> {
     pub fn after_to_file(&self, op: FileOperation, aim: Aim) -> Behind
         ensures { facts_by (hidden_at self.now) (facts_at self.now) result ≡ changes.after_to_file (hidden_at self.now) op (aim_of aim) (facts_at self.now) }
     {
-        self.learned(
-            aim,
-            computed(op, self.note.facts.number, self.number_at(aim)),
-        )
+        let number = computed(op, self.note.facts.number, self.number_at(aim));
+        with_bits(flags_in(op), self.learned(aim, number))
     }
 
     /// W is stored.
@@ -693,6 +726,8 @@ impl<'a> Here<'a> {
                 zero: self.note.facts.zero,
                 known: Known::Put(byte, self.note.facts.number),
                 twins: Twins::Stored(byte),
+                carry_bit: self.note.facts.carry_bit,
+                zero_bit: self.note.facts.zero_bit,
             },
             Aim::ToFsr => self.lost(aim, self.note.facts.zero),
             Aim::ToEvent => self.lost(aim, self.note.facts.zero),
@@ -718,6 +753,8 @@ impl<'a> Here<'a> {
             zero: true,
             known: Known::Same,
             twins: Twins::Same,
+            carry_bit: self.note.facts.carry_bit,
+            zero_bit: self.note.facts.zero_bit,
         }
     }
 

@@ -11,12 +11,13 @@ ghost use Rattle.lean_pass.specs.Owners.{aim_of};
 ghost use Rattle.lean_pass.specs.Rules as rules;
 ghost use Rattle.lean_pass.specs.Views.{knowns, rows_of};
 
-use crate::behind::{Here, Twins, both_set, flags_in, with_w};
+use crate::behind::{Here, Twins, both_set, flags_in, with_bits, with_w};
 use crate::computing::{way_of, way_of_bit};
 use crate::dropping::aim_byte;
 use crate::operations::may_skip;
 use crate::owners::{Aim, Ground};
 use crate::rows::Row;
+use crate::shown::carries;
 use core_code::Byte;
 use sym_code::{BitOperation, FileOperation, Into, Operand, Sym};
 
@@ -180,9 +181,9 @@ impl<'a> Here<'a> {
                     && (!may_skip(op)
                         && (read == copy
                             && self.expects_by(
-                                Some(copy),
+                                carries(copy),
                                 rest,
-                                self.lost(Aim::ToByte(copy), false),
+                                with_bits(flags_in(op), self.lost(Aim::ToByte(copy), false)),
                                 self.narrowed(op, copy),
                                 Some(copy),
                             )))))

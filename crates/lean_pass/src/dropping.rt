@@ -11,12 +11,15 @@ ghost use Rattle.lean_pass.specs.Owners.{aim_of};
 ghost use Rattle.lean_pass.specs.Rules as rules;
 ghost use Rattle.lean_pass.specs.Views.{act_of, apart_of, block_of, note_of, rows_of, set_of};
 
-use crate::behind::{Differs, Here, Marks, both_set, flags_in, is_number, one_sets, with_w};
+use crate::behind::{
+    Differs, Here, Marks, both_set, flags_in, is_number, one_sets, with_bits, with_w,
+};
 use crate::computing::{computed, runs_on, way_of, way_of_bit};
 use crate::keeping::is_status;
 use crate::operations::{is_retlw, literal_for, may_skip, uses_w};
 use crate::owners::Aim;
 use crate::rows::{Act, Row};
+use crate::shown::{carries, leaves_carry, skips_at};
 use crate::walk::{label_at, place_of};
 use sym_code::{
     BitOperation, FileOperation, Into, Label, Literal, LiteralOperation, Operand, PlainOperation,
@@ -33,16 +36,6 @@ pub fn aim_byte(aim: Aim) -> Option<usize>
         Aim::ToEvent => None,
         Aim::Through => None,
         Aim::Nowhere => None,
-    }
-}
-
-// What is carried behind a write of a byte on one machine.
-fn carry_but(byte: usize, carry: Option<usize>) -> Option<usize>
-    ensures { result ≡ right.carry_but byte carry }
-{
-    match carry {
-        None => None,
-        Some(other) => if other == byte { None } else { Some(other) },
     }
 }
 
@@ -152,18 +145,46 @@ impl<'a> Here<'a> {
                 dc: marks.dc,
                 c: marks.c,
             });
-            self.expects(rest, facts, apart)
+            let ties = self.ties_left(None, self.is_held(byte));
+            self.expects_by(ties, rest, facts, apart, None)
         } else {
-            self.expects_by(Some(carry), rest, facts, self.one_moves(byte), None)
+            let ties = self.ties_left(Some(carry), self.is_held(byte));
+            self.expects_by(ties, rest, facts, self.one_moves(byte), None)
         }
+    }
+
+    fn drops_uncarried(&self, rest: &[Row], byte: usize) -> bool
+        ensures { result ≡ listed.drops_move (sketch_at self.now) (block_at self.now) (note_at self.now) (rows_of rest.now) byte None }
+    {
+        let ties = self.ties_left(None, self.is_held(byte));
+        let facts = self.moved(Aim::ToByte(byte));
+        self.expects_by(ties, rest, facts, self.one_moves(byte), None)
     }
 
     fn drops_move(&self, rest: &[Row], byte: usize) -> bool
         ensures { result ≡ listed.drops_move (sketch_at self.now) (block_at self.now) (note_at self.now) (rows_of rest.now) byte (note_at self.now).carry }
     {
         match self.note.carry {
-            None => self.expects(rest, self.moved(Aim::ToByte(byte)), self.one_moves(byte)),
+            None => self.drops_uncarried(rest, byte),
             Some(carry) => self.drops_carried(rest, byte, carry),
+        }
+    }
+
+    // What may differ behind an operation that only one of them does, and that may leave the carry.
+    fn works_apart(&self, op: FileOperation, byte: Option<u8>) -> Differs
+        ensures { apart_by (apart_at self.now) result ≡ changes.same_carry (changes.leaves_carry op byte (note_at self.now).shown) (changes.one_works op byte (facts_at self.now) (apart_at self.now)) }
+    {
+        let apart = self.one_works(op, byte);
+        if leaves_carry(op, byte, self.note.shown) {
+            Differs {
+                marks: Marks {
+                    c: false,
+                    ..apart.marks
+                },
+                bytes: apart.bytes,
+            }
+        } else {
+            apart
         }
     }
 
@@ -171,12 +192,13 @@ impl<'a> Here<'a> {
         ensures { result ≡ rules.drops_result (sketch_at self.now) (block_at self.now) (note_at self.now) (rows_of rest.now) op byte }
     {
         let known = self.number_of(byte);
+        let ties = self.ties_left(self.note.carry, self.stays(op, known));
         self.passes(
-            self.note.carry,
+            ties,
             rest,
             way_of(op, known),
             self.after_to_w(op, Aim::ToByte(byte)),
-            self.one_works(op, known),
+            self.works_apart(op, known),
             None,
         )
     }
@@ -218,7 +240,7 @@ impl<'a> Here<'a> {
         match aim {
             Aim::ToByte(byte) => {
                 self.passes(
-                    carry_but(byte, self.note.carry),
+                    self.ties_but(byte),
                     rest,
                     way_of(op, self.number_of(byte)),
                     self.after_to_file(op, aim),
@@ -239,7 +261,7 @@ impl<'a> Here<'a> {
         match aim {
             Aim::ToByte(byte) => {
                 self.expects_by(
-                    carry_but(byte, self.note.carry),
+                    self.ties_but(byte),
                     rest,
                     self.stored(aim),
                     self.one_stores(byte),
@@ -259,7 +281,7 @@ impl<'a> Here<'a> {
         match aim {
             Aim::ToByte(byte) => {
                 self.expects_by(
-                    carry_but(byte, self.note.carry),
+                    self.ties_but(byte),
                     rest,
                     self.cleared(aim),
                     self.one_clears(byte),
@@ -280,7 +302,7 @@ impl<'a> Here<'a> {
             Aim::ToByte(byte) => {
                 let facts = self.lost(aim, self.note.facts.zero);
                 self.expects_by(
-                    carry_but(byte, self.note.carry),
+                    self.ties_but(byte),
                     rest,
                     facts,
                     self.one_writes(byte, self.marks()),
@@ -299,9 +321,25 @@ impl<'a> Here<'a> {
     {
         let facts = self.unchanged(self.note.facts.zero);
         self.passes(
-            self.note.carry,
+            self.ties(),
             rest,
             way,
+            facts,
+            self.differing(self.marks()),
+            None,
+        )
+    }
+
+    // A test of a flag tells what that is, each way.
+    fn drops_seen(&self, rest: &[Row], op: BitOperation, bit: u8) -> bool
+        ensures { result ≡ rules.drops_seen (sketch_at self.now) (block_at self.now) (note_at self.now) (rows_of rest.now) op bit }
+    {
+        let facts = self.unchanged(self.note.facts.zero);
+        let skips = skips_at(op);
+        self.passes_both(
+            self.ties_seen(bit, !skips),
+            self.ties_seen(bit, skips),
+            rest,
             facts,
             self.differing(self.marks()),
             None,
@@ -325,7 +363,7 @@ impl<'a> Here<'a> {
     {
         bit < 3
             && self.expects_by(
-                self.note.carry,
+                self.ties(),
                 rest,
                 self.unchanged(false),
                 self.with_flag(bit, true),
@@ -350,12 +388,12 @@ impl<'a> Here<'a> {
                 self.drops_change(rest, self.write(operand))
             },
             BitOperation::Btfsc => if status {
-                self.drops_skip(rest, None)
+                self.drops_seen(rest, op, bit)
             } else {
                 self.drops_test(rest, op, self.read(operand), bit)
             },
             BitOperation::Btfss => if status {
-                self.drops_skip(rest, None)
+                self.drops_seen(rest, op, bit)
             } else {
                 self.drops_test(rest, op, self.read(operand), bit)
             },
@@ -372,7 +410,8 @@ impl<'a> Here<'a> {
             dc: marks.dc,
             c: marks.c,
         });
-        self.expects_by(self.note.carry, rest, self.cleared_w(), apart, None)
+        let ties = self.ties_left(self.note.carry, false);
+        self.expects_by(ties, rest, self.cleared_w(), apart, None)
     }
 
     fn drops_plain(&self, rest: &[Row], op: PlainOperation) -> bool
@@ -382,13 +421,7 @@ impl<'a> Here<'a> {
             PlainOperation::Clrw => self.drops_clrw(rest),
             PlainOperation::Nop => {
                 let facts = self.unchanged(self.note.facts.zero);
-                self.expects_by(
-                    self.note.carry,
-                    rest,
-                    facts,
-                    self.differing(self.marks()),
-                    None,
-                )
+                self.expects_by(self.ties(), rest, facts, self.differing(self.marks()), None)
             }
             PlainOperation::Retfie => false,
             PlainOperation::Return => false,
@@ -412,7 +445,7 @@ impl<'a> Here<'a> {
         match target {
             Target::Block(_) => false,
             Target::Label(label) => match label {
-                Label::Inner(_) => self.expects_label(self.note.carry, label)
+                Label::Inner(_) => self.expects_label(self.ties(), label)
                     && self.is_here(at, label),
                 Label::Halt => false,
                 Label::Restore => false,
@@ -425,7 +458,7 @@ impl<'a> Here<'a> {
     {
         !is_retlw(op)
             && self.expects_by(
-                self.note.carry,
+                self.ties_left(self.note.carry, false),
                 rest,
                 self.after_literal(op, value),
                 self.dropped_literal(op, value),
@@ -551,9 +584,9 @@ impl<'a> Here<'a> {
                 && (!may_skip(op)
                     && (other == byte
                         && self.expects_by(
-                            Some(byte),
+                            carries(byte),
                             rest,
-                            self.lost(aim, false),
+                            with_bits(flags_in(op), self.lost(aim, false)),
                             self.narrowed(op, byte),
                             Some(byte),
                         ))))
@@ -596,6 +629,7 @@ impl<'a> Here<'a> {
             Act::Narrows => self.is_narrowed(rest, sym),
             Act::Clears => self.is_cleared(rest, sym),
             Act::Reads { before } => self.is_read(rest, before, sym),
+            Act::Tests { flag, turned } => self.is_tested(rest, flag, turned, sym),
         }
     }
 }

@@ -9,15 +9,15 @@ ghost use Rattle.lean_code.specs.Right as right;
 ghost use Rattle.lean_pass.specs.Behind.{sketch_at, block_at, note_at, facts_at, apart_at, apart_by};
 ghost use Rattle.lean_pass.specs.Owners.{aim_of};
 ghost use Rattle.lean_pass.specs.Rules as rules;
-ghost use Rattle.lean_pass.specs.Views.{act_of, apart_of, block_of, note_of, rows_of, set_of};
+ghost use Rattle.lean_pass.specs.Views.{act_of, apart_of, block_of, note_of, rows_of, set_of, ties_of};
 
 use crate::behind::{Here, Marks, both_set, flags_in, literal_flags, with_w};
 use crate::computing::{way_of, way_of_bit};
 use crate::operations::{is_retlw, literal_uses, uses_c, uses_w};
 use crate::owners::Aim;
-use crate::reading::same_number;
-use crate::rows::{Apart, ByteSet, LeanBlock, Note, Row};
+use crate::rows::{Apart, ByteSet, LeanBlock, Note, Row, Ties};
 use crate::sets::is_within;
+use crate::shown::{claims, no_ties};
 use crate::walk::{block_named, first_word, label_at, rows_from};
 use sym_code::{
     BitOperation, BlockName, FileOperation, Into, Label, Literal, LiteralOperation, Operand,
@@ -228,13 +228,13 @@ impl<'a> Here<'a> {
 
     /// What is said where a jump goes, if it goes to a label that is there.
     #[tactic(auto, using(crate::proofs::Along::label_is))]
-    pub fn expects_label(&self, carry: Option<usize>, label: Label) -> bool
-        ensures { result ≡ listed.expects_by carry (listed.at_label (sketch_at self.now) (block_at self.now) (note_at self.now) label) (facts_at self.now) (apart_at self.now) (note_at self.now).apart.bytes }
+    pub fn expects_label(&self, ties: Ties, label: Label) -> bool
+        ensures { result ≡ listed.expects_by (ties_of ties) (listed.at_label (sketch_at self.now) (block_at self.now) (note_at self.now) label) (facts_at self.now) (apart_at self.now) (note_at self.now).apart.bytes }
     {
         match label_at(&self.block.rows, label) {
             None => true,
             Some(at) => self.expects_by(
-                carry,
+                ties,
                 rows_from(&self.block.rows, at),
                 self.unchanged(self.note.facts.zero),
                 self.differing(self.marks()),
@@ -252,7 +252,7 @@ impl<'a> Here<'a> {
                 Label::Halt => true,
                 Label::Restore => self.block.inside
                     && is_within(&self.note.apart.bytes, &self.sketch.rest),
-                Label::Inner(_) => self.expects_label(None, label),
+                Label::Inner(_) => self.expects_label(no_ties(), label),
             },
         }
     }
@@ -274,7 +274,7 @@ impl<'a> Here<'a> {
             None => false,
             Some(note) => {
                 self.gives(self.unchanged(self.note.facts.zero), &note.facts)
-                    && (self.flags_within(&note.apart) && same_number(note.carry, None))
+                    && (self.flags_within(&note.apart) && claims(note, None, no_ties()))
             }
         }
     }
@@ -296,7 +296,7 @@ impl<'a> Here<'a> {
                     && (self.flags_within(&note.apart)
                         && (is_within(&self.note.apart.bytes, &note.apart.bytes)
                             && (is_within(across, &note.apart.bytes)
-                                && same_number(note.carry, None))))
+                                && claims(note, None, no_ties()))))
             }
         }
     }

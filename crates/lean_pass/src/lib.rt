@@ -24,10 +24,11 @@ mod reading;
 mod rows;
 mod search;
 mod sets;
+mod shown;
 mod steady;
 mod testing;
 mod walk;
 
 pub use pass::lean;
-pub use rows::{Act, Apart, ByteSet, Facts, LeanBlock, Note, Row, Sketch};
+pub use rows::{Act, Apart, ByteSet, Facts, FlagName, LeanBlock, Note, Row, Shown, Sketch};
 pub use testing::is_lean;

@@ -10,16 +10,17 @@ ghost use Rattle.lean_code.specs.Steady.{are_steady};
 ghost use Rattle.code_place.specs.Layouts.{layout_of};
 ghost use Rattle.lean_pass.specs.Made as stated;
 ghost use Rattle.lean_pass.specs.Tests.{has_none};
-ghost use Rattle.lean_pass.specs.Views.{act_of, row_of, rows_of, block_of, blocks_of, sketch_of, variables_of};
+ghost use Rattle.lean_pass.specs.Views.{act_of, name_of, row_of, rows_of, block_of, blocks_of, sketch_of, variables_of};
 
 use crate::copies::operand_before;
 use crate::owners::no_block;
-use crate::rows::{Act, LeanBlock, Row, Sketch};
+use crate::rows::{Act, FlagName, LeanBlock, Row, Sketch};
 use crate::search::{BlockPlan, Plan};
+use crate::shown::bit_of;
 use crate::walk::{block_named, first_row, is_label, same_name};
 use pic_map::Placed;
 use std::alloc::{AllocError, Global};
-use sym_code::{BlockName, Into, Literal, Sym, SymBlock};
+use sym_code::{BitOperation, BlockName, Into, Literal, Operand, Register, Sym, SymBlock};
 
 fn narrowed(sym: Sym) -> Sym
     ensures { result ≡ certified.narrowed sym }
@@ -61,6 +62,35 @@ fn reads_before(before: u16, sym: Sym) -> Sym
     }
 }
 
+// The opposite test.
+fn turned_by(turned: bool, op: BitOperation) -> BitOperation
+    ensures { result ≡ certified.turned_by turned op }
+{
+    if turned {
+        match op {
+            BitOperation::Btfsc => BitOperation::Btfss,
+            BitOperation::Btfss => BitOperation::Btfsc,
+            BitOperation::Bcf => op,
+            BitOperation::Bsf => op,
+        }
+    } else {
+        op
+    }
+}
+
+fn tests_flag(flag: FlagName, turned: bool, sym: Sym) -> Sym
+    ensures { result ≡ certified.tests_flag (name_of flag) turned sym }
+{
+    match sym {
+        Sym::Bit { op, .. } => Sym::Bit {
+            op: turned_by(turned, op),
+            file: Operand::Register(Register::Status),
+            bit: bit_of(flag),
+        },
+        _ => sym,
+    }
+}
+
 // What stands in an instruction's place in the code that is made. A label always stays.
 fn put_of(sym: Sym, act: Act) -> Option<Sym>
     ensures { result ≡ stated.put_of sym act }
@@ -78,6 +108,7 @@ fn put_of(sym: Sym, act: Act) -> Option<Sym>
         Act::Narrows => Some(narrowed(sym)),
         Act::Clears => Some(cleared(sym)),
         Act::Reads { before } => Some(reads_before(before, sym)),
+        Act::Tests { flag, turned } => Some(tests_flag(flag, turned, sym)),
     }
 }
 

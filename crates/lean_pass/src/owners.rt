@@ -11,7 +11,7 @@ ghost use Rattle.lean_pass.specs.Owners as stated;
 ghost use Rattle.lean_pass.specs.Owners.{AreOwners, kind, aim_of};
 ghost use Rattle.lean_pass.specs.Views.{block_of};
 
-use crate::rows::{Apart, ByteSet, Facts, LeanBlock, Note};
+use crate::rows::{Apart, ByteSet, Facts, LeanBlock, Note, Shown};
 use core_code::Byte;
 use pic_map::{FrameLine, ObjLine, Placed};
 use pic_world::Root;
@@ -374,6 +374,8 @@ pub fn no_block(alloc: Global) -> LeanBlock
                 zero: false,
                 known: Vec::new(alloc),
                 twins: Vec::new(alloc),
+                carry_bit: false,
+                zero_bit: false,
             },
             apart: Apart {
                 w: true,
@@ -385,6 +387,7 @@ pub fn no_block(alloc: Global) -> LeanBlock
                 },
             },
             carry: None,
+            shown: Shown::Unshown,
         },
         outer: ByteSet {
             has: Vec::new(alloc),

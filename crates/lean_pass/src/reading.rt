@@ -7,12 +7,13 @@ ghost use Rattle.lean_code.specs.Checked as listed;
 ghost use Rattle.lean_pass.specs.Behind as stated;
 ghost use Rattle.lean_pass.specs.Behind.{facts_at, apart_at, hidden_at, note_at, block_at, sketch_at, facts_by, apart_by, held_by, known_by, bytes_by, candidates};
 ghost use Rattle.lean_pass.specs.Owners.{aim_of};
-ghost use Rattle.lean_pass.specs.Views.{trues, knowns, set_of, facts_of, apart_of, note_of, rows_of};
+ghost use Rattle.lean_pass.specs.Views.{trues, knowns, set_of, facts_of, apart_of, note_of, rows_of, ties_of};
 
 use crate::behind::{Behind, Bytes, Differs, Held, Here, Known, is_byte, is_number};
 use crate::owners::Aim;
-use crate::rows::{Apart, ByteSet, Facts, Note, Row};
+use crate::rows::{Apart, ByteSet, Facts, Note, Row, Ties};
 use crate::sets::is_within;
+use crate::shown::{claims, no_ties};
 use crate::walk::{drops_first, first_word, keeps_first, past};
 
 fn gives_number(has: Option<u8>, wanted: Option<u8>) -> bool
@@ -156,7 +157,14 @@ impl<'a> Here<'a> {
             && (self.are_held(facts.held, &wanted.held.has, 0)
                 && ((!wanted.zero || facts.zero)
                     && (self.are_known(facts.known, &wanted.known, 0)
-                        && self.are_copies(facts.twins, &wanted.twins, 0))))
+                        && (self.are_copies(facts.twins, &wanted.twins, 0)
+                            && self.gives_bits(facts, wanted)))))
+    }
+
+    fn gives_bits(&self, facts: Behind, wanted: &Facts) -> bool
+        ensures { result ≡ listed.gives_bits (facts_by (hidden_at self.now) (facts_at self.now) facts) (facts_of wanted.now) }
+    {
+        (!wanted.carry_bit || facts.carry_bit) && (!wanted.zero_bit || facts.zero_bit)
     }
 
     fn is_covered(&self, wanted: &ByteSet, bytes: Bytes, byte: usize) -> bool
@@ -211,55 +219,55 @@ impl<'a> Here<'a> {
     #[tactic(auto, using(crate::proofs::Entries::and_three))]
     fn is_enough(
         &self,
-        carry: Option<usize>,
+        ties: Ties,
         wanted: &Note,
         facts: Behind,
         apart: Differs,
         more: Option<usize>,
     ) -> bool
-        ensures { result ≡ listed.expects_by carry (Some (Some (note_of wanted.now))) (facts_by (hidden_at self.now) (facts_at self.now) facts) (apart_by (apart_at self.now) apart) (candidates self.now more) }
+        ensures { result ≡ listed.expects_by (ties_of ties) (Some (Some (note_of wanted.now))) (facts_by (hidden_at self.now) (facts_at self.now) facts) (apart_by (apart_at self.now) apart) (candidates self.now more) }
     {
         self.gives(facts, &wanted.facts)
-            && (self.covers(&wanted.apart, apart, more) && same_number(wanted.carry, carry))
+            && (self.covers(&wanted.apart, apart, more) && claims(wanted, facts.number, ties))
     }
 
     fn is_enough_at(
         &self,
-        carry: Option<usize>,
+        ties: Ties,
         wanted: &Option<Note>,
         facts: Behind,
         apart: Differs,
         more: Option<usize>,
     ) -> bool
-        ensures { result ≡ listed.expects_by carry (Some (option_map note_of wanted.now)) (facts_by (hidden_at self.now) (facts_at self.now) facts) (apart_by (apart_at self.now) apart) (candidates self.now more) }
+        ensures { result ≡ listed.expects_by (ties_of ties) (Some (option_map note_of wanted.now)) (facts_by (hidden_at self.now) (facts_at self.now) facts) (apart_by (apart_at self.now) apart) (candidates self.now more) }
     {
         match wanted {
             None => false,
-            Some(note) => self.is_enough(carry, note, facts, apart, more),
+            Some(note) => self.is_enough(ties, note, facts, apart, more),
         }
     }
 
     /// Whether what is so behind an instruction is enough at the front of a list.
     pub fn expects_by(
         &self,
-        carry: Option<usize>,
+        ties: Ties,
         rows: &[Row],
         facts: Behind,
         apart: Differs,
         more: Option<usize>,
     ) -> bool
-        ensures { result ≡ listed.expects_by carry (listed.ahead (rows_of rows.now)) (facts_by (hidden_at self.now) (facts_at self.now) facts) (apart_by (apart_at self.now) apart) (candidates self.now more) }
+        ensures { result ≡ listed.expects_by (ties_of ties) (listed.ahead (rows_of rows.now)) (facts_by (hidden_at self.now) (facts_at self.now) facts) (apart_by (apart_at self.now) apart) (candidates self.now more) }
     {
         match first_word(rows) {
             None => true,
-            Some(row) => self.is_enough_at(carry, &row.note, facts, apart, more),
+            Some(row) => self.is_enough_at(ties, &row.note, facts, apart, more),
         }
     }
 
     pub fn expects(&self, rows: &[Row], facts: Behind, apart: Differs) -> bool
         ensures { result ≡ listed.expects (listed.ahead (rows_of rows.now)) (facts_by (hidden_at self.now) (facts_at self.now) facts) (apart_by (apart_at self.now) apart) (note_at self.now).apart.bytes }
     {
-        self.expects_by(None, rows, facts, apart, None)
+        self.expects_by(no_ties(), rows, facts, apart, None)
     }
 
     /// Behind an instruction that both execute, and that skips, runs on, or may do both.
@@ -282,34 +290,49 @@ impl<'a> Here<'a> {
     /// Behind one that is left out.
     pub fn passes(
         &self,
-        carry: Option<usize>,
+        ties: Ties,
         rest: &[Row],
         way: Option<bool>,
         facts: Behind,
         apart: Differs,
         more: Option<usize>,
     ) -> bool
-        ensures { result ≡ listed.passes carry (rows_of rest.now) way (facts_by (hidden_at self.now) (facts_at self.now) facts) (apart_by (apart_at self.now) apart) (candidates self.now more) }
+        ensures { result ≡ listed.passes (ties_of ties) (rows_of rest.now) way (facts_by (hidden_at self.now) (facts_at self.now) facts) (apart_by (apart_at self.now) apart) (candidates self.now more) }
     {
         match way {
-            None => self.expects_by(carry, rest, facts, apart, more)
-                && self.passes_past(carry, rest, facts, apart, more),
-            Some(true) => self.passes_past(carry, rest, facts, apart, more),
-            Some(false) => self.expects_by(carry, rest, facts, apart, more),
+            None => self.passes_both(ties, ties, rest, facts, apart, more),
+            Some(true) => self.passes_past(ties, rest, facts, apart, more),
+            Some(false) => self.expects_by(ties, rest, facts, apart, more),
         }
     }
 
-    fn passes_past(
+    /// With these ties where it runs on, and with those where it skips.
+    pub fn passes_both(
         &self,
-        carry: Option<usize>,
+        on: Ties,
+        over: Ties,
         rest: &[Row],
         facts: Behind,
         apart: Differs,
         more: Option<usize>,
     ) -> bool
-        ensures { result ≡ listed.passes carry (rows_of rest.now) (Some true) (facts_by (hidden_at self.now) (facts_at self.now) facts) (apart_by (apart_at self.now) apart) (candidates self.now more) }
+        ensures { result ≡ listed.passes_both (ties_of on) (ties_of over) (rows_of rest.now) (facts_by (hidden_at self.now) (facts_at self.now) facts) (apart_by (apart_at self.now) apart) (candidates self.now more) }
     {
-        self.expects_by(carry, past(rest), facts, apart, more) && drops_first(rest)
+        self.expects_by(on, rest, facts, apart, more)
+            && self.passes_past(over, rest, facts, apart, more)
+    }
+
+    fn passes_past(
+        &self,
+        ties: Ties,
+        rest: &[Row],
+        facts: Behind,
+        apart: Differs,
+        more: Option<usize>,
+    ) -> bool
+        ensures { result ≡ listed.passes (ties_of ties) (rows_of rest.now) (Some true) (facts_by (hidden_at self.now) (facts_at self.now) facts) (apart_by (apart_at self.now) apart) (candidates self.now more) }
+    {
+        self.expects_by(ties, past(rest), facts, apart, more) && drops_first(rest)
     }
 
     /// Whether what is read doesn't differ.

@@ -21,6 +21,32 @@ pub enum Act {
     Clears,
     /// Another byte of its frame is read, so many bytes before its own, and the result goes to W.
     Reads { before: u16 },
+    /// A flag is tested in the place of Z, or its opposite.
+    Tests { flag: FlagName, turned: bool },
+}
+
+/// A flag that a comparison leaves.
+#[derive(Clone, Copy, PartialEq, Eq, Debug)]
+pub enum FlagName {
+    Carry,
+    Zero,
+}
+
+/// What a flag of the machine that runs the code that is made tells.
+#[derive(Clone, Copy, PartialEq, Eq, Debug)]
+pub enum Shown {
+    Unshown,
+    /// Whether it is set.
+    Sees { flag: FlagName, set: bool },
+    /// W of the other machine is the first number where it is set, and else the second one.
+    Chooses { flag: FlagName, set: u8, clear: u8 },
+}
+
+/// What is tied to the machine that runs the code that is made.
+#[derive(Clone, Copy, PartialEq, Eq, Debug)]
+pub struct Ties {
+    pub carry: Option<usize>,
+    pub shown: Shown,
 }
 
 /// What is true of the machine that runs the given code.
@@ -36,6 +62,10 @@ pub struct Facts {
     pub known: Vec<Option<u8>>,
     /// Of the bytes that are copies, by their numbers, the byte of which each is one.
     pub twins: Vec<Option<u16>>,
+    /// C is 0 or 1.
+    pub carry_bit: bool,
+    /// So is Z.
+    pub zero_bit: bool,
 }
 
 /// What may differ between the machine that runs the given code and the one that runs the code that is made.
@@ -55,6 +85,7 @@ pub struct Note {
     pub apart: Apart,
     /// W of the machine that runs the code that is made is what this byte holds for the other one.
     pub carry: Option<usize>,
+    pub shown: Shown,
 }
 
 /// An instruction of the given code. There is no note where nothing comes.

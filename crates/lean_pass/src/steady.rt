@@ -81,6 +81,7 @@ fn is_steady_skip(act: Act, rest: &[Row]) -> bool
         Act::Narrows => false,
         Act::Clears => false,
         Act::Reads { .. } => next_stays(rest),
+        Act::Tests { .. } => next_stays(rest),
     }
 }
 
@@ -94,6 +95,7 @@ fn puts_return(act: Act) -> bool
         Act::Narrows => false,
         Act::Clears => false,
         Act::Reads { .. } => false,
+        Act::Tests { .. } => false,
     }
 }
 

@@ -11,9 +11,9 @@ ghost use Rattle.lean_pass.specs.Views.{act_of, trues, knowns, set_of, note_of, 
 
 use crate::behind::{Behind, Held, Here, Known, Twins};
 use crate::owners::{Ground, grounded};
-use crate::reading::same_number;
 use crate::rows::{ByteSet, LeanBlock, Note, Row, Sketch};
 use crate::sets::is_within;
+use crate::shown::{claims, no_ties};
 use crate::walk::{block_named, first_row, first_word, goes_on, is_label, stays_out};
 use pic_map::Placed;
 use std::alloc::{AllocError, Global};
@@ -187,9 +187,11 @@ impl<'a> Ground<'a> {
             zero: false,
             known: Known::Nothing,
             twins: Twins::Nothing,
+            carry_bit: false,
+            zero_bit: false,
         };
         here.gives(nothing, &note.facts)
-            && (is_within(rest, &note.apart.bytes) && same_number(note.carry, None))
+            && (is_within(rest, &note.apart.bytes) && claims(note, None, no_ties()))
     }
 
     fn begins_noted(

@@ -39,6 +39,7 @@ pub fn stays_out(sym: Sym, act: Act) -> bool
         Act::Narrows => false,
         Act::Clears => false,
         Act::Reads { .. } => false,
+        Act::Tests { .. } => false,
     }
 }
 

@@ -9,6 +9,7 @@ use Rattle.sym_code.specs.declared.code.BlockName.{BlockName}
 use Rattle.sym_code.specs.declared.code.Literal.TheVariants.{Number}
 use Rattle.sym_code.specs.declared.code.LiteralOperation.{LiteralOperation}
 use Rattle.sym_code.specs.declared.code.LiteralOperation.TheVariants as literals
+use Rattle.sym_code.specs.declared.code.BitOperation.TheVariants.{Btfsc, Btfss}
 use Rattle.sym_code.specs.declared.code.FileOperation.TheVariants.{Decfsz, Incfsz}
 use Rattle.sym_code.specs.declared.code.Operand.{Operand}
 use Rattle.sym_code.specs.declared.code.Operand.TheVariants as operands
@@ -22,7 +23,7 @@ use Rattle.bank_page.specs.Known as known
 use Rattle.bank_prices.proofs.Owned.{IsTame, AllTame, tame}
 use Rattle.bank_prices.proofs.Tight.{label_first, is_tight}
 use Rattle.lean_code.specs.Changes.{is_retlw}
-use Rattle.lean_code.specs.Rows.{Note, Keeps, Drops, Puts, Narrows, narrowed, Clears, cleared, Reads, byte_before, operand_before, reads_before, Row, At, olds, puts}
+use Rattle.lean_code.specs.Rows.{Note, Keeps, Drops, Puts, Narrows, narrowed, Clears, cleared, Reads, Tests, FlagName, Carry, Zero, tests_flag, byte_before, operand_before, reads_before, Row, At, olds, puts}
 use Rattle.lean_code.specs.Steady.{skips, leads_on, next_stays, next_goes, next_leads_on, is_steady_row, is_steady}
 use Rattle.lean_prices.proofs.Rows.{never, and_first, and_last, steady_later, puts_no_return}
 
@@ -41,6 +42,11 @@ read_own : (root : Root) (copy size n : ℕ) (s : Sym) → IsOwn root copy size 
 read_own root copy size n (syms.File op operand to) h = operand_own root copy size n operand h
 read_own root copy size n (syms.Bit op (operands.Byte byte) bit) h = byte_own root copy size n byte h
 read_own root copy size n s h = h
+
+test_own : (root : Root) (copy size : ℕ) (flag : FlagName) (turned : Bool) (s : Sym) → IsOwn root copy size s → IsOwn root copy size (tests_flag flag turned s)
+test_own root copy size Carry turned (syms.Bit op operand bit) h = (refl, omega arith)
+test_own root copy size Zero turned (syms.Bit op operand bit) h = (refl, omega arith)
+test_own root copy size flag turned s h = h
 
 module _ (placed : Placed) (own : BlockName) (bank : ℕ) (root : Root) (copy size : ℕ) (frame_bank : (offset : ℕ) → offset < size → (at : ℕ) × (address_of placed (bytes.Frame copy offset) ≡ Some at) × (at / 128 ≡ bank)) where
   number_tame : (op : LiteralOperation) (n : ℕ) → IsTame placed own bank (syms.Literal op (Number n))
@@ -64,6 +70,8 @@ module _ (placed : Placed) (own : BlockName) (bank : ℕ) (root : Root) (copy si
   tame_made (At s Clears said ∷ rows) o h = (cleared_tame s h.0, tame_made rows (λ k d l. o (suc k) d (omega arith)) h.1)
   tame_made (At s (Reads n) said ∷ rows) o h =
       (tame placed root copy size bank own frame_bank (reads_before n s) (read_own root copy size n s (o 0 s (omega arith))), tame_made rows (λ k d l. o (suc k) d (omega arith)) h.1)
+  tame_made (At s (Tests flag turned) said ∷ rows) o h =
+      (tame placed root copy size bank own frame_bank (tests_flag flag turned s) (test_own root copy size flag turned s (o 0 s (omega arith))), tame_made rows (λ k d l. o (suc k) d (omega arith)) h.1)
 
 -- ---- labels behind jumps
 pub bank_skip : (s : Sym) → kinds.is_skip s ≡ skips s
@@ -98,6 +106,16 @@ read_ends : (n : ℕ) (s : Sym) → ends (reads_before n s) ≡ ends s
 read_ends n (syms.File op operand to) = refl
 read_ends n (syms.Bit op operand bit) = refl
 read_ends n s = refl
+
+test_skips : (flag : FlagName) (turned : Bool) (s : Sym) → skips (tests_flag flag turned s) ≡ skips s
+test_skips flag true (syms.Bit Btfsc operand bit) = refl
+test_skips flag true (syms.Bit Btfss operand bit) = refl
+test_skips flag turned (syms.Bit op operand bit) = refl
+test_skips flag turned s = refl
+
+test_ends : (flag : FlagName) (turned : Bool) (s : Sym) → ends (tests_flag flag turned s) ≡ ends s
+test_ends flag turned (syms.Bit op operand bit) = refl
+test_ends flag turned s = refl
 
 same_return : (op : LiteralOperation) → known.is_retlw op ≡ is_retlw op
 same_return literals.Retlw = refl
@@ -196,6 +214,9 @@ module _ (s : Sym) (said : Option Note) (rest : List Row) where
   read_next : (n : ℕ) → is_steady (At s (Reads n) said ∷ rest) ≡ true → skips s ≡ true → next_stays rest ≡ true
   read_next n e k = sym (ap (λ (b : Bool). if b then next_stays rest else true) k) ∙ and_first (is_steady_row s (Reads n) rest) (is_steady rest) e
 
+  test_next : (flag : FlagName) (turned : Bool) → is_steady (At s (Tests flag turned) said ∷ rest) ≡ true → skips s ≡ true → next_stays rest ≡ true
+  test_next flag turned e k = sym (ap (λ (b : Bool). if b then next_stays rest else true) k) ∙ and_first (is_steady_row s (Tests flag turned) rest) (is_steady rest) e
+
   gone_next : is_steady (At s Drops said ∷ rest) ≡ true → skips s ≡ true → (next_goes rest || next_leads_on rest) ≡ true
   gone_next e k = sym (ap (λ (b : Bool). if b then next_goes rest || next_leads_on rest else true) k) ∙ and_first (is_steady_row s Drops rest) (is_steady rest) e
 
@@ -271,6 +292,15 @@ tight_rows (At s (Reads n) said ∷ rows) e =
       alone = λ k t. here (untied s (olds rows) k t);
       free = becomes_like rows later false s (reads_before n s) (read_skips n s) (read_ends n s) (read_next s said rows n e);
       behind = λ k. becomes_like rows later true s (reads_before n s) (read_skips n s) (read_ends n s) (read_next s said rows n e);
+      gone = λ k t. never k;
+    }
+tight_rows (At s (Tests flag turned) said ∷ rows) e =
+    let later = tight_rows rows (steady_later s (Tests flag turned) said rows e) in
+    let here = becomes_like rows later false s (tests_flag flag turned s) (test_skips flag turned s) (test_ends flag turned s) (test_next s said rows flag turned e) in
+    record {
+      alone = λ k t. here (untied s (olds rows) k t);
+      free = becomes_like rows later false s (tests_flag flag turned s) (test_skips flag turned s) (test_ends flag turned s) (test_next s said rows flag turned e);
+      behind = λ k. becomes_like rows later true s (tests_flag flag turned s) (test_skips flag turned s) (test_ends flag turned s) (test_next s said rows flag turned e);
       gone = λ k t. never k;
     }
 

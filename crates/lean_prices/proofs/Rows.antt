@@ -14,7 +14,7 @@ use Rattle.sym_code.specs.declared.code.Sym.TheVariants as syms
 use Rattle.math_helpers.specs.Shape.{is_skip, is_straight}
 use Rattle.select_wide.specs.Links.{IsNearByte, IsNear, AreNear}
 use Rattle.lean_code.specs.Changes.{is_retlw}
-use Rattle.lean_code.specs.Rows.{Note, Act, Keeps, Drops, Puts, Narrows, narrowed, Clears, cleared, Reads, byte_before, reads_before, Row, At, old_of, olds, put_by, in_front, puts, is_label, is_none}
+use Rattle.lean_code.specs.Rows.{Note, Act, Keeps, Drops, Puts, Narrows, narrowed, Clears, cleared, Reads, Tests, FlagName, Carry, Zero, tests_flag, byte_before, reads_before, Row, At, old_of, olds, put_by, in_front, puts, is_label, is_none}
 use Rattle.lean_code.specs.Steady.{skips, next_stays, next_leads_on, is_steady_skip, puts_return, is_steady_row, is_steady}
 
 pub never : {A : Type 0} → false ≡ true → A
@@ -115,6 +115,19 @@ read_skip n (syms.Bit Btfss operand bit) = refl
 read_skip n (syms.Bit op operand bit) = refl
 read_skip n s = refl
 
+test_label : (flag : FlagName) (turned : Bool) (s : Sym) → is_label s ≡ false → is_label (tests_flag flag turned s) ≡ false
+test_label flag turned (syms.Bit op operand bit) l = refl
+test_label flag turned s l = l
+
+test_skip : (flag : FlagName) (turned : Bool) (s : Sym) → is_skip (tests_flag flag turned s) ≡ is_skip s
+test_skip flag true (syms.Bit Btfsc operand bit) = refl
+test_skip flag true (syms.Bit Btfss operand bit) = refl
+test_skip flag true (syms.Bit op operand bit) = refl
+test_skip flag false (syms.Bit Btfsc operand bit) = refl
+test_skip flag false (syms.Bit Btfss operand bit) = refl
+test_skip flag false (syms.Bit op operand bit) = refl
+test_skip flag turned s = refl
+
 pub same_skip : (s : Sym) → skips s ≡ is_skip s
 same_skip (syms.File Decfsz operand to) = refl
 same_skip (syms.File Incfsz operand to) = refl
@@ -182,6 +195,9 @@ straight_made (At s Clears said ∷ ys) zs e f =
 straight_made (At s (Reads n) said ∷ ys) zs e f =
     put_front (reads_before n s) (puts ys) (read_label n s (straight_first s (olds ys) e)) (λ none. read_skip n s ∙ kept_skip s ys zs e (skip_act s (Reads n) said (ys ++ zs) f) none)
     (straight_made ys zs (straight_later s (olds ys) e) (steady_later s (Reads n) said (ys ++ zs) f))
+straight_made (At s (Tests flag turned) said ∷ ys) zs e f =
+    put_front (tests_flag flag turned s) (puts ys) (test_label flag turned s (straight_first s (olds ys) e)) (λ none. test_skip flag turned s ∙ kept_skip s ys zs e (skip_act s (Tests flag turned) said (ys ++ zs) f) none)
+    (straight_made ys zs (straight_later s (olds ys) e) (steady_later s (Tests flag turned) said (ys ++ zs) f))
 
 -- ---- instructions that ask for no bank but that of one frame
 near_literal : (c size : ℕ) (op : LiteralOperation) (value : Literal) → is_retlw op ≡ false → IsNear c size (syms.Literal op value)
@@ -210,6 +226,11 @@ near_read c size n (syms.Bit op (operands.Byte byte) bit) h = near_byte c size n
 near_read c size n (syms.Bit op (operands.Saved cell) bit) h = absurd h
 near_read c size n s h = h
 
+near_test : (c size : ℕ) (flag : FlagName) (turned : Bool) (s : Sym) → IsNear c size s → IsNear c size (tests_flag flag turned s)
+near_test c size Carry turned (syms.Bit op operand bit) h = omega arith
+near_test c size Zero turned (syms.Bit op operand bit) h = omega arith
+near_test c size flag turned s h = h
+
 pub near_made : (c size : ℕ) (ys zs : List Row) → is_steady (ys ++ zs) ≡ true → AreNear c size (olds ys) → AreNear c size (puts ys)
 near_made c size [] zs e h = tt
 near_made c size (At (syms.Label label) act said ∷ ys) zs e h = absurd h.0
@@ -220,3 +241,4 @@ near_made c size (At s (Puts op n) said ∷ ys) zs e h =
 near_made c size (At s Narrows said ∷ ys) zs e h = (near_narrowed c size s h.0, near_made c size ys zs (steady_later s Narrows said (ys ++ zs) e) h.1)
 near_made c size (At s Clears said ∷ ys) zs e h = (near_cleared c size s h.0, near_made c size ys zs (steady_later s Clears said (ys ++ zs) e) h.1)
 near_made c size (At s (Reads n) said ∷ ys) zs e h = (near_read c size n s h.0, near_made c size ys zs (steady_later s (Reads n) said (ys ++ zs) e) h.1)
+near_made c size (At s (Tests flag turned) said ∷ ys) zs e h = (near_test c size flag turned s h.0, near_made c size ys zs (steady_later s (Tests flag turned) said (ys ++ zs) e) h.1)

@@ -7,7 +7,7 @@ use Rattle.sym_code.specs.declared.code.Sym.{Sym}
 use Rattle.sym_code.specs.declared.code.Sym.TheVariants as syms
 use Rattle.math_helpers.specs.Shape.{most_words, is_straight, sum_from}
 use Rattle.select_wide.specs.Links.{AreNear}
-use Rattle.lean_code.specs.Rows.{Keeps, Drops, Puts, Narrows, narrowed, Clears, cleared, Reads, reads_before, Row, At, olds, put_by, in_front, puts, is_none, place_in}
+use Rattle.lean_code.specs.Rows.{Keeps, Drops, Puts, Narrows, narrowed, Clears, cleared, Reads, reads_before, Tests, tests_flag, Row, At, olds, put_by, in_front, puts, is_none, place_in}
 use Rattle.lean_code.specs.Links.{price_at}
 use Rattle.lean_code.specs.Steady.{is_steady}
 use Rattle.lean_prices.specs.Prices.{carried_by}
@@ -71,6 +71,9 @@ front_sum price (At s Clears said ∷ ys) zs e =
     (front_sum (λ k. price (suc k)) ys zs (straight_later s (olds ys) e))
 front_sum price (At s (Reads n) said ∷ ys) zs e =
     sum_stays (carried_by (At s (Reads n) said ∷ ys ++ zs) price) price (carried_by (ys ++ zs) (λ k. price (suc k))) s (reads_before n s) (olds ys) (puts ys) refl (λ k. refl)
+    (front_sum (λ k. price (suc k)) ys zs (straight_later s (olds ys) e))
+front_sum price (At s (Tests flag turned) said ∷ ys) zs e =
+    sum_stays (carried_by (At s (Tests flag turned) said ∷ ys ++ zs) price) price (carried_by (ys ++ zs) (λ k. price (suc k))) s (tests_flag flag turned s) (olds ys) (puts ys) refl (λ k. refl)
     (front_sum (λ k. price (suc k)) ys zs (straight_later s (olds ys) e))
 
 front : (price : ℕ → ℕ) (ys zs : List Row) → is_straight (olds ys) ≡ true → is_steady (ys ++ zs) ≡ true → Stretch (carried_by (ys ++ zs) price) price (puts (ys ++ zs)) 0 (olds ys)

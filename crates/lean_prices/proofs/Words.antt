@@ -10,7 +10,7 @@ use Rattle.sym_code.specs.declared.code.Operand.TheVariants as operands
 use Rattle.sym_code.specs.declared.code.Sym.{Sym}
 use Rattle.sym_code.specs.declared.code.Sym.TheVariants as syms
 use Rattle.math_helpers.specs.Shape.{is_in_frame, accesses_frame, jumps, select_words, words_from, most_words}
-use Rattle.lean_code.specs.Rows.{Keeps, Drops, Puts, Narrows, narrowed, Clears, cleared, Reads, operand_before, reads_before, Row, At, olds, puts, is_label}
+use Rattle.lean_code.specs.Rows.{Keeps, Drops, Puts, Narrows, narrowed, Clears, cleared, Reads, Tests, FlagName, tests_flag, operand_before, reads_before, Row, At, olds, puts, is_label}
 use Rattle.lean_prices.proofs.Rows.{never}
 
 -- ---- two selects for each byte in a bank, and for each jump and call
@@ -52,6 +52,10 @@ read_most n (syms.File op operand to) = let same = operand_most n operand in ome
 read_most n (syms.Bit op operand bit) = let same = operand_most n operand in omega arith
 read_most n s = omega arith
 
+test_most : (flag : FlagName) (turned : Bool) (s : Sym) → most_of_one (tests_flag flag turned s) ≤ most_of_one s
+test_most flag turned (syms.Bit op operand bit) = one_operand operand
+test_most flag turned s = omega arith
+
 more : (s t : Sym) (list made : List Sym) → most_of_one t ≤ most_of_one s → words.most_words made ≤ words.most_words list → words.most_words (t ∷ made) ≤ words.most_words (s ∷ list)
 more s t list made one before =
     let a = sum_by-cons most_of_one s list in
@@ -70,6 +74,7 @@ most_fewer (At s (Puts op n) said ∷ rows) = more s (syms.Literal op (Number n)
 most_fewer (At s Narrows said ∷ rows) = more s (narrowed s) (olds rows) (puts rows) (narrowed_most s) (most_fewer rows)
 most_fewer (At s Clears said ∷ rows) = more s (cleared s) (olds rows) (puts rows) (cleared_most s) (most_fewer rows)
 most_fewer (At s (Reads n) said ∷ rows) = more s (reads_before n s) (olds rows) (puts rows) (read_most n s) (most_fewer rows)
+most_fewer (At s (Tests flag turned) said ∷ rows) = more s (tests_flag flag turned s) (olds rows) (puts rows) (test_most flag turned s) (most_fewer rows)
 
 -- ---- the selects of the frame's bank and of the page where they aren't selected
 -- an access that stays, or becomes none: what was selected by it may have to be selected later on
@@ -172,6 +177,18 @@ read_word n (syms.File op operand to) l = refl
 read_word n (syms.Bit op operand bit) l = refl
 read_word n s l = l
 
+test_frame : (flag : FlagName) (turned : Bool) (s : Sym) → accesses_frame (tests_flag flag turned s) ≡ true → accesses_frame s ≡ true
+test_frame flag turned (syms.Bit op operand bit) e = never e
+test_frame flag turned s e = e
+
+test_jumps : (flag : FlagName) (turned : Bool) (s : Sym) → jumps (tests_flag flag turned s) ≡ true → jumps s ≡ true
+test_jumps flag turned (syms.Bit op operand bit) e = e
+test_jumps flag turned s e = e
+
+test_word : (flag : FlagName) (turned : Bool) (s : Sym) → is_label s ≡ false → is_label (tests_flag flag turned s) ≡ false
+test_word flag turned (syms.Bit op operand bit) l = refl
+test_word flag turned s l = l
+
 few_from : (rows : List Row) → Fewer (olds rows) (puts rows)
 few_from [] b p c q = omega arith
 few_from (At (syms.Label label) act said ∷ rows) b p c q = let later = few_from rows false false false false in omega arith
@@ -181,6 +198,7 @@ few_from (At s (Puts op n) said ∷ rows) b p c q = stays s (syms.Literal op (Nu
 few_from (At s Narrows said ∷ rows) b p c q = stays s (narrowed s) (olds rows) (puts rows) refl (narrowed_word s refl) (narrowed_frame s) (narrowed_jumps s) (few_from rows) b p c q
 few_from (At s Clears said ∷ rows) b p c q = stays s (cleared s) (olds rows) (puts rows) refl (cleared_word s refl) (cleared_frame s) (cleared_jumps s) (few_from rows) b p c q
 few_from (At s (Reads n) said ∷ rows) b p c q = stays s (reads_before n s) (olds rows) (puts rows) refl (read_word n s refl) (read_frame n s) (read_jumps n s) (few_from rows) b p c q
+few_from (At s (Tests flag turned) said ∷ rows) b p c q = stays s (tests_flag flag turned s) (olds rows) (puts rows) refl (test_word flag turned s refl) (test_frame flag turned s) (test_jumps flag turned s) (few_from rows) b p c q
 
 pub routine_fewer : (rows : List Row) → most_words (puts rows) ≤ most_words (olds rows)
 routine_fewer rows = let few = few_from rows false false false false in omega arith

@@ -2,7 +2,7 @@
 use Rattle.std.proofs.Common.{◌≡◌, ℕ, Bool, true, false, ◌||◌, List, [], ◌∷◌, Option, sym, ap, ◌∙◌, refl, subst}
 use Rattle.code_place.specs.Places.{label_of, is_label}
 use Rattle.lean_blocks.specs.Leaner.{IsLeaner}
-use Rattle.lean_code.specs.Rows.{Keeps, Drops, Puts, Narrows, narrowed, Clears, cleared, Reads, reads_before, Row, At, olds, puts}
+use Rattle.lean_code.specs.Rows.{Keeps, Drops, Puts, Narrows, narrowed, Clears, cleared, Reads, Tests, FlagName, tests_flag, reads_before, Row, At, olds, puts}
 use Rattle.sym_code.specs.declared.code.Label.{Label}
 use Rattle.sym_code.specs.declared.code.Sym.{Sym}
 use Rattle.sym_code.specs.declared.code.Sym.TheVariants as syms
@@ -55,6 +55,19 @@ read_labels label n (syms.Label other) = refl
 read_labels label n (syms.SelectBank bit on) = refl
 read_labels label n (syms.SelectPage bit target) = refl
 
+test_labels : (label : Label) (flag : FlagName) (turned : Bool) (s : Sym) → is_label label (label_of (tests_flag flag turned s)) ≡ is_label label (label_of s)
+test_labels label flag turned (syms.File op file into) = refl
+test_labels label flag turned (syms.Movwf file) = refl
+test_labels label flag turned (syms.Clrf file) = refl
+test_labels label flag turned (syms.Bit op file bit) = refl
+test_labels label flag turned (syms.Literal op value) = refl
+test_labels label flag turned (syms.Plain op) = refl
+test_labels label flag turned (syms.Call target) = refl
+test_labels label flag turned (syms.Goto target) = refl
+test_labels label flag turned (syms.Label other) = refl
+test_labels label flag turned (syms.SelectBank bit on) = refl
+test_labels label flag turned (syms.SelectPage bit target) = refl
+
 rows_keep : (label : Label) (rows : List Row) → has_label label (olds rows) ≡ true → has_label label (puts rows) ≡ true
 rows_keep label [] e = e
 rows_keep label (At (syms.Label other) act said ∷ rows) e = behind (is_label label (label_of (syms.Label other))) (has_label label (olds rows)) (has_label label (puts rows)) (rows_keep label rows) e
@@ -67,6 +80,8 @@ rows_keep label (At s Clears said ∷ rows) e =
     ap (λ b. b || has_label label (puts rows)) (cleared_labels label s) ∙ behind (is_label label (label_of s)) (has_label label (olds rows)) (has_label label (puts rows)) (rows_keep label rows) e
 rows_keep label (At s (Reads n) said ∷ rows) e =
     ap (λ b. b || has_label label (puts rows)) (read_labels label n s) ∙ behind (is_label label (label_of s)) (has_label label (olds rows)) (has_label label (puts rows)) (rows_keep label rows) e
+rows_keep label (At s (Tests flag turned) said ∷ rows) e =
+    ap (λ b. b || has_label label (puts rows)) (test_labels label flag turned s) ∙ behind (is_label label (label_of s)) (has_label label (olds rows)) (has_label label (puts rows)) (rows_keep label rows) e
 
 pub lean_keeps : (label : Label) (given block : SymBlock) → IsLeaner given block → has_label label given.list.items ≡ true → has_label label block.list.items ≡ true
 lean_keeps label given block is e = ap (has_label label) is.after ∙ rows_keep label is.rows (ap (has_label label) (sym is.before) ∙ e)
@@ -112,6 +127,19 @@ module _ (target : Target → Option ℕ) where
   read_has n (syms.SelectBank bit on) h = h
   read_has n (syms.SelectPage bit to) h = h
 
+  test_has : (flag : FlagName) (turned : Bool) (s : Sym) → HasTarget target s → HasTarget target (tests_flag flag turned s)
+  test_has flag turned (syms.File op file into) h = h
+  test_has flag turned (syms.Movwf file) h = h
+  test_has flag turned (syms.Clrf file) h = h
+  test_has flag turned (syms.Bit op file bit) h = h
+  test_has flag turned (syms.Literal op value) h = h
+  test_has flag turned (syms.Plain op) h = h
+  test_has flag turned (syms.Call to) h = h
+  test_has flag turned (syms.Goto to) h = h
+  test_has flag turned (syms.Label label) h = h
+  test_has flag turned (syms.SelectBank bit on) h = h
+  test_has flag turned (syms.SelectPage bit to) h = h
+
   rows_have : (rows : List Row) → HaveTargets target (olds rows) → HaveTargets target (puts rows)
   rows_have [] h = h
   rows_have (At (syms.Label label) act said ∷ rows) h = (h.0, rows_have rows h.1)
@@ -121,6 +149,7 @@ module _ (target : Target → Option ℕ) where
   rows_have (At s Narrows said ∷ rows) h = (narrowed_has s h.0, rows_have rows h.1)
   rows_have (At s Clears said ∷ rows) h = (cleared_has s h.0, rows_have rows h.1)
   rows_have (At s (Reads n) said ∷ rows) h = (read_has n s h.0, rows_have rows h.1)
+  rows_have (At s (Tests flag turned) said ∷ rows) h = (test_has flag turned s h.0, rows_have rows h.1)
 
   pub lean_have : (given block : SymBlock) → IsLeaner given block → HaveTargets target given.list.items → HaveTargets target block.list.items
   lean_have given block is h =

@@ -11,5 +11,6 @@ mod Rows
 mod Expressions
 mod Statements
 mod Lowering
+mod Narrowing
 mod Joining
 pub mod Whole

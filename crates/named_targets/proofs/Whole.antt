@@ -15,6 +15,7 @@ use Rattle.call_graph.specs.Copies.{AreCopies, IsDepth, root_of}
 use Rattle.call_graph.specs.Levels.{IsAcyclic}
 use Rattle.call_graph.specs.Numbers.{handler_at}
 use Rattle.call_graph.specs.declared.types.FnCopy.{FnCopy}
+use Rattle.core_code.specs.Tree.{trees_of}
 use Rattle.core_code.specs.View.{trees_in}
 use Rattle.core_code.specs.declared.code.Body.{Body}
 use Rattle.core_code.specs.declared.code.CoreProgram.{CoreProgram}
@@ -45,11 +46,13 @@ use Rattle.code_place.specs.Sizes.{Fit}
 use Rattle.flow_facts.specs.Thin.{IsThin, IsThinned}
 use Rattle.program_code.specs.Passed.{AreBlocks}
 use Rattle.program_code.specs.Translated.{HasCalls}
+use Rattle.named_targets.specs.Calling.{all_below}
 use Rattle.named_targets.specs.There.{HaveTargets, TargetsAreThere, EndsAreThere}
 use Rattle.named_targets.proofs.Control.{body_have}
 use Rattle.named_targets.proofs.Leaner.{lean_keeps, lean_have}
 use Rattle.named_targets.proofs.Joining.{code_for, IsOfCopy, block_kind, start_there, copy_block}
 use Rattle.named_targets.proofs.Lowering.{each_below}
+use Rattle.named_targets.proofs.Narrowing.{narrower_below}
 use Rattle.named_targets.proofs.Naming.{has_label, LabelsFound, all_found, named_below}
 use Rattle.named_targets.proofs.Operations.{wide_calls}
 use Rattle.named_targets.proofs.Placing.{label_found, block_found, label_placed}
@@ -179,12 +182,16 @@ module _ (p : Program) (copies : List FnCopy) (core : CoreProgram) (given lean w
       by true handler is = (halt_there, tt)
       by false handler is = restores handler is (is_number handler number) refl
 
+    calls_there : (number : ℕ) (body : Body) → body_at core.bodies.items number ≡ Some body → all_below (length copies) (trees_of (trees_in body.code.items)) ≡ true
+    calls_there number body is =
+        narrower_below (length copies) blocks.lowered core blocks.code (each_below p copies (some_copy p copies calls) blocks.lowered.bodies.items blocks.bodies) number body is
+
     user_have : (number : ℕ) (o : Option Body) → body_at core.bodies.items number ≡ o → LabelsFound target (code_by copies number o) → HaveTargets target (code_by copies number o)
     user_have number None is found = tt
     user_have number (Some body) is found =
         body_have target (length copies) block_there (λ n before tree. wide_code copies body.root before tree)
         (λ n before tree. named_below target (length copies) block_there (wide_code copies body.root before tree) (wide_calls copies body.root before tree))
-        (ending_at (handler_at copies) number) (ends_have number) 0 (trees_in body.code.items) (each_below p copies (some_copy p copies calls) core.bodies.items blocks.bodies number body is) found
+        (ending_at (handler_at copies) number) (ends_have number) 0 (trees_in body.code.items) (calls_there number body is) found
 
     copy_have : (number : ℕ) (root : Root) (f : FnId) → LabelsFound target (code_for core.bodies.items copies number root f) → HaveTargets target (code_for core.bodies.items copies number root f)
     copy_have number root (callees.User f) found = user_have number (body_at core.bodies.items number) refl found

@@ -368,3 +368,89 @@ fn a_copy_of_a_variable_is_not_stored(rt: HostRuntime) -> Result<(), AllocError>
     assert_eq!(rt; code_of(made.get(0)), &wanted[..]);
     Ok(())
 }
+
+// `if (a < b)` of two bytes: the difference leaves its carry, and no 0 or 1 is made of it.
+#[test]
+fn a_comparison_decides_by_its_carry(rt: HostRuntime) -> Result<(), AllocError> {
+    let flag = |op: BitOperation, bit: u8| Sym::Bit {
+        op,
+        file: Operand::Register(Register::Status),
+        bit,
+    };
+    let given = [
+        to_w(FileOperation::Movf, temporary(1)),
+        to_w(FileOperation::Subwf, temporary(0)),
+        load(0),
+        flag(BitOperation::Btfss, 0),
+        load(1),
+        Sym::Movwf(temporary(4)),
+        Sym::Clrf(temporary(5)),
+        to_w(FileOperation::Movf, temporary(4)),
+        to_w(FileOperation::Iorwf, temporary(5)),
+        flag(BitOperation::Btfsc, 2),
+        goto(Label::Inner(0)),
+        load(7),
+        Sym::Movwf(ticks()),
+        Sym::Label(Label::Inner(0)),
+        goto(Label::Halt),
+    ];
+    let wanted = [
+        to_w(FileOperation::Movf, temporary(1)),
+        to_w(FileOperation::Subwf, temporary(0)),
+        flag(BitOperation::Btfsc, 0),
+        goto(Label::Inner(0)),
+        load(7),
+        Sym::Movwf(ticks()),
+        Sym::Label(Label::Inner(0)),
+        goto(Label::Halt),
+    ];
+    let made = main_with(rt.alloc(), 2, &given)?;
+    assert_eq!(rt; code_of(made.get(0)), &wanted[..]);
+    Ok(())
+}
+
+// The same of two ints whose high bytes are 0: the borrow goes on through the high bytes.
+#[test]
+fn a_borrow_of_nothing_is_the_carry(rt: HostRuntime) -> Result<(), AllocError> {
+    let flag = |op: BitOperation, bit: u8| Sym::Bit {
+        op,
+        file: Operand::Register(Register::Status),
+        bit,
+    };
+    let given = [
+        Sym::Clrf(temporary(4)),
+        Sym::Clrf(temporary(5)),
+        to_w(FileOperation::Movf, temporary(1)),
+        to_w(FileOperation::Subwf, temporary(0)),
+        to_w(FileOperation::Movf, temporary(5)),
+        flag(BitOperation::Btfss, 0),
+        to_w(FileOperation::Incfsz, temporary(5)),
+        to_w(FileOperation::Subwf, temporary(4)),
+        load(1),
+        flag(BitOperation::Btfss, 0),
+        load(0),
+        Sym::Movwf(temporary(4)),
+        Sym::Clrf(temporary(5)),
+        to_w(FileOperation::Movf, temporary(4)),
+        to_w(FileOperation::Iorwf, temporary(5)),
+        flag(BitOperation::Btfsc, 2),
+        goto(Label::Inner(0)),
+        load(7),
+        Sym::Movwf(ticks()),
+        Sym::Label(Label::Inner(0)),
+        goto(Label::Halt),
+    ];
+    let wanted = [
+        to_w(FileOperation::Movf, temporary(1)),
+        to_w(FileOperation::Subwf, temporary(0)),
+        flag(BitOperation::Btfss, 0),
+        goto(Label::Inner(0)),
+        load(7),
+        Sym::Movwf(ticks()),
+        Sym::Label(Label::Inner(0)),
+        goto(Label::Halt),
+    ];
+    let made = main_with(rt.alloc(), 2, &given)?;
+    assert_eq!(rt; code_of(made.get(0)), &wanted[..]);
+    Ok(())
+}

@@ -1,6 +1,6 @@
 -- What is known of a program before its code is made, and what the passes ask for by it: numbers have room, selects can be put, blocks have room
 -- where they stand, and what they name has an address.
-use Rattle.std.proofs.Common.{◌≡◌, ℕ, ◌≤◌, true, List, [], ◌∷◌, length, map, None, ◌∙◌, subst, arith}
+use Rattle.std.proofs.Common.{◌≡◌, ℕ, ◌≤◌, true, List, [], ◌∷◌, length, map, None, refl, ap, ◌∙◌, subst, arith}
 use Rattle.std.specs.List.{All, AllZip}
 use Rattle.std.proofs.lemmas.List.{length-map}
 use Rattle.c_typed.specs.Chains.{graph_of}
@@ -31,7 +31,8 @@ use Rattle.code_place.specs.Places.{BlocksHaveAddresses, HasEnds}
 use Rattle.code_place.specs.Sizes.{Fit}
 use Rattle.flow_facts.proofs.Kept.{thinning_keeps}
 use Rattle.program_code.specs.Joined.{IsJoined}
-use Rattle.program_code.specs.Passed.{AreBlocks}
+use Rattle.program_code.proofs.Bodies.{statics_kept}
+use Rattle.program_code.specs.Passed.{AreBlocks, AsLowered}
 use Rattle.ram_place.specs.Placement.{IsPlacing, LiveFramesAreDisjoint, FramesAreClear, ObjectsAreDisjoint}
 use Rattle.src_rules.specs.Numbers.{ProgramHasNumbers}
 use Rattle.word_bounds.specs.There as there
@@ -89,7 +90,7 @@ module _ (typed : Typed) (copies : List FnCopy) (placed : Placed) (at : List ℕ
   -- ---- code
   module _ (core : CoreProgram) (bodies : map body_of core.bodies.items ≡ bodies_of (program_of typed) copies) (statics : map items_of core.statics.items ≡ first_bytes (program_of typed)) where
     operands : (given : List SymBlock) → IsJoined core copies given → BlocksHaveOperands placed given × BlocksStandInside placed given
-    operands given joined = operands_have_addresses typed copies core given placed founded.sound founded.roots founded.numbers bodies joined founded.calls founded.spread.placing statics statics_few
+    operands given joined = operands_have_addresses typed copies core core given placed founded.sound founded.roots founded.numbers bodies (AsLowered refl) joined founded.calls founded.spread.placing statics statics_few
 
     -- Selects can be put into the blocks that are joined from it.
     pub ready : (given : List SymBlock) → IsJoined core copies given → All (CanSelect placed) given
@@ -98,12 +99,18 @@ module _ (typed : Typed) (copies : List FnCopy) (placed : Placed) (at : List ℕ
         blocks_can_select (program_of typed) copies core given placed bodies joined (frames_whole (program_of typed) copies placed founded.spread.placing) (λ k d lt. are_there placed _ (inside k d lt))
 
     module _ (made : List SymBlock) (symbolic : IsSymbolic (program_of typed) core copies placed at made) where
-      pub blocks : AreBlocks (program_of typed) copies core symbolic.given symbolic.lean symbolic.selects.whole placed
+      -- what objects begin with in the byte code that blocks are made of
+      pub first : map items_of symbolic.core.statics.items ≡ first_bytes (program_of typed)
+      first = statics_kept core symbolic.core symbolic.code ∙ statics
+
+      pub blocks : AreBlocks (program_of typed) copies symbolic.core symbolic.given symbolic.lean symbolic.selects.whole placed
       blocks = record {
         sound = founded.sound;
         roots = founded.roots;
         numbers = founded.numbers;
+        lowered = core;
         bodies = bodies;
+        code = symbolic.code;
         joined = symbolic.joined;
         leaner = symbolic.leaner;
         names = symbolic.selects.names;
@@ -117,14 +124,18 @@ module _ (typed : Typed) (copies : List FnCopy) (placed : Placed) (at : List ℕ
       -- code as it was selected has room by what is stated of it, and leaner code was seen to have it
       pub fit : Fit made at
       fit = by symbolic.room where
-        by : IsRoomy symbolic.given symbolic.lean made at → Fit made at
-        by (AsGiven same) =
-            translations_fit typed copies core symbolic.given symbolic.selects.whole made placed at
-            (subst (λ (l : List SymBlock). AreBlocks (program_of typed) copies core symbolic.given l symbolic.selects.whole placed) same blocks) symbolic.selects.thinned founded.calls founded.spread.placing statics founded.paged
+        by : IsRoomy core symbolic.core symbolic.given symbolic.lean made at → Fit made at
+        by (AsGiven lowered same) =
+            translations_fit typed copies symbolic.core symbolic.given symbolic.selects.whole made placed at
+            (subst (λ (l : List SymBlock). AreBlocks (program_of typed) copies symbolic.core symbolic.given l symbolic.selects.whole placed) same blocks) (ap (λ (q : CoreProgram). map body_of q.bodies.items) lowered ∙ bodies)
+            symbolic.selects.thinned founded.calls founded.spread.placing first founded.paged
         by (Seen has) = has
 
       pub ends : HasEnds made at
-      ends = targets.ends_are_there (program_of typed) copies core symbolic.given symbolic.lean symbolic.selects.whole made placed at blocks symbolic.selects.thinned founded.calls fit
+      ends = targets.ends_are_there (program_of typed) copies symbolic.core symbolic.given symbolic.lean symbolic.selects.whole made placed at blocks symbolic.selects.thinned founded.calls fit
+
+      all_operands : BlocksHaveOperands placed symbolic.given × BlocksStandInside placed symbolic.given
+      all_operands = operands_have_addresses typed copies core symbolic.core symbolic.given placed founded.sound founded.roots founded.numbers bodies symbolic.code symbolic.joined founded.calls founded.spread.placing first statics_few
 
       lists_kept : bare_lists made ≡ bare_lists symbolic.lean
       lists_kept = (thinning_keeps placed (handler_at copies) symbolic.selects.whole made symbolic.selects.thinned symbolic.selects.apart symbolic.selects.reaches).lists ∙ symbolic.selects.bare
@@ -134,5 +145,5 @@ module _ (typed : Typed) (copies : List FnCopy) (placed : Placed) (at : List ℕ
 
       pub named : BlocksHaveAddresses placed made at
       named =
-          all_is_there placed made at (targets.targets_are_there (program_of typed) copies core symbolic.given symbolic.lean symbolic.selects.whole made placed at blocks symbolic.selects.thinned founded.calls fit)
-          (selects_keep_operands placed symbolic.lean made lists_kept (lean_keeps_operands placed symbolic.given symbolic.lean leaner (operands symbolic.given symbolic.joined).0))
+          all_is_there placed made at (targets.targets_are_there (program_of typed) copies symbolic.core symbolic.given symbolic.lean symbolic.selects.whole made placed at blocks symbolic.selects.thinned founded.calls fit)
+          (selects_keep_operands placed symbolic.lean made lists_kept (lean_keeps_operands placed symbolic.given symbolic.lean leaner all_operands.0))

@@ -1,5 +1,5 @@
 -- The numbers of variables' bytes that the pass is given are those of byte code.
-use Rattle.std.proofs.Common.{◌≡◌, ℕ, zero, suc, ◌+◌, ◌≤◌, List, [], ◌∷◌, map, Option, Some, None, refl, ap, ◌∙◌, subst, arith}
+use Rattle.std.proofs.Common.{◌≡◌, ℕ, zero, suc, ◌+◌, ◌≤◌, List, [], ◌∷◌, map, Option, Some, None, refl, ap, ◌∙◌, length, subst, arith}
 use Rattle.std.specs.Prelude.{IfSome, slice_get, slice_index_or}
 use Rattle.std.proofs.Math.Nat.{min-eq_left}
 use mathlib.Core.Path.{fun_ext}
@@ -22,10 +22,14 @@ use Rattle.lower_stmt.specs.Programs.{core_of, size_or_none, function_at, functi
 use Rattle.pic_map.specs.declared.Placed.{Placed}
 use Rattle.program_code.specs.Joined.{IsJoined}
 use Rattle.ram_place.specs.Sizes as sizes
-use Rattle.std.specs.List.{AllZip}
+use Rattle.isr_save.specs.Start.{HasNumberedBytes}
+use Rattle.std.specs.List.{All, AllZip}
 use Rattle.sym_code.specs.declared.code.SymBlock.{SymBlock}
 use Rattle.sym_code.specs.declared.code.SymProgram.{SymProgram}
-use Rattle.picc_core.specs.Coded.{HasSelects, IsLeanTo, AsGiven, Seen, IsSymbolic}
+use Rattle.narrow_pass.specs.Narrowed.{IsNarrowed}
+use Rattle.program_code.proofs.Bodies.{few_kept, short_kept}
+use Rattle.program_code.specs.Passed.{IsByteCode, AsLowered, Narrower}
+use Rattle.picc_core.specs.Coded.{HasSelects, IsLeanTo, IsLeanOf, AsGiven, Seen, IsSymbolic}
 use Rattle.picc_core.specs.Founded.{IsFounded}
 
 -- ---- lists
@@ -41,6 +45,16 @@ map_or f (x ∷ xs) (suc k) = map_or f xs k
 -- a count that is small is kept whole
 capped_is : (n : ℕ) → n ≤ 96 → capped n ≡ n
 capped_is n few = min-eq_left (omega (arith, few))
+
+-- ---- byte code with operators on low bytes
+narrowed_code : (lowered : CoreProgram) (narrowed : Option CoreProgram) (core : CoreProgram) → IfSome narrowed (λ n. IsNarrowed lowered n) → narrowed ≡ Some core → IsByteCode lowered core
+narrowed_code lowered narrowed core all is = Narrower (subst (λ (o : Option CoreProgram). IfSome o (λ n. IsNarrowed lowered n)) is all)
+
+pub narrowed_few : (lowered : CoreProgram) (narrowed : Option CoreProgram) (core : CoreProgram) → IfSome narrowed (λ n. IsNarrowed lowered n) → narrowed ≡ Some core → length lowered.statics.items ≤ 65536 → length core.statics.items ≤ 65536
+narrowed_few lowered narrowed core all is few = let same = few_kept lowered core (narrowed_code lowered narrowed core all is) in omega (arith, same, few)
+
+pub narrowed_short : (lowered : CoreProgram) (narrowed : Option CoreProgram) (core : CoreProgram) → IfSome narrowed (λ n. IsNarrowed lowered n) → narrowed ≡ Some core → All HasNumberedBytes lowered.statics.items → All HasNumberedBytes core.statics.items
+narrowed_short lowered narrowed core all is short = short_kept lowered core (narrowed_code lowered narrowed core all is) short
 
 -- ---- bytes of variables
 module _ (typed : Typed) (copies : List FnCopy) (placed : Placed) (at : List ℕ) (founded : IsFounded typed copies placed at) where
@@ -89,13 +103,31 @@ module _ (typed : Typed) (copies : List FnCopy) (placed : Placed) (at : List ℕ
       (subst (λ (m : List SymBlock). Fit m at) of_made fit)
 
   -- ---- all that is known of the code
-  leaner_symbolic : (core : CoreProgram) (given made : List SymBlock) → IsJoined core copies given → IsLeanTo p copies placed at given made → IsSymbolic p core copies placed at made
-  leaner_symbolic core given made joined is = record { given = given; joined = joined; lean = is.lean; leaner = is.leaner; selects = is.selects; room = Seen is.fit }
+  -- leaner blocks of some byte code
+  pub lean_of : (core : CoreProgram) (given : List SymBlock) (found : Option SymProgram) → IsJoined core copies given → IfSome found (λ m. IsLeanTo p copies placed at given m.blocks.items) → IfSome found (λ m. IsLeanOf p core copies placed at m.blocks.items)
+  lean_of core given None joined all = tt
+  lean_of core given (Some made) joined is = record { given = given; joined = joined; is = is }
 
-  pub found_symbolic : (core : CoreProgram) (given : List SymBlock) (found : Option SymProgram) (made : SymProgram) → IsJoined core copies given → IfSome found (λ m. IsLeanTo p copies placed at given m.blocks.items) → found ≡ Some made
-      → IsSymbolic p core copies placed at made.blocks.items
-  found_symbolic core given found made joined all is =
-      leaner_symbolic core given made.blocks.items joined (subst (λ (o : Option SymProgram). IfSome o (λ m. IsLeanTo p copies placed at given m.blocks.items)) is all)
+  symbolic_of : (lowered core : CoreProgram) (made : List SymBlock) → IsByteCode lowered core → IsLeanOf p core copies placed at made → IsSymbolic p lowered copies placed at made
+  symbolic_of lowered core made code of = record { core = core; code = code; given = of.given; joined = of.joined; lean = of.is.lean; leaner = of.is.leaner; selects = of.is.selects; room = Seen of.is.fit }
+
+  -- of byte code with operators on low bytes,
+  from_narrower : (lowered core : CoreProgram) (found : Option SymProgram) → IsByteCode lowered core → IfSome found (λ m. IsLeanOf p core copies placed at m.blocks.items) → IfSome found (λ m. IsSymbolic p lowered copies placed at m.blocks.items)
+  from_narrower lowered core None is all = tt
+  from_narrower lowered core (Some made) is of = symbolic_of lowered core made.blocks.items is of
+
+  pub narrower_symbolic : (lowered : CoreProgram) (narrowed : Option CoreProgram) (core : CoreProgram) (found : Option SymProgram) → IfSome narrowed (λ n. IsNarrowed lowered n) → narrowed ≡ Some core
+      → IfSome found (λ m. IsLeanOf p core copies placed at m.blocks.items) → IfSome found (λ m. IsSymbolic p lowered copies placed at m.blocks.items)
+  narrower_symbolic lowered narrowed core found all is of = from_narrower lowered core found (narrowed_code lowered narrowed core all is) of
+
+  -- what is found is such code
+  pub some_symbolic : (lowered : CoreProgram) (found : Option SymProgram) (made : SymProgram) → IfSome found (λ m. IsSymbolic p lowered copies placed at m.blocks.items) → found ≡ Some made → IsSymbolic p lowered copies placed at made.blocks.items
+  some_symbolic lowered found made all is = subst (λ (o : Option SymProgram). IfSome o (λ m. IsSymbolic p lowered copies placed at m.blocks.items)) is all
+
+  -- and of byte code as it is lowered
+  pub lowered_symbolic : (core : CoreProgram) (found : Option SymProgram) → IfSome found (λ m. IsLeanOf p core copies placed at m.blocks.items) → IfSome found (λ m. IsSymbolic p core copies placed at m.blocks.items)
+  lowered_symbolic core None all = tt
+  lowered_symbolic core (Some made) of = symbolic_of core core made.blocks.items (AsLowered refl) of
 
   all_as_given : (blocks : List SymBlock) → AllZip IsAsGiven blocks blocks
   all_as_given [] = tt
@@ -104,10 +136,12 @@ module _ (typed : Typed) (copies : List FnCopy) (placed : Placed) (at : List ℕ
   -- as it was selected
   pub given_symbolic : (core : CoreProgram) (handler : Option ℕ) (given made : List SymBlock) → IsJoined core copies given → handler ≡ handler_at copies → HasSelects placed handler given made → IsSymbolic p core copies placed at made
   given_symbolic core handler given made joined same selects = record {
+    core = core;
+    code = AsLowered refl;
     given = given;
     joined = joined;
     lean = given;
     leaner = Kept (all_as_given given);
     selects = subst (λ (h : Option ℕ). HasSelects placed h given made) same selects;
-    room = AsGiven refl;
+    room = AsGiven refl refl;
   }

@@ -23,7 +23,7 @@ use Rattle.image_links.proofs.Written.{maps_written}
 use Rattle.picc_core.specs.Coded.{IsCoded}
 use Rattle.picc_core.specs.Founded.{IsFounded}
 use Rattle.picc_core.specs.declared.known.Built.{Built}
-use Rattle.picc_core.proofs.Founding.{statics_few, blocks}
+use Rattle.picc_core.proofs.Founding.{statics_few, first, blocks}
 
 -- the addresses are those of the list that was lent
 pub coded_at : (p : Program) (copies : List FnCopy) (placed : Placed) (lent at image : List ℕ) (main halt : ℕ) → lent ≡ at → IsCoded p copies placed lent image main halt
@@ -41,11 +41,11 @@ pub record IsChecked (b : Built) : Type 0 where
 
 module _ (typed : Typed) (copies : List FnCopy) (placed : Placed) (at : List ℕ) (b : Built) (objects : b.map.objects ≡ placed.objects) (frames : b.map.frames ≡ placed.frames)
     (founded : IsFounded typed copies placed at) (code : IsCoded (program_of typed) copies placed at b.image b.map.main b.map.halt) where
-  passed : IsPassed (program_of typed) copies code.core code.symbolic.given code.made placed at
+  passed : IsPassed (program_of typed) copies code.symbolic.core code.symbolic.given code.made placed at
   passed = record {
     lean = code.symbolic.lean;
     whole = code.symbolic.selects.whole;
-    blocks = blocks typed copies placed at founded code.core code.bodies code.statics code.made code.symbolic;
+    blocks = blocks typed copies placed at founded code.lowered code.bodies code.statics code.made code.symbolic;
     thinned = code.symbolic.selects.thinned;
     fit = code.fit;
     named = code.named;
@@ -69,7 +69,7 @@ module _ (typed : Typed) (copies : List FnCopy) (placed : Placed) (at : List ℕ
       let whole = placing.each_object in
       let few = statics_few typed copies placed at founded in
       record {
-        range = maps_written (program_of typed) copies code.core code.symbolic.given code.made placed at (content_of b.map) passed placing code.begins code.ends names.objects names.frames;
+        range = maps_written (program_of typed) copies code.symbolic.core code.symbolic.given code.made placed at (content_of b.map) passed placing code.begins code.ends names.objects names.frames;
         few = omega (arith, long, whole, few);
         apart = names.apart;
       }
@@ -79,7 +79,7 @@ module _ (typed : Typed) (copies : List FnCopy) (placed : Placed) (at : List ℕ
   translated same is =
       let made : IsTranslated (program_of typed) b.image (content_of b.map) = record {
         copies = copies;
-        core = code.core;
+        core = code.symbolic.core;
         given = code.symbolic.given;
         made = code.made;
         placed = placed;
@@ -93,7 +93,7 @@ module _ (typed : Typed) (copies : List FnCopy) (placed : Placed) (at : List ℕ
           paged = founded.paged;
           passed = passed;
           written = record {
-            statics = code.statics;
+            statics = first typed copies placed at founded code.lowered code.bodies code.statics code.made code.symbolic;
             words = code.words;
             erased = code.erased;
             targets = code.targets;

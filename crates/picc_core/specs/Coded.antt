@@ -19,6 +19,7 @@ use Rattle.code_place.specs.Sizes.{Fit}
 use Rattle.flow_facts.specs.Thin.{IsThinned}
 use Rattle.lean_pass.specs.Made.{IsLean}
 use Rattle.program_code.specs.Joined.{IsJoined}
+use Rattle.program_code.specs.Passed.{IsByteCode}
 
 -- The blocks have the selects that they need, but for those that flow facts make needless.
 pub record HasSelects (placed : Placed) (handler : Option ℕ) (lean made : List SymBlock) : Type 0 where
@@ -31,10 +32,10 @@ pub record HasSelects (placed : Placed) (handler : Option ℕ) (lean made : List
   pub exact : AllZip (IsExact placed) lean whole
   pub thinned : IsThinned handler whole made
 
--- The code is as it was selected, or its blocks were seen to have room at their addresses.
-pub data IsRoomy (given lean made : List SymBlock) (at : List ℕ) : Type 0 where
-  AsGiven : lean ≡ given → IsRoomy given lean made at
-  Seen : Fit made at → IsRoomy given lean made at
+-- The code is as it was selected from byte code as it is lowered, or its blocks were seen to have room at their addresses.
+pub data IsRoomy (lowered core : CoreProgram) (given lean made : List SymBlock) (at : List ℕ) : Type 0 where
+  AsGiven : core ≡ lowered → lean ≡ given → IsRoomy lowered core given lean made at
+  Seen : Fit made at → IsRoomy lowered core given lean made at
 
 -- Leaner blocks with selects, which were seen to have room.
 pub record IsLeanTo (p : Program) (copies : List FnCopy) (placed : Placed) (at : List ℕ) (given made : List SymBlock) : Type 0 where
@@ -43,22 +44,31 @@ pub record IsLeanTo (p : Program) (copies : List FnCopy) (placed : Placed) (at :
   pub selects : HasSelects placed (handler_at copies) lean made
   pub fit : Fit made at
 
--- The blocks are those that are joined from byte code, without instructions on temporary bytes that nothing needs, and with selects.
-pub record IsSymbolic (p : Program) (core : CoreProgram) (copies : List FnCopy) (placed : Placed) (at : List ℕ) (made : List SymBlock) : Type 0 where
+-- .. of blocks that are joined from byte code
+pub record IsLeanOf (p : Program) (core : CoreProgram) (copies : List FnCopy) (placed : Placed) (at : List ℕ) (made : List SymBlock) : Type 0 where
+  pub given : List SymBlock
+  pub joined : IsJoined core copies given
+  pub is : IsLeanTo p copies placed at given made
+
+-- The blocks are those that are joined from byte code as it is lowered or with operators on low bytes, without instructions on temporary
+-- bytes that nothing needs, and with selects.
+pub record IsSymbolic (p : Program) (lowered : CoreProgram) (copies : List FnCopy) (placed : Placed) (at : List ℕ) (made : List SymBlock) : Type 0 where
+  pub core : CoreProgram
+  pub code : IsByteCode lowered core
   pub given : List SymBlock
   pub joined : IsJoined core copies given
   pub lean : List SymBlock
   pub leaner : IsLean (layout_of placed) (handler_at copies) (core_of p copies).variable_bytes given lean
   pub selects : HasSelects placed (handler_at copies) lean made
-  pub room : IsRoomy given lean made at
+  pub room : IsRoomy lowered core given lean made at
 
 -- The image has the words of such blocks at their addresses, and no others; main begins at the first copy's, and ends at the label for that.
 pub record IsCoded (p : Program) (copies : List FnCopy) (placed : Placed) (at image : List ℕ) (main halt : ℕ) : Type 0 where
-  pub core : CoreProgram
-  pub bodies : map body_of core.bodies.items ≡ bodies_of p copies
-  pub statics : map items_of core.statics.items ≡ first_bytes p
+  pub lowered : CoreProgram
+  pub bodies : map body_of lowered.bodies.items ≡ bodies_of p copies
+  pub statics : map items_of lowered.statics.items ≡ first_bytes p
   pub made : List SymBlock
-  pub symbolic : IsSymbolic p core copies placed at made
+  pub symbolic : IsSymbolic p lowered copies placed at made
   pub fit : Fit made at
   pub named : BlocksHaveAddresses placed made at
   pub words : HoldsInstructions placed made at image

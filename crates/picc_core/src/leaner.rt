@@ -10,7 +10,7 @@ ghost use Rattle.flow_facts.specs.Thin.{IsThinned};
 ghost use Rattle.isr_save.specs.Start.{HasNumberedBytes};
 ghost use Rattle.program_code.specs.Joined.{IsJoined};
 ghost use Rattle.ram_place.specs.Sizes as sizes;
-ghost use Rattle.picc_core.specs.Coded.{HasSelects, IsLeanTo, IsSymbolic};
+ghost use Rattle.picc_core.specs.Coded.{HasSelects, IsLeanOf, IsLeanTo, IsSymbolic};
 ghost use Rattle.picc_core.specs.Founded.{IsFounded};
 ghost use Rattle.sym_code.specs.declared.code.SymBlock.{SymBlock as Block};
 
@@ -22,6 +22,7 @@ use code_place::fits;
 use core_code::CoreProgram;
 use flow_facts::{thinned, thinned_plainly};
 use lean_pass::lean;
+use narrow_pass::narrow;
 use pic_map::Placed;
 use ram_place::variable_bytes;
 use std::alloc::{AllocError, Global};
@@ -30,7 +31,7 @@ use sym_code::SymProgram;
 /// What is left out of code.
 #[derive(Clone, Copy)]
 pub(crate) enum Saving {
-    /// Instructions on temporary bytes that nothing needs, and selects by what flow facts tell, over jumps, loops and calls.
+    /// Upper bytes of operators and instructions on temporary bytes that nothing needs, and selects by what flow facts tell, over jumps, loops and calls.
     Lean,
     /// Selects by what straight code tells alone.
     Plain,
@@ -105,6 +106,67 @@ fn leaner(
     }
 }
 
+// The blocks of some byte code, without the instructions that nothing needs, where that is had.
+fn leaner_of(
+    alloc: Global,
+    core: &CoreProgram,
+    typed: &Typed,
+    copies: &Copies,
+    placed: &Placed,
+    at: &[u16],
+) -> Result<Option<SymProgram>, AllocError>
+    requires founded { IsFounded typed.now copies.now.list.items placed.now at.now }
+    requires few { length core.now.statics.items ≤ 65536 }
+    requires short { All HasNumberedBytes core.now.statics.items }
+    ensures { IfOk result (λ found. IfSome found (λ made. IsLeanOf (program_of typed.now) core.now copies.now.list.items placed.now at.now made.blocks.items)) }
+{
+    let given = joined(alloc, core, copies)?;
+    let found = leaner(alloc, &given, typed, copies, placed, at)?;
+    Ok(found)
+}
+
+// Such blocks of byte code whose operators are done on low bytes, where nothing needs the others.
+fn narrower(
+    alloc: Global,
+    core: &CoreProgram,
+    typed: &Typed,
+    copies: &Copies,
+    placed: &Placed,
+    at: &[u16],
+) -> Result<Option<SymProgram>, AllocError>
+    requires founded { IsFounded typed.now copies.now.list.items placed.now at.now }
+    requires few { length core.now.statics.items ≤ 65536 }
+    requires short { All HasNumberedBytes core.now.statics.items }
+    ensures { IfOk result (λ found. IfSome found (λ made. IsSymbolic (program_of typed.now) core.now copies.now.list.items placed.now at.now made.blocks.items)) }
+{
+    if let Some(narrowed) = narrow(alloc, core)? {
+        let found = leaner_of(alloc, &narrowed, typed, copies, placed, at)?;
+        return Ok(found);
+    }
+    Ok(None)
+}
+
+// The leanest blocks: of byte code with operators on low bytes, or of byte code as it is.
+fn leanest(
+    alloc: Global,
+    core: &CoreProgram,
+    typed: &Typed,
+    copies: &Copies,
+    placed: &Placed,
+    at: &[u16],
+) -> Result<Option<SymProgram>, AllocError>
+    requires founded { IsFounded typed.now copies.now.list.items placed.now at.now }
+    requires few { length core.now.statics.items ≤ 65536 }
+    requires short { All HasNumberedBytes core.now.statics.items }
+    ensures { IfOk result (λ found. IfSome found (λ made. IsSymbolic (program_of typed.now) core.now copies.now.list.items placed.now at.now made.blocks.items)) }
+{
+    if let Some(made) = narrower(alloc, core, typed, copies, placed, at)? {
+        return Ok(Some(made));
+    }
+    let found = leaner_of(alloc, core, typed, copies, placed, at)?;
+    Ok(found)
+}
+
 /// The symbolic code of a program, each copy's block with the selects that it needs.
 pub(crate) fn symbolic_by(
     alloc: Global,
@@ -122,12 +184,12 @@ pub(crate) fn symbolic_by(
     requires ready { (given : List Block) → IsJoined core.now copies.now.list.items given → All (CanSelect placed.now) given }
     ensures { IfOk result (λ made. IsSymbolic (program_of typed.now) core.now copies.now.list.items placed.now at.now made.blocks.items) }
 {
-    let given = joined(alloc, core, copies)?;
     if let Saving::Lean = saving {
-        if let Some(made) = leaner(alloc, &given, typed, copies, placed, at)? {
+        if let Some(made) = leanest(alloc, core, typed, copies, placed, at)? {
             return Ok(made);
         }
     }
+    let given = joined(alloc, core, copies)?;
     let made = selected(alloc, &given, placed, handler_of(copies), saving)?;
     Ok(made)
 }

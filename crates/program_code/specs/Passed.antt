@@ -19,7 +19,13 @@ use Rattle.code_place.specs.Layouts.{layout_of}
 use Rattle.code_place.specs.Places.{BlocksHaveAddresses}
 use Rattle.code_place.specs.Sizes.{Fit}
 use Rattle.lean_pass.specs.Made.{IsLean}
+use Rattle.narrow_pass.specs.Narrowed.{IsNarrowed}
 use Rattle.program_code.specs.Joined.{IsJoined}
+
+-- Byte code of which blocks are made: as it was lowered, or with operators that are done on low bytes alone.
+pub data IsByteCode (lowered core : CoreProgram) : Type 0 where
+  AsLowered : core ≡ lowered → IsByteCode lowered core
+  Narrower : IsNarrowed lowered core → IsByteCode lowered core
 
 -- The blocks of a program as they were selected, leaner, and with their selects: what each pass promises, from a typed program on.
 pub record AreBlocks (p : Program) (copies : List FnCopy) (core : CoreProgram) (given lean made : List SymBlock) (placed : Placed) : Type 0 where
@@ -27,8 +33,10 @@ pub record AreBlocks (p : Program) (copies : List FnCopy) (core : CoreProgram) (
   pub sound : is_sound p ≡ true
   pub roots : broken_root p ≡ None
   pub numbers : ProgramHasNumbers p
-  -- byte code, and the blocks of it
-  pub bodies : map body_of core.bodies.items ≡ bodies_of p copies
+  -- byte code as it is lowered, what is made of it, and the blocks of that
+  pub lowered : CoreProgram
+  pub bodies : map body_of lowered.bodies.items ≡ bodies_of p copies
+  pub code : IsByteCode lowered core
   pub joined : IsJoined core copies given
   -- what is left of them where instructions on temporary bytes are left out that nothing needs
   pub leaner : IsLean (layout_of placed) (handler_at copies) (core_of p copies).variable_bytes given lean

@@ -12,7 +12,7 @@ mod Expressions
 mod Declared
 mod Segments
 mod Statements
-mod Naming
+pub mod Naming
 mod Lying
 mod Rooms
 mod Standing

@@ -14,7 +14,9 @@ use Rattle.c_typed.specs.declared.calls.FnId.TheVariants as callee
 use Rattle.call_graph.specs.Numbers.{handler_at}
 use Rattle.call_graph.specs.declared.types.FnCopy.{FnCopy}
 use Rattle.core_code.specs.Tree as core
-use Rattle.core_code.specs.Tree.{trees_of}
+use Rattle.core_code.specs.Tree.{Tree, trees_of}
+use Rattle.core_code.specs.View.{trees_in}
+use Rattle.core_code.specs.declared.code.Body.{Body}
 use Rattle.lower_expr.specs.Layout.{static_number}
 use Rattle.lower_stmt.specs.Bodies.{body_code}
 use Rattle.lower_stmt.specs.Frames.{ground_for, layout_for}
@@ -24,11 +26,10 @@ use Rattle.lower_stmt.specs.Statements.{stmts_code}
 use Rattle.pic_world.specs.declared.Root.{Root}
 use Rattle.ram_place.specs.Sizes.{frame_bytes, block_words, size_or_none}
 use Rattle.select_code.specs.declared.control.Ending.{Ending}
-use Rattle.select_wide.specs.Blocks.{ending_at}
+use Rattle.select_wide.specs.Blocks.{block_code, ending_at}
 use Rattle.sym_code.specs.Selects.{bare}
 use Rattle.sym_code.specs.declared.code.Sym.{Sym}
-use Rattle.sym_code.specs.declared.code.SymBlock.{SymBlock}
-use Rattle.word_bounds.specs.Bounds.{NamesWithin, IsProgram, IsBlockOf, BlocksAreBare, BlocksKeepWithin, WordsAreStated}
+use Rattle.word_bounds.specs.Bounds.{NamesWithin, IsProgram, IsCodeOf, BlocksAreBare, BlocksKeepWithin, WordsAreStated}
 use Rattle.word_bounds.specs.Counting.{counted}
 use Rattle.word_bounds.proofs.Chain.{has_none, none_first, none_later}
 use Rattle.word_bounds.proofs.Paying.{Pays}
@@ -36,7 +37,7 @@ use Rattle.word_bounds.proofs.Lowered.{some_code, Takes, takes_on, takes_more}
 use Rattle.word_bounds.proofs.Segments.{leave_takes}
 use Rattle.word_bounds.proofs.Selecting.{selects_are_counted}
 use Rattle.word_bounds.proofs.Statements.{statements_take}
-use Rattle.word_bounds.specs.Naming.{Memory, HasBytes, HaveCopies, SymsLie}
+use Rattle.word_bounds.specs.Naming.{Memory, HasBytes, HaveCopies, TreesLie, SymsLie}
 use Rattle.word_bounds.specs.There.{memory_of, BlocksKeepThere}
 use Rattle.word_bounds.proofs.Naming.{in_trees}
 use Rattle.word_bounds.proofs.Lying.{AllLie, lie_on, trees_lie}
@@ -72,7 +73,7 @@ counted_all c n code h =
     append_none (x ∷ xs) = ap (λ l. x ∷ l) (append_none xs)
 
 -- the code of a copy's block
-module _ (p : Program) (copies : List FnCopy) (number : ℕ) (f : FunctionTree) (given : SymBlock) (is : IsProgram p) (block : IsBlockOf p copies number f given) where
+module _ (p : Program) (copies : List FnCopy) (number : ℕ) (f : FunctionTree) (list : List Sym) (is : IsProgram p) (block : IsCodeOf p copies number f list) where
   abbrev root : Root
   root = block.body.root
 
@@ -82,7 +83,7 @@ module _ (p : Program) (copies : List FnCopy) (number : ℕ) (f : FunctionTree) 
   abbrev code : List Sym
   code = some_code copies root end number [] 0 [] (body_code (ground_for p copies number root f) f)
 
-  code_is : given.list.items ≡ code
+  code_is : list ≡ code
   code_is = block.selected ∙ ap (some_code copies root end number [] 0 []) block.lowered
 
   keeps : Keeps p f × (statements_fit p f true false false f.body ≡ true)
@@ -91,13 +92,13 @@ module _ (p : Program) (copies : List FnCopy) (number : ℕ) (f : FunctionTree) 
   code_pays : Pays number false false (block_size p.sizes f) false false code
   code_pays = body_takes copies root end p f (ground_for p copies number root f) refl refl keeps.1 [] 0 []
 
-  pub all_counted : counted number false false given.list.items ≤ block_size p.sizes f
+  pub all_counted : counted number false false list ≤ block_size p.sizes f
   all_counted =
       let all = counted_all number (block_size p.sizes f) code code_pays.0 in
       let same = ap (counted number false false) code_is in
       omega (arith, all, same)
 
-  pub all_bare : bare given.list.items ≡ given.list.items
+  pub all_bare : bare list ≡ list
   all_bare = ap bare code_is ∙ none_bare code code_pays.1 ∙ sym code_is
 
   called : HaveCopies (layout_for p copies root f).copies (statements_calls f.body)
@@ -116,16 +117,27 @@ module _ (p : Program) (copies : List FnCopy) (number : ℕ) (f : FunctionTree) 
         lie_on memory (stmts_code g outside f.body) (core.Leave ∷ [])
         (statements_lie (frame_size p.sizes f) memory p f g (stands p copies root f number memory is keeps.0 own objects) refl outside true false false f.body keeps.1 (calls_fit p copies memory root f frames (statements_calls f.body) called) (base_within p copies root f)) (tt, tt)
 
-    code_lies : SymsLie memory code
-    code_lies =
-        let ts = body_code (ground_for p copies number root f) f in
-        in_trees memory copies root (helpers_roomy p copies memory root frames block.copy) end [] 0 [] (trees_of ts) (length ts) (trees_lie memory ts all_lie)
+    trees_there : TreesLie memory (trees_of (body_code (ground_for p copies number root f) f))
+    trees_there = trees_lie memory (body_code (ground_for p copies number root f) f) all_lie
 
-    pub all_there : SymsLie memory given.list.items
+    -- what is selected for byte code names no other bytes than that
+    code_there : (ts : List Tree) → TreesLie memory (trees_of ts) → SymsLie memory (some_code copies root end number [] 0 [] ts)
+    code_there ts lie = in_trees memory copies root (helpers_roomy p copies memory root frames block.copy) end [] 0 [] (trees_of ts) (length ts) lie
+
+    code_lies : SymsLie memory code
+    code_lies = code_there (body_code (ground_for p copies number root f) f) trees_there
+
+    -- so it is with another body of this copy, which names no other bytes than the one that was lowered
+    pub other_there : (body : Body) → body.root ≡ root → (TreesLie memory (trees_of (trees_in block.body.code.items)) → TreesLie memory (trees_of (trees_in body.code.items))) → SymsLie memory (block_code copies number body)
+    other_there body same keeps =
+        let lowered = subst (λ (ts : List Tree). TreesLie memory (trees_of ts)) (sym block.lowered) trees_there in
+        subst (λ (r : Root). SymsLie memory (some_code copies r end number [] 0 [] (trees_in body.code.items))) (sym same) (code_there (trees_in body.code.items) (keeps lowered))
+
+    pub all_there : SymsLie memory list
     all_there = subst (SymsLie memory) (sym code_is) code_lies
 
-    pub all_within : NamesWithin number (frame_size p.sizes f) given.list.items
-    all_within = names_within number (frame_size p.sizes f) memory own given.list.items all_there
+    pub all_within : NamesWithin number (frame_size p.sizes f) list
+    all_within = names_within number (frame_size p.sizes f) memory own list all_there
 
 -- ---- what is there of a program
 frames_there : (p : Program) (copies : List FnCopy) → HasFrames p copies (memory_of p copies)
@@ -149,21 +161,26 @@ large_memory p copies = record { frames = (memory_of p copies).frames; objects =
 -- the bytes of the copy's frame, whatever the numbers of static objects
 kept_within : BlocksKeepWithin
 unfolding large_memory
-kept_within p copies number f given is block = all_within p copies number f given is block (large_memory p copies) (frames_there p copies) (λ k s there. objects_small p is k s there)
+kept_within p copies number f given is block = all_within p copies number f given.list.items is block (large_memory p copies) (frames_there p copies) (λ k s there. objects_small p is k s there)
 
 pub blocks_are_bare : BlocksAreBare
-blocks_are_bare p copies number f given is block = all_bare p copies number f given is block
+blocks_are_bare p copies number f given is block = all_bare p copies number f given.list.items is block
 
 pub blocks_keep_within : BlocksKeepWithin
 blocks_keep_within p copies number f given is block = kept_within p copies number f given is block
 
 pub blocks_keep_there : BlocksKeepThere
-blocks_keep_there p copies number f given is few block = all_there p copies number f given is block (memory_of p copies) (frames_there p copies) (objects_there p copies few)
+blocks_keep_there p copies number f given is few block = all_there p copies number f given.list.items is block (memory_of p copies) (frames_there p copies) (objects_there p copies few)
+
+-- The same of what is selected for another body of the copy, which names no other bytes.
+pub others_keep_there : (p : Program) (copies : List FnCopy) (number : ℕ) (f : FunctionTree) (list : List Sym) → IsProgram p → length p.statics ≤ 65535 → (block : IsCodeOf p copies number f list) → (body : Body) → body.root ≡ block.body.root
+    → (TreesLie (memory_of p copies) (trees_of (trees_in block.body.code.items)) → TreesLie (memory_of p copies) (trees_of (trees_in body.code.items))) → SymsLie (memory_of p copies) (block_code copies number body)
+others_keep_there p copies number f list is few block body same keeps = other_there p copies number f list is block (memory_of p copies) (frames_there p copies) (objects_there p copies few) body same keeps
 
 pub words_are_stated : WordsAreStated
 words_are_stated p copies placed number f given made is block exact frame_is =
-    let all = all_counted p copies number f given is block in
-    let none = all_bare p copies number f given is block in
+    let all = all_counted p copies number f given.list.items is block in
+    let none = all_bare p copies number f given.list.items is block in
     let banked = all_banked p placed number f frame_is given.list.items (kept_within p copies number f given is block) in
     let few = selects_are_counted placed given made number ((frame (layout_of placed) number).address / 128) exact none banked in
     let stated : block_words p (callee.User block.function) ≡ block_size p.sizes f = ap (size_or_none (block_size p.sizes)) block.found in

@@ -59,9 +59,9 @@ CalledHaveCopies =
     (p : Program) (copies : List FnCopy) (depth number function : ℕ) (copy : FnCopy) (f : FunctionTree) → is_sound p ≡ true → AreCopies p copies → HasDepth p depth → slice_get copies number ≡ Some copy → copy.function ≡ callee.User function → slice_get p.functions function ≡ Some f
     → HaveCopies (layout_for p copies copy.root f).copies (statements_calls f.body)
 
--- The block that is selected for the body of a function's copy, as it is lowered under the copy's root. The copies are those of the
+-- The code that is selected for the body of a function's copy, as it is lowered under the copy's root. The copies are those of the
 -- program, and its chains of calls have a depth.
-pub record IsBlockOf (p : Program) (copies : List FnCopy) (number : ℕ) (f : FunctionTree) (block : SymBlock) : Type 0 where
+pub record IsCodeOf (p : Program) (copies : List FnCopy) (number : ℕ) (f : FunctionTree) (list : List Sym) : Type 0 where
   pub copy : FnCopy
   pub there : slice_get copies number ≡ Some copy
   pub function : ℕ
@@ -70,10 +70,14 @@ pub record IsBlockOf (p : Program) (copies : List FnCopy) (number : ℕ) (f : Fu
   pub body : Body
   pub under : body.root ≡ copy.root
   pub lowered : trees_in body.code.items ≡ body_code (ground_for p copies number body.root f) f
-  pub selected : block.list.items ≡ block_code copies number body
+  pub selected : list ≡ block_code copies number body
   pub known : AreCopies p copies
   pub depth : ℕ
   pub deep : HasDepth p depth
+
+-- the block with such code
+abbrev pub IsBlockOf : Program → List FnCopy → ℕ → FunctionTree → SymBlock → Type 0
+IsBlockOf p copies number f block = IsCodeOf p copies number f block.list.items
 
 -- Where frames stand, this one has room for the function's bytes, and stands whole in a bank.
 pub record HasFrame (p : Program) (placed : Placed) (number : ℕ) (f : FunctionTree) : Type 0 where

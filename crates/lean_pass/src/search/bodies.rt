@@ -2,10 +2,11 @@
 
 use crate::marks::is_marked;
 use crate::owners::Ground;
-use crate::rows::Act;
+use crate::rows::{Act, Shown};
 use crate::search::bits::Bits;
-use crate::search::effects::{Effect, effect_of, no_effect, zero_flag};
+use crate::search::effects::{Effect, effect_of, flag_of, no_effect, zero_flag};
 use crate::search::known::Knowledge;
+use crate::shown::bit_of;
 use crate::walk::{is_label, same_label, same_name};
 use core_code::Byte;
 use pic_world::Root;
@@ -55,6 +56,8 @@ pub struct Place {
     pub group: usize,
     /// Where it stores W in a temporary byte: the variables of the same frame.
     pub variables: Span,
+    /// What a flag tells before it, where what it decides goes by that flag.
+    pub shown: Shown,
 }
 
 /// W, flags and bytes: those that are read further on before they are written, or those that may differ.
@@ -175,6 +178,10 @@ impl Place {
                 sets: zero_flag(),
                 ..self.effect
             },
+            Act::Tests { flag, .. } => Effect {
+                uses: flag_of(bit_of(flag)),
+                ..self.effect
+            },
             Act::Reads { before } => Effect {
                 reads: self.read_before(before),
                 writes: None,
@@ -198,6 +205,7 @@ impl Place {
             && match self.act {
                 Act::Keeps => true,
                 Act::Reads { .. } => true,
+                Act::Tests { .. } => true,
                 _ => false,
             }
     }
@@ -341,6 +349,7 @@ fn places_of(
             needless: false,
             group,
             variables: variables_near(variables, effect, *sym),
+            shown: Shown::Unshown,
         })?;
     }
     Ok(places)

@@ -117,6 +117,7 @@ fn behind(place: &Place, before: Live, summaries: &[Summary]) -> Live {
     }
     match place.act {
         Act::Keeps => both(place.effect, before),
+        Act::Tests { .. } => both(place.effect, before),
         Act::Drops => dropped(place, before),
         Act::Puts { op, .. } => put(place, op, before),
         Act::Narrows => narrowed(place, before),

@@ -69,7 +69,8 @@ fn is_through(aim: Aim) -> bool {
     }
 }
 
-fn flag_of(bit: u8) -> Flags {
+/// The flag by the number of its bit.
+pub fn flag_of(bit: u8) -> Flags {
     Flags {
         z: bit == 2,
         dc: bit == 1,

@@ -1,6 +1,6 @@
 //! What is known of the machine that runs the given code.
 
-use crate::behind::{flags_in, is_number};
+use crate::behind::{Flags, flags_in, is_number};
 use crate::computing::{computed, file_for, leaves_w, same_known, way_of, way_of_bit};
 use crate::keeping::is_status;
 use crate::owners::{Aim, Ground};
@@ -25,6 +25,9 @@ pub struct Knowledge {
     /// The bytes that are copies of variables, and of which.
     pub copies: Bits,
     pub origins: [u16; 368],
+    /// C and Z are 0 or 1.
+    pub carry_bit: bool,
+    pub zero_bit: bool,
 }
 
 fn same_number(one: Option<u8>, other: Option<u8>) -> bool {
@@ -45,6 +48,8 @@ impl Knowledge {
             values: [0; 368],
             copies: Bits::none(),
             origins: [0; 368],
+            carry_bit: false,
+            zero_bit: false,
         }
     }
 
@@ -84,6 +89,7 @@ impl Knowledge {
         }
         let before = (self.number.is_some(), self.held, self.zero, self.known);
         let copies = self.copies;
+        let bits = (self.carry_bit, self.zero_bit);
         if !same_number(self.number, other.number) {
             self.number = None;
         }
@@ -92,7 +98,10 @@ impl Knowledge {
         self.known = self.known.meet(other.known);
         self.copies = self.copies.meet(other.copies);
         self.forget_others(other);
+        self.carry_bit = self.carry_bit && other.carry_bit;
+        self.zero_bit = self.zero_bit && other.zero_bit;
         self.copies != copies
+            || (self.carry_bit, self.zero_bit) != bits
             || self.number.is_some() != before.0
             || self.held != before.1
             || self.zero != before.2
@@ -184,6 +193,7 @@ impl Knowledge {
     fn moved(&mut self, aim: Aim) {
         self.without_w();
         self.zero = true;
+        self.zero_bit = true;
         if let Aim::ToByte(byte) = aim {
             self.number = self.value(byte);
             self.held.put(byte);
@@ -220,7 +230,14 @@ impl Knowledge {
         self.zero = zero;
     }
 
+    // The flags are bits that an instruction writes.
+    fn with_bits(&mut self, flags: Flags) {
+        self.carry_bit = self.carry_bit || flags.c;
+        self.zero_bit = self.zero_bit || flags.z;
+    }
+
     fn worked(&mut self, op: FileOperation, byte: Option<u8>) {
+        self.with_bits(flags_in(op));
         if leaves_w(op, byte) {
             self.zero = true;
         } else {
@@ -285,6 +302,7 @@ impl Knowledge {
             Into::File => {
                 let number = self.result(op, self.number_at(aim));
                 self.written(aim, number);
+                self.with_bits(flags_in(op));
             }
         }
     }

@@ -3,6 +3,7 @@
 mod bits;
 mod bodies;
 mod choosing;
+mod deciding;
 mod differing;
 mod effects;
 mod known;

@@ -1,7 +1,7 @@
 //! The search for a certificate, and what it says of each block.
 
 use crate::owners::{Ground, grounded};
-use crate::rows::{Act, Apart, ByteSet, Facts, Note};
+use crate::rows::{Act, Apart, ByteSet, Facts, Note, Shown};
 use crate::search::bits::Bits;
 use crate::search::bodies::{Body, Live, Place, Summary, bodies_of};
 use crate::search::choosing::Aims;
@@ -92,6 +92,7 @@ fn note_of(
     live: Live,
     apart: Bits,
     carry: Option<usize>,
+    shown: Shown,
 ) -> Result<Note, AllocError> {
     Ok(Note {
         facts: Facts {
@@ -100,6 +101,8 @@ fn note_of(
             zero: known.zero,
             known: values_of(alloc, known)?,
             twins: twins_of(alloc, known)?,
+            carry_bit: known.carry_bit,
+            zero_bit: known.zero_bit,
         },
         apart: Apart {
             w: !live.w,
@@ -109,6 +112,7 @@ fn note_of(
             bytes: set_of(alloc, apart)?,
         },
         carry,
+        shown,
     })
 }
 
@@ -147,7 +151,7 @@ fn plan_of(
     }
     Ok(Plan {
         act: place.act,
-        note: Some(note_of(alloc, &known, body.live_at(at), apart, carry)?),
+        note: Some(note_of(alloc, &known, body.live_at(at), apart, carry, place.shown)?),
     })
 }
 
@@ -174,7 +178,7 @@ fn block_plan(
     Ok(BlockPlan {
         plans: plans_of(alloc, body, summary.named, own)?,
         inside: body.inside,
-        ends: note_of(alloc, &body.ends, summary.back, apart, None)?,
+        ends: note_of(alloc, &body.ends, summary.back, apart, None, Shown::Unshown)?,
         outer: set_of(alloc, summary.outer)?,
     })
 }
@@ -206,6 +210,7 @@ fn search_once(bodies: &mut [Body], summaries: &mut [Summary]) -> bool {
         || (find_differing(bodies, summaries)
             && (improve_all(bodies, Aims::Same, summaries)
                 || improve_all(bodies, Aims::SameZero, summaries)))
+        || decide_all(bodies, summaries)
         || narrow_all(bodies, summaries, true)
         || narrow_all(bodies, summaries, false)
 }
@@ -215,6 +220,17 @@ fn improve_all(bodies: &mut [Body], aims: Aims, summaries: &[Summary]) -> bool {
     for own in 0..bodies.len() {
         if is_searched(bodies[own].name) {
             changed = bodies[own].improve(own, aims, summaries) || changed;
+        }
+    }
+    changed
+}
+
+// Branches that a comparison decides, which go by its flag.
+fn decide_all(bodies: &mut [Body], summaries: &[Summary]) -> bool {
+    let mut changed = false;
+    for own in 0..bodies.len() {
+        if is_searched(bodies[own].name) {
+            changed = bodies[own].decide(own, summaries) || changed;
         }
     }
     changed

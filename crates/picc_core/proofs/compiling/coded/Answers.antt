@@ -35,7 +35,7 @@ returns c =
     let core = c.in_ok-core.core in
     let given = c.in_ok-program.program.blocks.items in
     record {
-      core = core;
+      lowered = core;
       bodies = c.in_ok-core.ensures.bodies;
       statics = c.in_ok-core.ensures.statics;
       made = given;

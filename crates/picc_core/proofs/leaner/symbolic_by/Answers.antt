@@ -1,5 +1,5 @@
 use Rattle.picc_core.proofs.Founding.{copies_low}
-use Rattle.picc_core.proofs.Leaning.{found_symbolic, given_symbolic}
+use Rattle.picc_core.proofs.Leaning.{given_symbolic, some_symbolic}
 use Rattle.picc_core.proofs.leaner.symbolic_by.Goals as goal
 
 pub joined-requires-clause-copies : goal.joined-requires-clause-copies
@@ -9,9 +9,7 @@ pub handler_of-requires : goal.handler_of-requires
 handler_of-requires c = copies_low c.args.typed.now c.args.copies.now.list.items c.args.placed.now c.args.at.now c.requires.founded
 
 pub returns-in-Some : goal.returns-in-Some
-returns-in-Some c =
-    found_symbolic c.args.typed.now c.args.copies.now.list.items c.args.placed.now c.args.at.now c.requires.founded c.args.core.now c.in_ok-given.given.blocks.items c.in_ok-made.field-0 c.in-Some.made c.in_ok-given.ensures.whole
-    c.in_ok-made.ensures c.in-Some.is
+returns-in-Some c = some_symbolic c.args.typed.now c.args.copies.now.list.items c.args.placed.now c.args.at.now c.requires.founded c.args.core.now c.in_ok-made.field-0 c.in-Some.made c.in_ok-made.ensures c.in-Some.is
 
 pub returns : goal.returns
 returns c =
