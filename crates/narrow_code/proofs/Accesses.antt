@@ -1,5 +1,5 @@
 -- Steps that copy a byte, and those through pointers and on bits of device registers.
-use Rattle.std.proofs.Common.{◌≡◌, ℕ, zero, suc, ◌+◌, ◌%◌, Bool, true, false, ◌&&◌, nat_eq, nat_lt, if◌then◌else◌, List, [], ◌∷◌, Option, Some, None, refl, sym, ap, ◌∙◌, subst}
+use Rattle.std.proofs.Common.{◌≡◌, ℕ, zero, suc, ◌+◌, ◌<◌, ◌%◌, Bool, true, false, ◌&&◌, nat_eq, nat_lt, if◌then◌else◌, List, [], ◌∷◌, Option, Some, None, refl, sym, ap, ◌∙◌, subst, arith}
 use Rattle.std.proofs.lemmas.Bool.{true≢false, and_parts, eqb-true}
 use Rattle.pic_world.specs.Bits.{bit}
 use Rattle.pic_world.specs.World.{Outside, World, ReadOf, device_value}
@@ -19,6 +19,9 @@ use Rattle.narrow_code.proofs.Memory.{Alike, off_refl, lower, lower_refl, own_ho
 use Rattle.narrow_code.proofs.Relation as relation
 use Rattle.narrow_code.proofs.Relation.{Job, ToPut, ToPutBit, ToPutBack, ToJoin, ToLoad, ToStore, Hold, HoldLoop, HoldCall, HoldHandler, one, other, ones, others, one_stack, other_stack, loops_of, Runs, Weak, Outcome, Halts, when_same, when_both}
 use Rattle.narrow_code.proofs.Steps.{own_same, valid_same, Scene, q, r, loops, go_on, go_same, write_step, put_step}
+
+bit_small : (x b : ℕ) → bit x b < 256
+bit_small x b = omega arith
 
 -- ---- what both programs have
 module _ (x : Narrowing) where
@@ -251,7 +254,7 @@ module _ (x : Narrowing) (sound : IsSound x) (o : Outside) (sc : Scene x) where
   bit_read_step to register number after js below runs =
       when_both x (has_bit (given_program x) sc.p register number) (has_bit (made_program x) sc.p register number) _ _ (λ e. (
         sym (has_bit_same register number) ∙ e,
-        go_read register sc.here (ToPutBit to (bit (device_value o register sc.w) number) ∷ js) (lower_refl sc.p sc.here) (runs.0, lower sc.p runs.0 after (marked sc.here to Numbers) runs.1 below, runs.2),
+        go_read register sc.here (ToPutBit to (bit (device_value o register sc.w) number) ∷ js) (lower_refl sc.p sc.here) (bit_small (device_value o register sc.w) number, runs.0, lower sc.p runs.0 after (marked sc.here to Numbers) runs.1 below, runs.2),
       ))
 
   bit_write_by : (register number : ℕ) (h : Held) (after : Marks) (js : List Job) → Below sc.p after sc.here → Weak x.lent sc.p (loops x sound sc) after js

@@ -1,15 +1,19 @@
 -- The low byte of what an operator gives is made of the low bytes of its operands.
-use Rattle.std.proofs.Common.{◌≡◌, ℕ, suc, ◌+◌, ◌-◌, ◌*◌, ◌/◌, ◌%◌, ◌^◌, ◌<◌, ◌≤◌, true, refl, ap, sym, ◌∙◌, arith, ℤ, pos, negsuc, ◌+ℤ◌, ◌-ℤ◌, unsigned_abs, bit_and, bit_or, bit_xor}
+use Rattle.std.proofs.Common.{◌≡◌, ℕ, zero, suc, Bool, false, nat_eq, nat_lt, ◌+◌, ◌-◌, ◌*◌, ◌/◌, ◌%◌, ◌^◌, ◌<◌, ◌≤◌, true, refl, ap, sym, ◌∙◌, arith, ℤ, pos, negsuc, ◌+ℤ◌, ◌-ℤ◌, unsigned_abs, bit_and, bit_or, bit_xor}
 use Rattle.std.specs.Int.{int_rem_euclid}
 use Rattle.std.proofs.lemmas.Int.{ints, int_rem_euclid_is}
-use Rattle.std.proofs.lemmas.Nat.{pow_pos, and_mod, or_mod, xor_mod}
+use Rattle.std.proofs.Math.Nat.{div-eq_of_lt}
+use Rattle.std.proofs.lemmas.Grind.{pow_more}
+use Rattle.std.proofs.lemmas.Nat.{pow_pos, and_mod, or_mod, xor_mod, and_le_l, and_le_r}
+use Rattle.std.specs.Int.Bits.{and_lt, or_lt, xor_lt, xor_add_and, xor_self}
+use Rattle.std.proofs.lemmas.Bool.{true≢false, eqb-true, eq-eqb, ne_eqb}
 use Rattle.c_ints.specs.Operators.{exact}
-use Rattle.c_ints.specs.Range.{width, span, least, cut, pattern}
+use Rattle.c_ints.specs.Range.{bytes_of, width, span, least, cut, pattern}
 use Rattle.c_ints.specs.declared.operators.BinOp.{BinOp}
 use Rattle.c_ints.specs.declared.operators.BinOp.TheVariants as ops
 use Rattle.c_ints.specs.declared.types.IntTy.{IntTy}
 use Rattle.c_ints.specs.declared.types.IntTy.TheVariants.{Char, SChar, UChar, Short, UShort, Int, UInt, Long, ULong}
-use Rattle.narrow_code.specs.Right.{is_low}
+use Rattle.narrow_code.specs.Right.{is_low, keeps_small, is_byte}
 use Rattle.narrow_code.proofs.Memory.{never}
 
 -- with a multiple of s it is the natural m
@@ -143,3 +147,91 @@ same_low op ty other a b h k i j e =
     low_byte_is ty (exact op ty x y) ∙ low_exact op ty x y e
     ∙ ap (λ (n : ℕ). on_low op n (low y)) (value_low ty a h ∙ sym (value_low other a i)) ∙ ap (on_low op (low z)) (value_low ty b k ∙ sym (value_low other b j))
     ∙ sym (low_byte_is other (exact op other z u) ∙ low_exact op other z u e)
+
+-- ---- small values
+pattern_small : (ty : IntTy) (r : ℕ) → r < 256 → pattern ty (pos r) ≡ r
+pattern_small Char r h = omega arith
+pattern_small SChar r h = omega arith
+pattern_small UChar r h = omega arith
+pattern_small Short r h = omega arith
+pattern_small UShort r h = omega arith
+pattern_small Int r h = omega arith
+pattern_small UInt r h = omega arith
+pattern_small Long r h = omega arith
+pattern_small ULong r h = omega arith
+
+pub small_pattern : (ty : IntTy) (r : ℕ) → r < 256 → pattern ty (cut ty (pos r)) ≡ r
+small_pattern ty r h = pattern_cut ty (pos r) ∙ pattern_small ty r h
+
+up : (k : ℕ) → 256 ^ suc k ≡ 256 ^ k * 256
+up k = let next : suc k ≡ k + 1 = omega arith in ap (λ (n : ℕ). 256 ^ n) next ∙ pow_more 256 k
+
+up_positive : (k : ℕ) → 0 < 256 ^ k
+up_positive zero = omega arith
+up_positive (suc k) = let p = up_positive k in let e = up k in omega arith
+
+above : (r k : ℕ) → r < 256 → r / 256 ^ suc k % 256 ≡ 0
+above r k h =
+    let p = up_positive k in
+    let m : 1 * 256 ≤ 256 ^ k * 256 = grind arith in
+    let q : r / (256 ^ k * 256) ≡ 0 = div-eq_of_lt (let l : r < 256 ^ k * 256 = omega arith in l) in
+    ap (λ (n : ℕ). r / n % 256) (up k) ∙ ap (λ (n : ℕ). n % 256) q
+
+-- behind its lowest byte a small number has none
+pub small_byte : (ty : IntTy) (r k : ℕ) → r < 256 → pattern ty (cut ty (pos r)) / 256 ^ suc k % 256 ≡ 0
+small_byte ty r k h = ap (λ (n : ℕ). n / 256 ^ suc k % 256) (small_pattern ty r h) ∙ above r k h
+
+-- a number of one byte without a sign is small
+pub byte_number : (from : IntTy) (a : ℕ) → is_byte from ≡ true → (r : ℕ) × (r < 256) × (cut from (pos a) ≡ pos r)
+byte_number Char a e = (a % 256, omega arith, omega (arith, ints))
+byte_number UChar a e = (a % 256, omega arith, omega (arith, ints))
+byte_number SChar a e = never e
+byte_number Short a e = never e
+byte_number UShort a e = never e
+byte_number Int a e = never e
+byte_number UInt a e = never e
+byte_number Long a e = never e
+byte_number ULong a e = never e
+
+-- a small number is cut to itself by each type of two bytes or more, and by that of a byte
+pub cut_small : (ty : IntTy) (r : ℕ) → r < 256 → nat_lt 1 (bytes_of ty) ≡ true → cut ty (pos r) ≡ pos r
+cut_small Char r h e = never e
+cut_small SChar r h e = never e
+cut_small UChar r h e = never e
+cut_small Short r h e = omega (arith, ints)
+cut_small UShort r h e = omega (arith, ints)
+cut_small Int r h e = omega (arith, ints)
+cut_small UInt r h e = omega (arith, ints)
+cut_small Long r h e = omega (arith, ints)
+cut_small ULong r h e = omega (arith, ints)
+
+pub cut_char : (r : ℕ) → r < 256 → cut UChar (pos r) ≡ pos r
+cut_char r h = omega (arith, ints)
+
+-- what operators on bits make of small numbers is small
+pub bits_small : (op : BinOp) (ty : IntTy) (a b : ℕ) → keeps_small op ≡ true → a < 256 → b < 256 → (r : ℕ) × (r < 256) × (exact op ty (cut ty (pos a)) (cut ty (pos b)) ≡ pos r)
+bits_small ops.And ty a b e h k = (bit_and a b, and_lt 8 a b h k, ap (λ (n : ℕ). pos (bit_and n (pattern ty (cut ty (pos b))))) (small_pattern ty a h) ∙ ap (λ (n : ℕ). pos (bit_and a n)) (small_pattern ty b k))
+bits_small ops.Or ty a b e h k = (bit_or a b, or_lt 8 a b h k, ap (λ (n : ℕ). pos (bit_or n (pattern ty (cut ty (pos b))))) (small_pattern ty a h) ∙ ap (λ (n : ℕ). pos (bit_or a n)) (small_pattern ty b k))
+bits_small ops.Xor ty a b e h k = (bit_xor a b, xor_lt 8 a b h k, ap (λ (n : ℕ). pos (bit_xor n (pattern ty (cut ty (pos b))))) (small_pattern ty a h) ∙ ap (λ (n : ℕ). pos (bit_xor a n)) (small_pattern ty b k))
+bits_small _ ty a b e h k = never e
+
+-- two numbers are equal just where they have no bit that differs
+pub xor_equal : (a b : ℕ) → nat_eq (bit_xor a b) 0 ≡ nat_eq a b
+xor_equal a b = by_xor (nat_eq (bit_xor a b) 0) refl
+  where
+    by_xor : (t : Bool) → nat_eq (bit_xor a b) 0 ≡ t → t ≡ nat_eq a b
+    by_xor true e =
+        let none = eqb-true (bit_xor a b) 0 e in
+        let sum = xor_add_and a b in
+        let left = and_le_l a b in
+        let right = and_le_r a b in
+        let same : a ≡ b = omega arith in
+        sym (eq-eqb a b same)
+    by_xor false e = sym (ne_eqb a b (λ same. absurd (true≢false (sym (ap (λ (n : ℕ). nat_eq n 0) (ap (bit_xor a) (sym same) ∙ xor_self a)) ∙ e))))
+
+-- what bits differ in two small numbers, as a byte
+pub xor_low : (n k : ℕ) → n < 256 → k < 256 → low_byte UChar (exact ops.Xor UChar (cut UChar (pos n)) (cut UChar (pos k))) ≡ bit_xor n k
+xor_low n k h i =
+    let small : bit_xor n k < 256 = xor_lt 8 n k h i in
+    ap (λ (m : ℕ). low_byte UChar (pos (bit_xor m (pattern UChar (cut UChar (pos k)))))) (small_pattern UChar n h) ∙ ap (λ (m : ℕ). low_byte UChar (pos (bit_xor n m))) (small_pattern UChar k i)
+    ∙ low_byte_is UChar (pos (bit_xor n k)) ∙ pattern_small UChar (bit_xor n k) small

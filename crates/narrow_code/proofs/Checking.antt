@@ -1,9 +1,9 @@
 -- A draft that passes the test makes a plan that fits.
-use Rattle.std.proofs.Common.{◌≡◌, ℕ, zero, suc, Bool, true, false, ◌&&◌, nat_eq, nat_lt, if◌then◌else◌, List, [], ◌∷◌, get_or, set, map, replicate, Option, Some, None, refl, sym, ap, ◌∙◌, subst}
+use Rattle.std.proofs.Common.{◌≡◌, ℕ, zero, suc, Bool, true, false, ◌&&◌, ◌||◌, nat_eq, nat_lt, if◌then◌else◌, List, [], ◌∷◌, get_or, set, map, replicate, Option, Some, None, refl, sym, ap, ◌∙◌, subst}
 use Rattle.std.proofs.lemmas.Bool.{true≢false, and_parts, eqb-true, eqb-false, ne_eqb}
 use Rattle.std.proofs.lemmas.List.{get_or-set_other}
 use Rattle.std.proofs.lemmas.Option.{none-some, cond_some}
-use Rattle.c_ints.specs.Operators.{type_of, unary_type}
+use Rattle.c_ints.specs.Operators.{type_of, unary_type, compares}
 use Rattle.c_ints.specs.Range.{bytes_of}
 use Rattle.c_ints.specs.declared.operators.BinOp.{BinOp}
 use Rattle.c_ints.specs.declared.types.IntTy.{IntTy}
@@ -13,12 +13,12 @@ use Rattle.core_code.specs.Tree.{Tree, Trees, NoTree, AndTree}
 use Rattle.core_code.specs.Values.{right_type}
 use Rattle.core_code.specs.declared.code.Byte.{Byte}
 use Rattle.core_code.specs.declared.code.Byte.TheVariants.{Static, Frame, Result, Device}
-use Rattle.narrow_code.specs.Checked.{Turn, is_below, all_below, both_say, met, put, put_bytes, put_on, nowhere, allowed, walked_on, joined, comes_back, may_exit, may_repeat, same_at, number_at, same_from, may_cut, walk_binary, walk_leaf, walk, walk_all, TestIsRight}
-use Rattle.narrow_code.specs.Drafts.{Draft, Drafts, cuts, parts_of, first_of, second_of, front_of, behind_of, body_of, head_of, tail_of, marks_in, planned, all_planned, PlansAreOfCode}
-use Rattle.narrow_code.specs.Marks.{Mark, Numbers, Same, Differs, Marks, IsBelow, is_number, marked, marked_bytes, marked_on, low_alone, own_mark, may_differ, Below}
+use Rattle.narrow_code.specs.Checked.{Turn, all_below, both_say, met, put, put_bytes, put_on, nowhere, allowed, walked_on, joined, comes_back, may_exit, may_repeat, same_at, number_at, same_from, small_at, may_cut, walk_binary, walk_leaf, walk, walk_all, TestIsRight}
+use Rattle.narrow_code.specs.Drafts.{Draft, Drafts, cuts, parts_of, way_of, first_of, second_of, front_of, behind_of, body_of, head_of, tail_of, marks_in, planned, all_planned, PlansAreOfCode}
+use Rattle.narrow_code.specs.Marks.{Mark, Numbers, Same, Differs, Marks, IsBelow, is_below, is_number, marked, marked_bytes, marked_on, own_mark, may_differ, Below}
 use Rattle.narrow_code.specs.Plans as plans
 use Rattle.narrow_code.specs.Plans.{Plan, Plans, NoPlan, AndPlan, given, all_given}
-use Rattle.narrow_code.specs.Right.{Ends, Exits, Repeats, is_low, result_mark, converted_mark, FitsLeaf, FitsNarrowed, Fits, AllFit}
+use Rattle.narrow_code.specs.Right.{Ends, Exits, Repeats, is_low, set_mark, narrow_mark, are_low_alone, behind_binary, behind_convert, fits_way, FitsLeaf, FitsNarrowed, Fits, AllFit}
 use Rattle.narrow_code.proofs.Memory.{never, below_refl, lower, lower_refl, marked_below, on_below}
 
 -- ---- the plan is one of the code
@@ -54,55 +54,52 @@ pub plans_are_of_code : PlansAreOfCode
 plans_are_of_code ts ds = all_given_again ts ds
 
 -- ---- lists of marks
-below_is : (k j : Mark) → is_below k j ≡ true → IsBelow k j
-below_is Differs j e = tt
-below_is Same Numbers e = tt
-below_is Same Same e = tt
-below_is Same Differs e = never e
-below_is Numbers Numbers e = tt
-below_is Numbers Same e = never e
-below_is Numbers Differs e = never e
-
 below_at : (said known : List Mark) (i : ℕ) → all_below said known ≡ true → IsBelow (get_or said i Differs) (get_or known i Differs)
-below_at [] known i e = tt
-below_at (k ∷ said) [] zero e = below_is k Differs (and_parts (is_below k Differs) (all_below said []) e).0
+below_at [] known i e = refl
+below_at (k ∷ said) [] zero e = (and_parts (is_below k Differs) (all_below said []) e).0
 below_at (k ∷ said) [] (suc i) e = below_at said [] i (and_parts (is_below k Differs) (all_below said []) e).1
-below_at (k ∷ said) (j ∷ known) zero e = below_is k j (and_parts (is_below k j) (all_below said known) e).0
+below_at (k ∷ said) (j ∷ known) zero e = (and_parts (is_below k j) (all_below said known) e).0
 below_at (k ∷ said) (j ∷ known) (suc i) e = below_at said known i (and_parts (is_below k j) (all_below said known) e).1
 
 all_below_is : (p : ℕ) (said known : List Mark) → all_below said known ≡ true → Below p (marks_in said) (marks_in known)
 all_below_is p said known e c i f = below_at said known i e
 
 both_first : (k j : Mark) → IsBelow (both_say k j) k
-both_first Differs j = tt
-both_first Same Numbers = tt
-both_first Same Same = tt
-both_first Same Differs = tt
-both_first Numbers Numbers = tt
-both_first Numbers Same = tt
-both_first Numbers Differs = tt
+both_first k j = by_first (is_below k j)
+  where
+    by_second : (t : Bool) → is_below j k ≡ t → IsBelow (if t then j else Differs) k
+    by_second true e = e
+    by_second false e = refl
+
+    by_first : (t : Bool) → IsBelow (if t then k else if is_below j k then j else Differs) k
+    by_first true = below_refl k
+    by_first false = by_second (is_below j k) refl
 
 both_second : (k j : Mark) → IsBelow (both_say k j) j
-both_second Differs j = tt
-both_second Same Numbers = tt
-both_second Same Same = tt
-both_second Same Differs = tt
-both_second Numbers j = below_refl j
+both_second k j = by_first (is_below k j) refl
+  where
+    by_second : (t : Bool) → IsBelow (if t then j else Differs) j
+    by_second true = below_refl j
+    by_second false = refl
+
+    by_first : (t : Bool) → is_below k j ≡ t → IsBelow (if t then k else if is_below j k then j else Differs) j
+    by_first true e = e
+    by_first false e = by_second (is_below j k)
 
 met_first : (said known : List Mark) (i : ℕ) → IsBelow (get_or (met said known) i Differs) (get_or said i Differs)
-met_first [] known i = tt
-met_first (k ∷ said) [] i = tt
+met_first [] known i = refl
+met_first (k ∷ said) [] i = refl
 met_first (k ∷ said) (j ∷ known) zero = both_first k j
 met_first (k ∷ said) (j ∷ known) (suc i) = met_first said known i
 
 met_second : (said known : List Mark) (i : ℕ) → IsBelow (get_or (met said known) i Differs) (get_or known i Differs)
-met_second [] known i = tt
-met_second (k ∷ said) [] i = tt
+met_second [] known i = refl
+met_second (k ∷ said) [] i = refl
 met_second (k ∷ said) (j ∷ known) zero = both_second k j
 met_second (k ∷ said) (j ∷ known) (suc i) = met_second said known i
 
 set_at : (marks : List Mark) (i : ℕ) (k : Mark) → IsBelow (get_or (set marks i k) i Differs) k
-set_at [] i k = tt
+set_at [] i k = refl
 set_at (j ∷ marks) zero k = below_refl k
 set_at (j ∷ marks) (suc i) k = set_at marks i k
 
@@ -177,15 +174,15 @@ if_parts false way after e = absurd (none-some after e)
 module _ (lent : ℕ → Bool) (p : ℕ) where
   -- less may be said behind
   leaf_weak : (loops : List Ends) (here mid after : Marks) (t : Tree) → Below p after mid → FitsLeaf lent p loops here t mid → FitsLeaf lent p loops here t after
-  leaf_weak loops here mid after (tree.Set to value) h f = lower p after mid (marked here to Numbers) h f
+  leaf_weak loops here mid after (tree.Set to value) h f = lower p after mid (marked here to (set_mark value)) h f
   leaf_weak loops here mid after (tree.Address to place) h f = lower p after mid (marked_bytes here to 2 (λ k. Same)) h f
   leaf_weak loops here mid after (tree.Copy to from) h f = (f.0, lower p after mid (marked here to (own_mark lent p here from)) h f.1)
   leaf_weak loops here mid after (tree.Load to pointer count) h f = (f.0, lower p after mid (marked_on here to count) h f.1)
   leaf_weak loops here mid after (tree.Store pointer from count) h f = (f.0, f.1, lower p after mid here h f.2)
   leaf_weak loops here mid after (tree.Unary op ty at) h f = (f.0, lower p after mid (marked_bytes here at (bytes_of (unary_type op ty)) (λ k. Numbers)) h f.1)
   leaf_weak loops here mid after (tree.Binary op ty to a b) h f =
-      (f.0, f.1, lower p after mid (marked_bytes here to (bytes_of (type_of op ty)) (λ k. result_mark (is_number (own_mark lent p here a)) (is_number (own_mark lent p here b)))) h f.2)
-  leaf_weak loops here mid after (tree.Convert from to at) h f = (f.0, lower p after mid (marked_bytes here at (bytes_of to) (λ k. converted_mark from (is_number (own_mark lent p here at)))) h f.1)
+      (f.0, f.1, lower p after mid (marked_bytes here to (bytes_of (type_of op ty)) (behind_binary lent p here op ty a b)) h f.2)
+  leaf_weak loops here mid after (tree.Convert from to at) h f = (f.0, lower p after mid (marked_bytes here at (bytes_of to) (behind_convert lent p here from at)) h f.1)
   leaf_weak loops here mid after (tree.BitRead to register number) h f = lower p after mid (marked here to Numbers) h f
   leaf_weak loops here mid after (tree.BitWrite register number from) h f = (f.0, lower p after mid here h f.1)
   leaf_weak loops here mid after (tree.Call copy) h f = lower p after mid here h f
@@ -200,9 +197,9 @@ module _ (lent : ℕ → Bool) (p : ℕ) where
     fits_weak : (loops : List Ends) (here mid after : Marks) (t : Plan) → Below p after mid → Fits lent p loops here t mid → Fits lent p loops here t after
     fits_weak loops here mid after (plans.Stays t) h f = leaf_weak loops here mid after t h f
     fits_weak loops here mid after (plans.Narrowed op ty to a b) h f =
-        record { low = f.low; wide = f.wide; left_is = f.left_is; right_is = f.right_is; to_is = f.to_is; behind_is = lower p after mid (marked_bytes here to (bytes_of ty) low_alone) h f.behind_is }
+        record { able = f.able; wide = f.wide; left_is = f.left_is; right_is = f.right_is; to_is = f.to_is; behind_is = lower p after mid (marked_bytes here to (bytes_of (type_of op ty)) (narrow_mark op (are_low_alone lent p here ty a b))) h f.behind_is }
     fits_weak loops here mid after (plans.Several ts) h f = all_fit_weak loops here mid after ts h f
-    fits_weak loops here mid after (plans.Choice test size first second) h f = (f.0, fits_weak loops here mid after first h f.1, fits_weak loops here mid after second h f.2)
+    fits_weak loops here mid after (plans.Choice test size way first second) h f = (f.0, fits_weak loops here mid after first h f.1, fits_weak loops here mid after second h f.2)
     fits_weak loops here mid after (plans.Repeat front behind body) h f = (f.0, f.1, lower p after mid behind h f.2)
 
     all_fit_weak : (loops : List Ends) (here mid after : Marks) (ts : Plans) → Below p after mid → AllFit lent p loops here ts mid → AllFit lent p loops here ts after
@@ -216,7 +213,7 @@ module _ (lent : ℕ → Bool) (p : ℕ) where
   to_after F marks after e f = subst (λ (m : List Mark). F (marks_in m)) e f
 
   leaf_fits : (turns : List Turn) (here after : List Mark) (t : Tree) → walk_leaf lent p turns here t ≡ Some after → FitsLeaf lent p (turns_ends turns) (marks_in here) t (marks_in after)
-  leaf_fits turns here after (tree.Set to value) e = to_after (FitsLeaf lent p (turns_ends turns) (marks_in here) (tree.Set to value)) (put p here to Numbers) after (some_is (put p here to Numbers) after e) (put_below p here to Numbers)
+  leaf_fits turns here after (tree.Set to value) e = to_after (FitsLeaf lent p (turns_ends turns) (marks_in here) (tree.Set to value)) (put p here to (set_mark value)) after (some_is (put p here to (set_mark value)) after e) (put_below p here to (set_mark value))
   leaf_fits turns here after (tree.Address to place) e = to_after (FitsLeaf lent p (turns_ends turns) (marks_in here) (tree.Address to place)) (put_bytes p here to 2 (λ k. Same)) after (some_is (put_bytes p here to 2 (λ k. Same)) after e) (bytes_put p here to 2 (λ k. Same))
   leaf_fits turns here after (tree.Copy to from) e =
       let k = own_mark lent p (marks_in here) from in
@@ -234,14 +231,14 @@ module _ (lent : ℕ → Bool) (p : ℕ) where
       let h = allowed_is (same_from lent p here at (bytes_of ty)) marks after e in
       to_after (FitsLeaf lent p (turns_ends turns) (marks_in here) (tree.Unary op ty at)) marks after h.1 (h.0, bytes_put p here at (bytes_of (unary_type op ty)) (λ k. Numbers))
   leaf_fits turns here after (tree.Binary op ty to a b) e =
-      let marks = put_bytes p here to (bytes_of (type_of op ty)) (λ k. result_mark (number_at lent p here a) (number_at lent p here b)) in
+      let marks = put_bytes p here to (bytes_of (type_of op ty)) (behind_binary lent p (marks_in here) op ty a b) in
       let h = allowed_is (same_from lent p here a (bytes_of ty) && same_from lent p here b (bytes_of (right_type op ty))) marks after e in
       let reads = and_parts (same_from lent p here a (bytes_of ty)) (same_from lent p here b (bytes_of (right_type op ty))) h.0 in
-      to_after (FitsLeaf lent p (turns_ends turns) (marks_in here) (tree.Binary op ty to a b)) marks after h.1 (reads.0, reads.1, bytes_put p here to (bytes_of (type_of op ty)) (λ k. result_mark (number_at lent p here a) (number_at lent p here b)))
+      to_after (FitsLeaf lent p (turns_ends turns) (marks_in here) (tree.Binary op ty to a b)) marks after h.1 (reads.0, reads.1, bytes_put p here to (bytes_of (type_of op ty)) (behind_binary lent p (marks_in here) op ty a b))
   leaf_fits turns here after (tree.Convert from to at) e =
-      let marks = put_bytes p here at (bytes_of to) (λ k. converted_mark from (number_at lent p here at)) in
+      let marks = put_bytes p here at (bytes_of to) (behind_convert lent p (marks_in here) from at) in
       let h = allowed_is (same_from lent p here at (bytes_of from)) marks after e in
-      to_after (FitsLeaf lent p (turns_ends turns) (marks_in here) (tree.Convert from to at)) marks after h.1 (h.0, bytes_put p here at (bytes_of to) (λ k. converted_mark from (number_at lent p here at)))
+      to_after (FitsLeaf lent p (turns_ends turns) (marks_in here) (tree.Convert from to at)) marks after h.1 (h.0, bytes_put p here at (bytes_of to) (behind_convert lent p (marks_in here) from at))
   leaf_fits turns here after (tree.BitRead to register number) e = to_after (FitsLeaf lent p (turns_ends turns) (marks_in here) (tree.BitRead to register number)) (put p here to Numbers) after (some_is (put p here to Numbers) after e) (put_below p here to Numbers)
   leaf_fits turns here after (tree.BitWrite register number from) e =
       let h = allowed_is (same_at lent p here from) here after e in
@@ -256,14 +253,16 @@ module _ (lent : ℕ → Bool) (p : ℕ) where
 
   cut_fits : (turns : List Turn) (here after : List Mark) (op : BinOp) (ty : IntTy) (to a b : Byte) → walk_binary lent p true here op ty to a b ≡ Some after → FitsNarrowed lent p (marks_in here) op ty to a b (marks_in after)
   cut_fits turns here after op ty to a b e =
-      let marks = put_bytes p here to (bytes_of ty) low_alone in
+      let mark = narrow_mark op (small_at lent p here ty a b) in
+      let marks = put_bytes p here to (bytes_of (type_of op ty)) mark in
+      let able : Bool = is_low op || (compares op && small_at lent p here ty a b) in
       let h = allowed_is (may_cut lent p here op ty to a b) marks after e in
-      let last = and_parts (is_low op && nat_lt 1 (bytes_of ty) && number_at lent p here a && number_at lent p here b) (may_differ lent p to) h.0 in
-      let fourth = and_parts (is_low op && nat_lt 1 (bytes_of ty) && number_at lent p here a) (number_at lent p here b) last.0 in
-      let third = and_parts (is_low op && nat_lt 1 (bytes_of ty)) (number_at lent p here a) fourth.0 in
-      let second = and_parts (is_low op) (nat_lt 1 (bytes_of ty)) third.0 in
+      let last = and_parts (able && nat_lt 1 (bytes_of ty) && number_at lent p here a && number_at lent p here b) (may_differ lent p to) h.0 in
+      let fourth = and_parts (able && nat_lt 1 (bytes_of ty) && number_at lent p here a) (number_at lent p here b) last.0 in
+      let third = and_parts (able && nat_lt 1 (bytes_of ty)) (number_at lent p here a) fourth.0 in
+      let second = and_parts able (nat_lt 1 (bytes_of ty)) third.0 in
       to_after (FitsNarrowed lent p (marks_in here) op ty to a b) marks after h.1
-      (record { low = second.0; wide = second.1; left_is = third.1; right_is = fourth.1; to_is = last.1; behind_is = bytes_put p here to (bytes_of ty) low_alone })
+      (record { able = second.0; wide = second.1; left_is = third.1; right_is = fourth.1; to_is = last.1; behind_is = bytes_put p here to (bytes_of (type_of op ty)) mark })
 
   binary_fits : (turns : List Turn) (here after : List Mark) (op : BinOp) (ty : IntTy) (to a b : Byte) (t : Bool) → walk_binary lent p t here op ty to a b ≡ Some after
       → Fits lent p (turns_ends turns) (marks_in here) (if t then plans.Narrowed op ty to a b else plans.Stays (tree.Binary op ty to a b)) (marks_in after)
@@ -275,7 +274,7 @@ module _ (lent : ℕ → Bool) (p : ℕ) where
     walk_fits turns here after (tree.Binary op ty to a b) d e = binary_fits turns here after op ty to a b (cuts d) e
     walk_fits turns here after (tree.Many ts) d e = walks_fit turns here after ts (parts_of d) e
     walk_fits turns here after (tree.If test size first second) d e =
-        let h = if_parts (same_from lent p here test size) (joined (walk lent p turns here first (first_of d)) (walk lent p turns here second (second_of d))) after e in
+        let h = if_parts (fits_way lent p (marks_in here) test size (way_of d)) (joined (walk lent p turns here first (first_of d)) (walk lent p turns here second (second_of d))) after e in
         let ways = joined_parts (walk lent p turns here first (first_of d)) (walk lent p turns here second (second_of d)) after h.1 in
         let one = walk_fits turns here ways.0 first (first_of d) ways.2 in
         let other = walk_fits turns here ways.1 second (second_of d) ways.3 in
@@ -316,8 +315,8 @@ module _ (lent : ℕ → Bool) (p : ℕ) where
         (marks_in h.0, walk_fits turns here h.0 t (head_of ds) h.1, walks_fit turns h.0 after ts (tail_of ds) h.2)
 
 same_start : (size i : ℕ) → IsBelow (get_or (replicate size Same) i Differs) Same
-same_start zero i = tt
-same_start (suc size) zero = tt
+same_start zero i = refl
+same_start (suc size) zero = refl
 same_start (suc size) (suc i) = same_start size i
 
 pub test_is_right : TestIsRight

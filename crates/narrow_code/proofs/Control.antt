@@ -1,23 +1,38 @@
 -- Steps of control: choices, loops, calls, the ends of bodies, and the entry of the handler.
-use Rattle.std.proofs.Common.{◌≡◌, ℕ, zero, suc, Bool, true, false, List, [], ◌∷◌, Option, Some, None, refl, sym, ap, ◌∙◌, subst, arith}
-use Rattle.std.proofs.lemmas.Bool.{true≢false, and_parts}
+use Rattle.std.proofs.Common.{◌≡◌, ℕ, zero, suc, ◌+◌, ◌-◌, ◌*◌, Bool, true, false, not, ◌&&◌, nat_eq, nat_lt, List, [], ◌∷◌, Option, Some, None, refl, sym, ap, ◌∙◌, subst, arith}
+use Rattle.std.proofs.lemmas.Bool.{true≢false, and_parts, ltb-true}
 use Rattle.pic_world.specs.Roots.{same_root}
 use Rattle.pic_world.specs.World.{World, noted, left, entered, Ended}
 use Rattle.pic_world.specs.declared.Root.{Root}
 use Rattle.pic_world.specs.declared.Root.TheVariants.{Main, Isr}
-use Rattle.core_code.specs.Bytes.{Held, Memory, without_frame}
+use Rattle.core_code.specs.Bytes as bytes
+use Rattle.core_code.specs.Bytes.{Held, Memory, Place, behind, without_frame}
 use Rattle.core_code.specs.Machine as task
 use Rattle.core_code.specs.Machine.{Task, Waiting, Next, Goes, Stuck, Still, goes, when, is_own, may_call, opened, begins, call, exit, again, leave, at_end, chosen, may_interrupt, enter}
 use Rattle.core_code.specs.Tree.{list_of}
-use Rattle.core_code.specs.Values.{truth_in}
+use Rattle.core_code.specs.Values.{number_in, with_low, truth_of, truth_in}
 use Rattle.core_code.specs.declared.code.Byte.{Byte}
-use Rattle.narrow_code.specs.Marks.{Same, Marks, agree, Below}
+use Rattle.narrow_code.specs.Marks.{Same, Tells, Denies, Marks, Holds, tells, denies, own_mark, agree, Below}
 use Rattle.narrow_code.specs.Plans as plans
 use Rattle.narrow_code.specs.Plans.{Plan, Plans, given, made, all_given, all_made, Narrowing, given_program, made_program}
-use Rattle.narrow_code.specs.Right.{Exits, Repeats, Fits, AllFit, IsSound}
-use Rattle.narrow_code.proofs.Memory.{Alike, lower, lower_refl, truth_same}
+use Rattle.narrow_code.specs.Right.{Exits, Repeats, is_low_alone, fits_way, Fits, AllFit, IsSound}
+use Rattle.narrow_code.proofs.Memory.{never, holds_tells, holds_denies, Alike, lower, lower_refl, own_holds, none_above, truth_same}
 use Rattle.narrow_code.proofs.Relation.{Job, ToDo, ToJoin, ToEnd, Hold, HoldLoop, HoldCall, HoldHandler, ones, others, one_stack, other_stack, loops_of, Runs, Weak, Passes, Interrupts, Stands, Outcome, Halts, Moves, when_same, when_both, below_kept, stands_kept, jobs, jobs_first, jobs_second, jobs_run}
-use Rattle.narrow_code.proofs.Steps.{own_same, calls_parts, Scene, fresh, fresh_alike, fresh_off, known_open, open_alike, open_off, differs, fresh_below, loops, go_same}
+use Rattle.narrow_code.proofs.Values.{no_pointer_if}
+use Rattle.narrow_code.proofs.Steps.{own_less, own_same, calls_parts, Scene, fresh, fresh_alike, fresh_off, known_open, open_alike, open_off, differs, fresh_below, loops, go_same}
+
+-- what a test of a value comes to of which but the lowest byte is 0
+truth_low : (size : ℕ) → nat_lt 0 size ≡ true → (m : Memory) (b : Byte) (n : ℕ) → m b ≡ bytes.Number n → number_in m (behind b 1) (size - 1) ≡ Some 0 → truth_in m b size ≡ Some (not (nat_eq n 0))
+unfolding truth_in
+truth_low zero positive m b n e none = never positive
+truth_low (suc w) positive m b n e none =
+    let same : n + 256 * 0 ≡ n = omega arith in
+    let less : suc w - 1 ≡ w = omega arith in
+    ap (λ (at : Option Place). truth_of at (number_in m b (suc w))) (no_pointer_if (nat_eq (suc w) 2) m b n e)
+    ∙ ap (λ (h : Held). truth_of None (with_low h (number_in m (behind b 1) w))) e ∙ ap (λ (o : Option ℕ). truth_of None (with_low (bytes.Number n) o)) (ap (number_in m (behind b 1)) (sym less) ∙ none) ∙ ap (λ (k : ℕ). Some (not (nat_eq k 0))) same
+
+truth_byte : (m : Memory) (b : Byte) (n : ℕ) → m b ≡ bytes.Number n → truth_in m b 1 ≡ Some (not (nat_eq n 0))
+truth_byte m b n e = truth_low 1 refl m b n e refl
 
 same_roots : (a b c : Root) → same_root a b ≡ true → same_root a c ≡ true → same_root b c ≡ true
 same_roots Main Main c e f = f
@@ -128,6 +143,59 @@ module _ (x : Narrowing) (sound : IsSound x) where
             subst (λ (t : Option Bool). Outcome x (chosen (truth_in sc.m test size) (given first) (given second) (ones js) sc.p sc.a (one_stack sc.s) sc.m sc.w) (chosen t (made first) (made second) (others js) sc.p sc.a (other_stack sc.s) sc.l sc.w))
                 (truth_same x.lent sc.p sc.here sc.known sc.m sc.l sc.alike sc.link size test e) (chosen_step (truth_in sc.m test size)),
           ))
+
+      -- by the low byte alone
+      module _ (test : Byte) (size : ℕ) (positive : nat_lt 0 size ≡ true) (low : is_low_alone x.lent sc.p sc.here test size ≡ true) where
+        abbrev first_way : Option Bool → Next
+        first_way t = chosen t (given first) (given second) (ones js) sc.p sc.a (one_stack sc.s) sc.m sc.w
+
+        tested : (n : ℕ) → sc.m test ≡ bytes.Number n → truth_in sc.m test size ≡ Some (not (nat_eq n 0))
+        tested n e = truth_low size positive sc.m test n e (none_above x.lent sc.p sc.here sc.known sc.m sc.l sc.alike sc.link (size - 1) (behind test 1) low)
+
+        owns : is_own (given_program x) sc.p test size ≡ true → is_own (made_program x) sc.p test 1 ≡ true
+        owns own = own_less x sc.p test size (ltb-true 0 size positive) own
+
+        told_step : Holds Tells (sc.m test) (sc.l test)
+            → Outcome x (when (is_own (given_program x) sc.p test size) (first_way (truth_in sc.m test size)))
+            (when (is_own (made_program x) sc.p test 1) (chosen (truth_in sc.l test 1) (made first) (made second) (others js) sc.p sc.a (other_stack sc.s) sc.l sc.w))
+        told_step h =
+            when_both x (is_own (given_program x) sc.p test size) (is_own (made_program x) sc.p test 1) _ _ (λ own. (
+              owns own,
+              subst (λ (t : Option Bool). Outcome x (first_way t) (chosen (truth_in sc.l test 1) (made first) (made second) (others js) sc.p sc.a (other_stack sc.s) sc.l sc.w)) (sym (tested h.0 h.2))
+                  (subst (λ (t : Option Bool). Outcome x (first_way (Some (not (nat_eq h.0 0)))) (chosen t (made first) (made second) (others js) sc.p sc.a (other_stack sc.s) sc.l sc.w))
+                  (sym (truth_byte sc.l test h.1 h.3 ∙ ap (λ (t : Bool). Some (not t)) h.4)) (chosen_step (Some (not (nat_eq h.0 0))))),
+            ))
+
+        turned_step : (t : Bool) → Outcome x (first_way (Some t)) (chosen (Some (not t)) (made second) (made first) (others js) sc.p sc.a (other_stack sc.s) sc.l sc.w)
+        turned_step true = chosen_step (Some true)
+        turned_step false = chosen_step (Some false)
+
+        denied_step : Holds Denies (sc.m test) (sc.l test)
+            → Outcome x (when (is_own (given_program x) sc.p test size) (first_way (truth_in sc.m test size)))
+            (when (is_own (made_program x) sc.p test 1) (chosen (truth_in sc.l test 1) (made second) (made first) (others js) sc.p sc.a (other_stack sc.s) sc.l sc.w))
+        denied_step h =
+            when_both x (is_own (given_program x) sc.p test size) (is_own (made_program x) sc.p test 1) _ _ (λ own. (
+              owns own,
+              subst (λ (t : Option Bool). Outcome x (first_way t) (chosen (truth_in sc.l test 1) (made second) (made first) (others js) sc.p sc.a (other_stack sc.s) sc.l sc.w)) (sym (tested h.0 h.2))
+                  (subst (λ (t : Option Bool). Outcome x (first_way (Some (not (nat_eq h.0 0)))) (chosen t (made second) (made first) (others js) sc.p sc.a (other_stack sc.s) sc.l sc.w))
+                  (sym (truth_byte sc.l test h.1 h.3 ∙ ap (λ (t : Bool). Some (not t)) h.4)) (turned_step (not (nat_eq h.0 0)))),
+            ))
+
+      pub low_choice_step : (test : Byte) (size : ℕ) → fits_way x.lent sc.p sc.here test size plans.Low ≡ true
+          → Outcome x (when (is_own (given_program x) sc.p test size) (chosen (truth_in sc.m test size) (given first) (given second) (ones js) sc.p sc.a (one_stack sc.s) sc.m sc.w))
+          (when (is_own (made_program x) sc.p test 1) (chosen (truth_in sc.l test 1) (made first) (made second) (others js) sc.p sc.a (other_stack sc.s) sc.l sc.w))
+      low_choice_step test size e =
+          let some = and_parts (nat_lt 0 size) (tells (own_mark x.lent sc.p sc.here test) && is_low_alone x.lent sc.p sc.here test size) e in
+          let parts = and_parts (tells (own_mark x.lent sc.p sc.here test)) (is_low_alone x.lent sc.p sc.here test size) some.1 in
+          told_step test size some.0 parts.1 (holds_tells (own_mark x.lent sc.p sc.here test) (sc.m test) (sc.l test) parts.0 (own_holds x.lent sc.p sc.here sc.known sc.m sc.l sc.alike sc.link test))
+
+      pub turned_choice_step : (test : Byte) (size : ℕ) → fits_way x.lent sc.p sc.here test size plans.Turned ≡ true
+          → Outcome x (when (is_own (given_program x) sc.p test size) (chosen (truth_in sc.m test size) (given first) (given second) (ones js) sc.p sc.a (one_stack sc.s) sc.m sc.w))
+          (when (is_own (made_program x) sc.p test 1) (chosen (truth_in sc.l test 1) (made second) (made first) (others js) sc.p sc.a (other_stack sc.s) sc.l sc.w))
+      turned_choice_step test size e =
+          let some = and_parts (nat_lt 0 size) (denies (own_mark x.lent sc.p sc.here test) && is_low_alone x.lent sc.p sc.here test size) e in
+          let parts = and_parts (denies (own_mark x.lent sc.p sc.here test)) (is_low_alone x.lent sc.p sc.here test size) some.1 in
+          denied_step test size some.0 parts.1 (holds_denies (own_mark x.lent sc.p sc.here test) (sc.m test) (sc.l test) parts.0 (own_holds x.lent sc.p sc.here sc.known sc.m sc.l sc.alike sc.link test))
 
     -- ---- calls
     pub call_step : (d : ℕ) → Below sc.p after sc.here

@@ -1,5 +1,7 @@
 -- What a step of each program costs.
-use Rattle.std.proofs.Common.{◌≡◌, ℕ, ◌+◌, ◌≤◌, Bool, true, false, if◌then◌else◌, List, [], ◌∷◌, Option, refl, sym, ap, arith}
+use Rattle.std.proofs.Common.{◌≡◌, ℕ, ◌+◌, ◌≤◌, Bool, true, false, ◌&&◌, ◌||◌, nat_lt, if◌then◌else◌, List, [], ◌∷◌, Option, refl, sym, ap, arith}
+use Rattle.std.proofs.lemmas.Bool.{and_parts, ltb-true}
+use Rattle.c_ints.specs.Operators.{compares}
 use Rattle.c_ints.specs.Range.{bytes_of}
 use Rattle.c_ints.specs.declared.operators.BinOp.{BinOp}
 use Rattle.c_ints.specs.declared.operators.BinOp.TheVariants as ops
@@ -11,11 +13,11 @@ use Rattle.core_code.specs.Tree as tree
 use Rattle.core_code.specs.Tree.{Tree}
 use Rattle.narrow_code.specs.Marks.{Marks}
 use Rattle.narrow_code.specs.Plans as plans
-use Rattle.narrow_code.specs.Plans.{Plan, given, made, Narrowing, given_program, made_program, given_setting, made_setting}
-use Rattle.narrow_code.specs.Right.{is_low, Ends, Fits}
+use Rattle.narrow_code.specs.Plans.{Plan, low_op, given, made, Narrowing, given_program, made_program, given_setting, made_setting}
+use Rattle.narrow_code.specs.Right.{is_low, are_low_alone, Ends, Fits}
 use Rattle.narrow_code.proofs.Memory.{never}
 use Rattle.narrow_code.proofs.Relation.{Job, ToDo, ToPut, ToPutBit, ToPutBack, ToJoin, ToLoad, ToStore, ToEnd, Hold, HoldLoop, HoldCall, HoldHandler, ones, others, one_stack, other_stack, loops_of, SameCounts, Runs, State, first_machine, second_machine, Stays}
-use Rattle.narrow_code.proofs.Narrow.{width_suc}
+use Rattle.narrow_code.proofs.Values.{width_suc}
 
 -- an operation that stays
 cost_same : (before with : List Tree) (t : Tree) → SameCounts before with → cost_of with t ≡ cost_of before t
@@ -55,13 +57,19 @@ leaving_same tree.Leave s = restoring_same s
 leaving_same _ s = refl
 
 -- one that is narrowed
-narrow_less : (op : BinOp) (one other : Option ℕ) (w : ℕ) → is_low op ≡ true → 1 ≤ w → binary_cost op other 1 ≤ binary_cost op one w
-narrow_less ops.Add one other w e h = omega arith
-narrow_less ops.Sub one other w e h = omega arith
-narrow_less ops.And one other w e h = omega arith
-narrow_less ops.Or one other w e h = omega arith
-narrow_less ops.Xor one other w e h = omega arith
-narrow_less _ one other w e h = never e
+narrow_less : (op : BinOp) (one other : Option ℕ) (w : ℕ) (small : Bool) → (is_low op || (compares op && small)) ≡ true → 1 ≤ w → binary_cost (low_op op) other 1 ≤ binary_cost op one w
+narrow_less ops.Add one other w small e h = omega arith
+narrow_less ops.Sub one other w small e h = omega arith
+narrow_less ops.And one other w small e h = omega arith
+narrow_less ops.Or one other w small e h = omega arith
+narrow_less ops.Xor one other w small e h = omega arith
+narrow_less ops.Eq one other w small e h = omega arith
+narrow_less ops.Ne one other w small e h = omega arith
+narrow_less ops.Lt one other w small e h = omega arith
+narrow_less ops.Gt one other w small e h = omega arith
+narrow_less ops.Le one other w small e h = omega arith
+narrow_less ops.Ge one other w small e h = omega arith
+narrow_less _ one other w small e h = never e
 
 width_positive : (ty : IntTy) → 1 ≤ bytes_of ty
 width_positive ty = let w = width_suc ty in let is = w.1 in omega arith
@@ -93,16 +101,20 @@ module _ (x : Narrowing) where
   plan_least (plans.Stays t) s = least_same t s
   plan_least (plans.Narrowed op ty to a b) s = refl
   plan_least (plans.Several ts) s = refl
-  plan_least (plans.Choice test size first second) s = refl
+  plan_least (plans.Choice test size plans.Whole first second) s = refl
+  plan_least (plans.Choice test size plans.Low first second) s = refl
+  plan_least (plans.Choice test size plans.Turned first second) s = refl
   plan_least (plans.Repeat front behind body) s = refl
 
   plan_most : (p : ℕ) (loops : List Ends) (here after : Marks) (before with : List Tree) (t : Plan) (s : List Hold) → SameCounts before with → Fits x.lent p loops here t after
       → cost_of with (made t) + leaving (made t) (other_stack s) ≤ cost_of before (given t) + leaving (given t) (one_stack s)
   unfolding cost_of
   plan_most p loops here after before with (plans.Narrowed op ty to a b) s same fits =
-      let less = narrow_less op (number_left before b) (number_left with b) (bytes_of ty) fits.low (width_positive ty) in omega (arith, less)
+      let less = narrow_less op (number_left before b) (number_left with b) (bytes_of ty) (are_low_alone x.lent p here ty a b) fits.able (width_positive ty) in omega (arith, less)
   plan_most p loops here after before with (plans.Several ts) s same fits = omega arith
-  plan_most p loops here after before with (plans.Choice test size first second) s same fits = omega arith
+  plan_most p loops here after before with (plans.Choice test size plans.Whole first second) s same fits = omega arith
+  plan_most p loops here after before with (plans.Choice test size plans.Low first second) s same fits = let positive = ltb-true 0 size (and_parts (nat_lt 0 size) _ fits.0).0 in omega arith
+  plan_most p loops here after before with (plans.Choice test size plans.Turned first second) s same fits = let positive = ltb-true 0 size (and_parts (nat_lt 0 size) _ fits.0).0 in omega arith
   plan_most p loops here after before with (plans.Repeat front behind body) s same fits = omega arith
   plan_most p loops here after before with (plans.Stays t) s same fits = stays_most before with t s same
 

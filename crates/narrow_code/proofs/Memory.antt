@@ -1,47 +1,190 @@
 -- What marks say of two memories, and that writes keep it.
-use Rattle.std.proofs.Common.{◌≡◌, ℕ, zero, suc, Bool, true, false, not, ◌&&◌, nat_eq, if◌then◌else◌, Option, refl, sym, ap, ◌∙◌, subst}
+use Rattle.std.proofs.Common.{◌≡◌, ℕ, zero, suc, ◌<◌, Bool, true, false, not, ◌&&◌, nat_eq, if◌then◌else◌, Option, Some, refl, sym, ap, ◌∙◌, subst, arith}
 use Rattle.std.proofs.lemmas.Bool.{true≢false, and_parts, both_ways, eqb-true, not-true}
+use Rattle.core_code.specs.Bytes as bytes
 use Rattle.core_code.specs.Bytes.{Held, Memory, Place, same_byte, behind, with_byte, with_bytes}
 use Rattle.core_code.specs.Values.{number_in, with_low, joined, pointer_in, pointer_if, value_in, truth_in, truth_of}
 use Rattle.c_ints.specs.Range.{bytes_of}
 use Rattle.c_ints.specs.declared.types.IntTy.{IntTy}
 use Rattle.core_code.specs.declared.code.Byte.{Byte}
 use Rattle.core_code.specs.declared.code.Byte.TheVariants.{Static, Frame, Result, Device}
-use Rattle.narrow_code.specs.Marks.{Mark, Numbers, Same, Differs, Marks, Holds, IsBelow, is_same, marked, marked_bytes, marked_on, mark_in, own_mark, agree, may_differ, Below}
+use Rattle.narrow_code.specs.Marks.{Mark, Zero, Numbers, Same, Tells, Denies, Cleared, Differs, Marks, Holds, IsBelow, is_same, is_number, is_zero, is_cleared, tells, denies, cleared, marked, marked_bytes, marked_on, mark_in, own_mark, agree, may_differ, Below}
 
 pub never : {A : Type 0} → false ≡ true → A
 never e = absurd (true≢false (sym e))
 
 -- ---- marks
 pub holds_same : (k : Mark) (h l : Held) → is_same k ≡ true → Holds k h l → h ≡ l
-holds_same Numbers h l e p = p.1 ∙ sym p.2
+holds_same Zero h l e p = p.0 ∙ sym p.1
+holds_same Numbers h l e p = p.2 ∙ sym p.3
 holds_same Same h l e p = p
+holds_same Tells h l e p = never e
+holds_same Denies h l e p = never e
+holds_same Cleared h l e p = never e
 holds_same Differs h l e p = never e
 
+pub holds_number : (k : Mark) (h l : Held) → is_number k ≡ true → Holds k h l → (n : ℕ) × (n < 256) × (h ≡ bytes.Number n) × (l ≡ bytes.Number n)
+holds_number Zero h l e p = (0, omega arith, p.0, p.1)
+holds_number Numbers h l e p = p
+holds_number Same h l e p = never e
+holds_number Tells h l e p = never e
+holds_number Denies h l e p = never e
+holds_number Cleared h l e p = never e
+holds_number Differs h l e p = never e
+
+holds_zero : (k : Mark) (h l : Held) → is_zero k ≡ true → Holds k h l → Holds Zero h l
+holds_zero Zero h l e p = p
+holds_zero Numbers h l e p = never e
+holds_zero Same h l e p = never e
+holds_zero Tells h l e p = never e
+holds_zero Denies h l e p = never e
+holds_zero Cleared h l e p = never e
+holds_zero Differs h l e p = never e
+
+pub holds_tells : (k : Mark) (h l : Held) → tells k ≡ true → Holds k h l → Holds Tells h l
+holds_tells Zero h l e p = (0, 0, p.0, p.1, refl)
+holds_tells Numbers h l e p = (p.0, p.0, p.2, p.3, refl)
+holds_tells Tells h l e p = p
+holds_tells Same h l e p = never e
+holds_tells Denies h l e p = never e
+holds_tells Cleared h l e p = never e
+holds_tells Differs h l e p = never e
+
+pub holds_denies : (k : Mark) (h l : Held) → denies k ≡ true → Holds k h l → Holds Denies h l
+holds_denies Denies h l e p = p
+holds_denies Zero h l e p = never e
+holds_denies Numbers h l e p = never e
+holds_denies Same h l e p = never e
+holds_denies Tells h l e p = never e
+holds_denies Cleared h l e p = never e
+holds_denies Differs h l e p = never e
+
+pub holds_cleared : (k : Mark) (h l : Held) → is_cleared k ≡ true → Holds k h l → h ≡ bytes.Number 0
+holds_cleared Zero h l e p = p.0
+holds_cleared Cleared h l e p = p
+holds_cleared Numbers h l e p = never e
+holds_cleared Same h l e p = never e
+holds_cleared Tells h l e p = never e
+holds_cleared Denies h l e p = never e
+holds_cleared Differs h l e p = never e
+
 pub weaken : (k j : Mark) (h l : Held) → IsBelow k j → Holds j h l → Holds k h l
+weaken Zero j h l b p = holds_zero j h l b p
+weaken Numbers j h l b p = holds_number j h l b p
+weaken Same j h l b p = holds_same j h l b p
+weaken Tells j h l b p = holds_tells j h l b p
+weaken Denies j h l b p = holds_denies j h l b p
+weaken Cleared j h l b p = holds_cleared j h l b p
 weaken Differs j h l b p = tt
-weaken Same Differs h l b p = absurd b
-weaken Same Same h l b p = p
-weaken Same Numbers h l b p = p.1 ∙ sym p.2
-weaken Numbers Numbers h l b p = p
-weaken Numbers Same h l b p = absurd b
-weaken Numbers Differs h l b p = absurd b
 
 pub below_refl : (k : Mark) → IsBelow k k
-below_refl Numbers = tt
-below_refl Same = tt
-below_refl Differs = tt
+below_refl Zero = refl
+below_refl Numbers = refl
+below_refl Same = refl
+below_refl Tells = refl
+below_refl Denies = refl
+below_refl Cleared = refl
+below_refl Differs = refl
+
+-- what a mark says of itself, all marks above it say
+zero_up : (j k : Mark) → is_zero j ≡ true → IsBelow j k → is_zero k ≡ true
+zero_up Zero k a b = b
+zero_up Numbers k a b = never a
+zero_up Same k a b = never a
+zero_up Tells k a b = never a
+zero_up Denies k a b = never a
+zero_up Cleared k a b = never a
+zero_up Differs k a b = never a
+
+zero_number : (k : Mark) → is_zero k ≡ true → is_number k ≡ true
+zero_number Zero e = refl
+zero_number Numbers e = never e
+zero_number Same e = never e
+zero_number Tells e = never e
+zero_number Denies e = never e
+zero_number Cleared e = never e
+zero_number Differs e = never e
+
+number_same_mark : (k : Mark) → is_number k ≡ true → is_same k ≡ true
+number_same_mark Zero e = refl
+number_same_mark Numbers e = refl
+number_same_mark Same e = never e
+number_same_mark Tells e = never e
+number_same_mark Denies e = never e
+number_same_mark Cleared e = never e
+number_same_mark Differs e = never e
+
+number_tells : (k : Mark) → is_number k ≡ true → tells k ≡ true
+number_tells Zero e = refl
+number_tells Numbers e = refl
+number_tells Same e = never e
+number_tells Tells e = never e
+number_tells Denies e = never e
+number_tells Cleared e = never e
+number_tells Differs e = never e
+
+zero_cleared : (k : Mark) → is_zero k ≡ true → is_cleared k ≡ true
+zero_cleared Zero e = refl
+zero_cleared Numbers e = never e
+zero_cleared Same e = never e
+zero_cleared Tells e = never e
+zero_cleared Denies e = never e
+zero_cleared Cleared e = never e
+zero_cleared Differs e = never e
+
+number_up : (j k : Mark) → is_number j ≡ true → IsBelow j k → is_number k ≡ true
+number_up Zero k a b = zero_number k b
+number_up Numbers k a b = b
+number_up Same k a b = never a
+number_up Tells k a b = never a
+number_up Denies k a b = never a
+number_up Cleared k a b = never a
+number_up Differs k a b = never a
+
+same_up : (j k : Mark) → is_same j ≡ true → IsBelow j k → is_same k ≡ true
+same_up Zero k a b = number_same_mark k (zero_number k b)
+same_up Numbers k a b = number_same_mark k b
+same_up Same k a b = b
+same_up Tells k a b = never a
+same_up Denies k a b = never a
+same_up Cleared k a b = never a
+same_up Differs k a b = never a
+
+tells_up : (j k : Mark) → tells j ≡ true → IsBelow j k → tells k ≡ true
+tells_up Zero k a b = number_tells k (zero_number k b)
+tells_up Numbers k a b = number_tells k b
+tells_up Tells k a b = b
+tells_up Same k a b = never a
+tells_up Denies k a b = never a
+tells_up Cleared k a b = never a
+tells_up Differs k a b = never a
+
+denies_up : (j k : Mark) → denies j ≡ true → IsBelow j k → denies k ≡ true
+denies_up Denies k a b = b
+denies_up Zero k a b = never a
+denies_up Numbers k a b = never a
+denies_up Same k a b = never a
+denies_up Tells k a b = never a
+denies_up Cleared k a b = never a
+denies_up Differs k a b = never a
+
+cleared_up : (j k : Mark) → is_cleared j ≡ true → IsBelow j k → is_cleared k ≡ true
+cleared_up Zero k a b = zero_cleared k b
+cleared_up Cleared k a b = b
+cleared_up Numbers k a b = never a
+cleared_up Same k a b = never a
+cleared_up Tells k a b = never a
+cleared_up Denies k a b = never a
+cleared_up Differs k a b = never a
 
 pub below_trans : (i j k : Mark) → IsBelow i j → IsBelow j k → IsBelow i k
-below_trans Differs j k a b = tt
-below_trans Same Differs k a b = absurd a
-below_trans Same Same k a b = b
-below_trans Same Numbers Numbers a b = tt
-below_trans Same Numbers Same a b = tt
-below_trans Same Numbers Differs a b = absurd b
-below_trans Numbers Numbers k a b = b
-below_trans Numbers Same k a b = absurd a
-below_trans Numbers Differs k a b = absurd a
+below_trans Zero j k a b = zero_up j k a b
+below_trans Numbers j k a b = number_up j k a b
+below_trans Same j k a b = same_up j k a b
+below_trans Tells j k a b = tells_up j k a b
+below_trans Denies j k a b = denies_up j k a b
+below_trans Cleared j k a b = cleared_up j k a b
+below_trans Differs j k a b = refl
 
 pub lower : (p : ℕ) (a b c : Marks) → Below p a b → Below p b c → Below p a c
 lower p a b c h k copy offset e = below_trans (a (Frame copy offset)) (b (Frame copy offset)) (c (Frame copy offset)) (h copy offset e) (k copy offset e)
@@ -151,20 +294,20 @@ module _ (lent : ℕ → Bool) where
   set_own p known m l (Frame d j) k h g e q r (Device a) = r (Device a)
 
   -- to the first alone
-  if_left : (s t : Bool) (j : Mark) (h a b : Held) → (s ≡ true → t ≡ true → ⊥) → Holds (if s then Same else j) a b → Holds (if s then Same else if t then Differs else j) (if t then h else a) b
-  if_left true true j h a b e r = absurd (e refl refl)
-  if_left true false j h a b e r = r
-  if_left false true j h a b e r = tt
-  if_left false false j h a b e r = r
+  if_left : (s t : Bool) (k j : Mark) (h a b : Held) → (s ≡ true → t ≡ true → ⊥) → Holds k h b → Holds (if s then Same else j) a b → Holds (if s then Same else if t then k else j) (if t then h else a) b
+  if_left true true k j h a b e q r = absurd (e refl refl)
+  if_left true false k j h a b e q r = r
+  if_left false true k j h a b e q r = q
+  if_left false false k j h a b e q r = r
 
-  pub set_left : (p : ℕ) (known : Marks) (m l : Memory) (to : Byte) (h : Held) → may_differ lent p to ≡ true → Alike known m l → Alike (marked known to Differs) (with_byte m to h) l
-  set_left p known m l (Static n i) h e r b = never e
-  set_left p known m l (Result n i) h e r b = never e
-  set_left p known m l (Device a) h e r b = never e
-  set_left p known m l (Frame d j) h e r (Static n i) = r (Static n i)
-  set_left p known m l (Frame d j) h e r (Frame c i) = if_left (lent c) (same_byte (Frame c i) (Frame d j)) (known (Frame c i)) h (m (Frame c i)) (l (Frame c i)) (λ s t. not_lent p c i d j e s t) (r (Frame c i))
-  set_left p known m l (Frame d j) h e r (Result n i) = r (Result n i)
-  set_left p known m l (Frame d j) h e r (Device a) = r (Device a)
+  pub set_left : (p : ℕ) (known : Marks) (m l : Memory) (to : Byte) (k : Mark) (h : Held) → may_differ lent p to ≡ true → ((g : Held) → Holds k h g) → Alike known m l → Alike (marked known to k) (with_byte m to h) l
+  set_left p known m l (Static n i) k h e q r b = never e
+  set_left p known m l (Result n i) k h e q r b = never e
+  set_left p known m l (Device a) k h e q r b = never e
+  set_left p known m l (Frame d j) k h e q r (Static n i) = r (Static n i)
+  set_left p known m l (Frame d j) k h e q r (Frame c i) = if_left (lent c) (same_byte (Frame c i) (Frame d j)) k (known (Frame c i)) h (m (Frame c i)) (l (Frame c i)) (λ s t. not_lent p c i d j e s t) (q (l (Frame c i))) (r (Frame c i))
+  set_left p known m l (Frame d j) k h e q r (Result n i) = r (Result n i)
+  set_left p known m l (Frame d j) k h e q r (Device a) = r (Device a)
 
   -- so many bytes
   pub set_bytes : (known : Marks) (m l : Memory) (to : Byte) (n : ℕ) (k : ℕ → Mark) (h : ℕ → Held) → ((i : ℕ) → Holds (k i) (h i) (h i)) → Alike known m l → Alike (marked_bytes known to n k) (with_bytes m to n h) (with_bytes l to n h)
@@ -192,6 +335,13 @@ module _ (lent : ℕ → Bool) where
     number_same (suc n) b e =
         let parts = and_parts (is_same (own_mark lent p here b)) (agree lent p here (behind b 1) n) e in
         ap (λ (h : Held). with_low h (number_in m (behind b 1) n)) (read_same b parts.0) ∙ ap (with_low (l b)) (number_same n (behind b 1) parts.1)
+
+    -- bytes that are 0 in the given program are the number 0
+    pub none_above : (n : ℕ) (b : Byte) → cleared lent p here b n ≡ true → number_in m b n ≡ Some 0
+    none_above zero b e = refl
+    none_above (suc n) b e =
+        let parts = and_parts (is_cleared (own_mark lent p here b)) (cleared lent p here (behind b 1) n) e in
+        ap (λ (h : Held). with_low h (number_in m (behind b 1) n)) (holds_cleared (own_mark lent p here b) (m b) (l b) parts.0 (own_holds b)) ∙ ap (with_low (bytes.Number 0)) (none_above n (behind b 1) parts.1)
 
     pub pointer_same : (b : Byte) → agree lent p here b 2 ≡ true → pointer_in m b ≡ pointer_in l b
     unfolding pointer_in

@@ -100,7 +100,7 @@ module _ (lent : ℕ → Bool) (p : ℕ) (loops : List Ends) where
   Runs here [] = AtEnd p loops here
   Runs here (ToDo before with t ∷ js) = SameCounts before with × (mid : Marks) × Fits lent p loops here t mid × (low : Marks) × Below p low mid × Runs low js
   Runs here (ToPut to held ∷ js) = (k : Mark) × (mid : Marks) × Holds k held held × Below p mid (marked here to k) × Runs mid js
-  Runs here (ToPutBit to value ∷ js) = (mid : Marks) × Below p mid (marked here to Numbers) × Runs mid js
+  Runs here (ToPutBit to value ∷ js) = (value < 256) × (mid : Marks) × Below p mid (marked here to Numbers) × Runs mid js
   Runs here (ToPutBack register value ∷ js) = Runs here js
   Runs here (ToJoin ∷ js) = Runs here js
   Runs here (ToLoad to object offset n ∷ js) = (mid : Marks) × Below p mid (marked_on here to n) × Runs mid js
@@ -214,8 +214,10 @@ number_behind_last y left (u ∷ ts) t = number_behind_last y (number_behind y l
 number_same : (y : Byte) (left : Option ℕ) (t : Plan) → number_behind y left (given t) ≡ number_behind y left (made t)
 number_same y left (plans.Stays t) = refl
 number_same y left (plans.Narrowed op ty to a b) = refl
+number_same y left (plans.Choice test size plans.Whole first second) = refl
+number_same y left (plans.Choice test size plans.Low first second) = refl
+number_same y left (plans.Choice test size plans.Turned first second) = refl
 number_same y left (plans.Several ts) = refl
-number_same y left (plans.Choice test size first second) = refl
 number_same y left (plans.Repeat front behind body) = refl
 
 counts_on : (before with : List Tree) (t : Plan) → SameCounts before with → SameCounts (before ++ given t ∷ []) (with ++ made t ∷ [])

@@ -1,6 +1,6 @@
 -- Steps that write a byte by its name, and those of control.
-use Rattle.std.proofs.Common.{◌≡◌, ℕ, ◌+◌, ◌<◌, Bool, true, false, not, ◌&&◌, nat_eq, nat_lt, nat_le, if◌then◌else◌, List, Option, Some, None, refl, sym, ap, ◌∙◌, subst, arith}
-use Rattle.std.proofs.lemmas.Bool.{true≢false, and_parts, ne_eqb, eqb-true}
+use Rattle.std.proofs.Common.{◌≡◌, ℕ, zero, suc, ◌+◌, ◌<◌, ◌≤◌, Bool, true, false, not, ◌&&◌, nat_eq, nat_lt, nat_le, if◌then◌else◌, List, Option, Some, None, refl, sym, ap, ◌∙◌, subst, arith}
+use Rattle.std.proofs.lemmas.Bool.{true≢false, and_parts, and_from, ne_eqb, eqb-true, ltb-true, leb-true, le-leb}
 use Rattle.pic_world.specs.Roots.{same_root}
 use Rattle.pic_world.specs.World.{World}
 use Rattle.core_code.specs.Bytes.{Held, Unset, Object, Memory, same_byte, behind, with_byte, is_in_frame, without_frame}
@@ -8,11 +8,26 @@ use Rattle.core_code.specs.Bytes as bytes
 use Rattle.core_code.specs.Machine.{Program, goes, when, is_own, is_valid, may_hold, memory_with, after_write, written, may_call, can_pass, is_entry, opened, pass, passed, put}
 use Rattle.core_code.specs.declared.code.Byte.{Byte}
 use Rattle.core_code.specs.declared.code.Byte.TheVariants.{Static, Frame, Result, Device}
-use Rattle.narrow_code.specs.Marks.{Mark, Same, Marks, Holds, IsBelow, marked, Below}
+use Rattle.narrow_code.specs.Marks.{Mark, Numbers, Same, Marks, Holds, IsBelow, marked, Below}
 use Rattle.narrow_code.specs.Plans.{Narrowing, given_program, made_program}
-use Rattle.narrow_code.specs.Right.{Ends, IsSound}
-use Rattle.narrow_code.proofs.Memory.{Alike, Off, off_refl, is_mine, below_trans, lower, marked_below, marked_off, set_same, if_held}
+use Rattle.narrow_code.specs.Right.{Ends, set_mark, IsSound}
+use Rattle.narrow_code.proofs.Memory.{never, Alike, Off, off_refl, is_mine, below_trans, lower, marked_below, marked_off, set_same, if_held}
 use Rattle.narrow_code.proofs.Relation.{Job, Hold, other, ones, others, one_stack, other_stack, loops_of, Runs, Passes, Stands, Outcome, Moves, when_same, when_both, stands_kept}
+
+-- ---- fewer bytes
+pub less : (j n k : ℕ) → 1 ≤ n → nat_le (j + n) k ≡ true → nat_le (j + 1) k ≡ true
+less j n k h e = let l = leb-true (j + n) k e in le-leb (j + 1) k (omega arith)
+
+pub own_less : (x : Narrowing) (p : ℕ) (b : Byte) (n : ℕ) → 1 ≤ n → is_own (given_program x) p b n ≡ true → is_own (made_program x) p b 1 ≡ true
+unfolding is_own
+own_less x p (Static i offset) n h e = never e
+own_less x p (Frame c offset) n h e =
+    let parts = and_parts (nat_eq c p) (nat_le (offset + n) (x.rest.frame_bytes c)) e in
+    and_from (nat_eq c p) (nat_le (offset + 1) (x.rest.frame_bytes c)) parts.0 (less offset n (x.rest.frame_bytes c) h parts.1)
+own_less x p (Result r k) n h e =
+    let parts = and_parts (same_root r (x.rest.root p)) (nat_le (k + n) 4) e in
+    and_from (same_root r (x.rest.root p)) (nat_le (k + 1) 4) parts.0 (less k n 4 h parts.1)
+own_less x p (Device a) n h e = never e
 
 -- ---- what both programs have
 module _ (x : Narrowing) where
@@ -56,8 +71,17 @@ module _ (x : Narrowing) where
       (second.0, second.1, last.1)
 
   below_same_at : (t : Bool) (k : Mark) → IsBelow Same k → IsBelow Same (if t then Same else k)
-  below_same_at true k h = tt
+  below_same_at true k h = refl
   below_same_at false k h = h
+
+-- what a number that is set is known as
+pub set_holds : (value : ℕ) → Holds (set_mark value) (bytes.Number value) (bytes.Number value)
+set_holds zero = (refl, refl)
+set_holds (suc n) = by_size (nat_lt (suc n) 256) refl
+  where
+    by_size : (t : Bool) → nat_lt (suc n) 256 ≡ t → Holds (if t then Numbers else Same) (bytes.Number (suc n)) (bytes.Number (suc n))
+    by_size true e = (suc n, ltb-true (suc n) 256 e, refl, refl)
+    by_size false e = refl
 
 -- ---- a moment, without the jobs
 pub record Scene (x : Narrowing) : Type 0 where
@@ -104,7 +128,7 @@ module _ (x : Narrowing) (sound : IsSound x) where
   differs c p h = ne_eqb c p (λ e. let same : x.rank c ≡ x.rank p = ap x.rank e in absurd (omega arith))
 
   pub fresh_below : (a : Option ℕ) (p d : ℕ) (known : Marks) → Passes x p known a → can_pass a d ≡ true → Below d (λ byte. Same) (known_open a d known)
-  fresh_below None p d known h e c i f = subst (λ (t : Bool). IsBelow Same (if t then Same else known (Frame c i))) (sym f) tt
+  fresh_below None p d known h e c i f = subst (λ (t : Bool). IsBelow Same (if t then Same else known (Frame c i))) (sym f) refl
   fresh_below (Some o) p d known h e c i f = h.2 c i (subst (λ (z : ℕ). nat_eq c z ≡ true) (sym (eqb-true o d e)) f)
 
   module _ (sc : Scene x) where

@@ -1,6 +1,6 @@
 -- A test of a draft: one walk along the code, which goes from what is known before each operation to what is known behind it.
-use Rattle.std.specs.Prelude.{◌≡◌, ℕ, zero, suc, Bool, true, false, ◌&&◌, nat_eq, nat_lt, if◌then◌else◌, List, [], ◌∷◌, length, set, replicate, Option, Some, None}
-use Rattle.c_ints.specs.Operators.{type_of, unary_type}
+use Rattle.std.specs.Prelude.{◌≡◌, ℕ, zero, suc, Bool, true, false, ◌&&◌, ◌||◌, nat_eq, nat_lt, if◌then◌else◌, List, [], ◌∷◌, length, set, replicate, Option, Some, None}
+use Rattle.c_ints.specs.Operators.{type_of, unary_type, compares}
 use Rattle.c_ints.specs.Range.{bytes_of}
 use Rattle.c_ints.specs.declared.operators.BinOp.{BinOp}
 use Rattle.c_ints.specs.declared.types.IntTy.{IntTy}
@@ -10,9 +10,9 @@ use Rattle.core_code.specs.Tree.{Tree, Trees, NoTree, AndTree}
 use Rattle.core_code.specs.Values.{right_type}
 use Rattle.core_code.specs.declared.code.Byte.{Byte}
 use Rattle.core_code.specs.declared.code.Byte.TheVariants.{Static, Frame, Result, Device}
-use Rattle.narrow_code.specs.Drafts.{Draft, Drafts, cuts, parts_of, first_of, second_of, front_of, behind_of, body_of, head_of, tail_of, marks_in, all_planned}
-use Rattle.narrow_code.specs.Marks.{Mark, Numbers, Same, Differs, is_same, is_number, low_alone, own_mark, agree, may_differ, Below}
-use Rattle.narrow_code.specs.Right.{is_low, result_mark, converted_mark, AllFit}
+use Rattle.narrow_code.specs.Drafts.{Draft, Drafts, cuts, parts_of, way_of, first_of, second_of, front_of, behind_of, body_of, head_of, tail_of, marks_in, all_planned}
+use Rattle.narrow_code.specs.Marks.{Mark, Zero, Numbers, Same, Differs, is_same, is_number, is_below, own_mark, agree, may_differ, Below}
+use Rattle.narrow_code.specs.Right.{is_low, set_mark, narrow_mark, are_low_alone, behind_binary, behind_convert, fits_way, AllFit}
 
 -- the marks at the front of a loop, and behind it
 pub record Turn : Type 0 where
@@ -20,11 +20,6 @@ pub record Turn : Type 0 where
   pub behind : List Mark
 
 -- ---- lists of marks
-abbrev pub is_below : Mark → Mark → Bool
-is_below Differs known = true
-is_below Same known = is_same known
-is_below Numbers known = is_number known
-
 -- beyond its end a list says nothing
 abbrev pub all_below : List Mark → List Mark → Bool
 all_below [] known = true
@@ -32,9 +27,7 @@ all_below (k ∷ said) [] = is_below k Differs && all_below said []
 all_below (k ∷ said) (j ∷ known) = is_below k j && all_below said known
 
 abbrev pub both_say : Mark → Mark → Mark
-both_say Differs j = Differs
-both_say Same j = if is_same j then Same else Differs
-both_say Numbers j = j
+both_say k j = if is_below k j then k else if is_below j k then j else Differs
 
 -- what both say
 abbrev pub met : List Mark → List Mark → List Mark
@@ -59,7 +52,7 @@ put_on p marks byte (suc n) = put_on p (put p marks byte Same) (behind byte 1) n
 
 -- where no way leads any mark will do
 abbrev pub nowhere : List Mark → List Mark
-nowhere marks = replicate (length marks) Numbers
+nowhere marks = replicate (length marks) Zero
 
 -- ---- the walk
 abbrev pub allowed : Bool → List Mark → Option (List Mark)
@@ -99,25 +92,28 @@ module _ (lent : ℕ → Bool) (p : ℕ) where
   abbrev pub same_from : List Mark → Byte → ℕ → Bool
   same_from here byte n = agree lent p (marks_in here) byte n
 
+  abbrev pub small_at : List Mark → IntTy → Byte → Byte → Bool
+  small_at here ty left right = are_low_alone lent p (marks_in here) ty left right
+
   abbrev pub may_cut : List Mark → BinOp → IntTy → Byte → Byte → Byte → Bool
-  may_cut here op ty to left right = is_low op && nat_lt 1 (bytes_of ty) && number_at here left && number_at here right && may_differ lent p to
+  may_cut here op ty to left right = (is_low op || (compares op && small_at here ty left right)) && nat_lt 1 (bytes_of ty) && number_at here left && number_at here right && may_differ lent p to
 
   abbrev pub walk_binary : Bool → List Mark → BinOp → IntTy → Byte → Byte → Byte → Option (List Mark)
-  walk_binary true here op ty to left right = allowed (may_cut here op ty to left right) (put_bytes p here to (bytes_of ty) low_alone)
+  walk_binary true here op ty to left right = allowed (may_cut here op ty to left right) (put_bytes p here to (bytes_of (type_of op ty)) (narrow_mark op (small_at here ty left right)))
   walk_binary false here op ty to left right =
       allowed (same_from here left (bytes_of ty) && same_from here right (bytes_of (right_type op ty)))
-      (put_bytes p here to (bytes_of (type_of op ty)) (λ k. result_mark (number_at here left) (number_at here right)))
+      (put_bytes p here to (bytes_of (type_of op ty)) (behind_binary lent p (marks_in here) op ty left right))
 
   -- an operation without parts that stays
   abbrev pub walk_leaf : List Turn → List Mark → Tree → Option (List Mark)
-  walk_leaf turns here (tree.Set to value) = Some (put p here to Numbers)
+  walk_leaf turns here (tree.Set to value) = Some (put p here to (set_mark value))
   walk_leaf turns here (tree.Address to place) = Some (put_bytes p here to 2 (λ k. Same))
   walk_leaf turns here (tree.Copy to from) = allowed (same_at here from) (put p here to (own_mark lent p (marks_in here) from))
   walk_leaf turns here (tree.Load to pointer count) = allowed (same_from here pointer 2) (put_on p here to count)
   walk_leaf turns here (tree.Store pointer from count) = allowed (same_from here pointer 2 && same_from here from count) here
   walk_leaf turns here (tree.Unary op ty at) = allowed (same_from here at (bytes_of ty)) (put_bytes p here at (bytes_of (unary_type op ty)) (λ k. Numbers))
   walk_leaf turns here (tree.Binary op ty to left right) = walk_binary false here op ty to left right
-  walk_leaf turns here (tree.Convert from to at) = allowed (same_from here at (bytes_of from)) (put_bytes p here at (bytes_of to) (λ k. converted_mark from (number_at here at)))
+  walk_leaf turns here (tree.Convert from to at) = allowed (same_from here at (bytes_of from)) (put_bytes p here at (bytes_of to) (behind_convert lent p (marks_in here) from at))
   walk_leaf turns here (tree.BitRead to register bit) = Some (put p here to Numbers)
   walk_leaf turns here (tree.BitWrite register bit from) = allowed (same_at here from) here
   walk_leaf turns here (tree.Call copy) = Some here
@@ -133,7 +129,7 @@ module _ (lent : ℕ → Bool) (p : ℕ) where
     walk turns here (tree.Binary op ty to left right) d = walk_binary (cuts d) here op ty to left right
     walk turns here (tree.Many ts) d = walk_all turns here ts (parts_of d)
     walk turns here (tree.If test size first second) d =
-        if same_from here test size then joined (walk turns here first (first_of d)) (walk turns here second (second_of d)) else None
+        if fits_way lent p (marks_in here) test size (way_of d) then joined (walk turns here first (first_of d)) (walk turns here second (second_of d)) else None
     walk turns here (tree.Loop body) d =
         allowed (all_below (front_of d) here && comes_back (walk (record { front = front_of d; behind = behind_of d } ∷ turns) (front_of d) body (body_of d)) (front_of d)) (behind_of d)
     walk turns here t d = walk_leaf turns here t

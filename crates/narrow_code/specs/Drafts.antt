@@ -5,14 +5,14 @@ use Rattle.core_code.specs.Tree as tree
 use Rattle.core_code.specs.Tree.{Tree, Trees, NoTree, AndTree}
 use Rattle.core_code.specs.declared.code.Byte.TheVariants.{Static, Frame, Result, Device}
 use Rattle.narrow_code.specs.Marks.{Mark, Same, Differs, Marks}
-use Rattle.narrow_code.specs.Plans.{Plan, Stays, Narrowed, Several, Choice, Repeat, Plans, NoPlan, AndPlan, all_given}
+use Rattle.narrow_code.specs.Plans.{Way, Whole, Plan, Stays, Narrowed, Several, Choice, Repeat, Plans, NoPlan, AndPlan, all_given}
 
 mutual
   pub data Draft : Type 0 where
     Keep : Draft
     Cut : Draft
     Parts : Drafts → Draft
-    Ways : Draft → Draft → Draft
+    Ways : Way → Draft → Draft → Draft
     Round : List Mark → List Mark → Draft → Draft
 
   pub data Drafts : Type 0 where
@@ -27,12 +27,16 @@ abbrev pub parts_of : Draft → Drafts
 parts_of (Parts ds) = ds
 parts_of _ = NoDraft
 
+abbrev pub way_of : Draft → Way
+way_of (Ways way first second) = way
+way_of _ = Whole
+
 abbrev pub first_of : Draft → Draft
-first_of (Ways first second) = first
+first_of (Ways way first second) = first
 first_of _ = Keep
 
 abbrev pub second_of : Draft → Draft
-second_of (Ways first second) = second
+second_of (Ways way first second) = second
 second_of _ = Keep
 
 abbrev pub front_of : Draft → List Mark
@@ -67,7 +71,7 @@ abbrev mutual
   pub planned : Tree → Draft → Plan
   planned (tree.Binary op ty to left right) d = if cuts d then Narrowed op ty to left right else Stays (tree.Binary op ty to left right)
   planned (tree.Many ts) d = Several (all_planned ts (parts_of d))
-  planned (tree.If test size first second) d = Choice test size (planned first (first_of d)) (planned second (second_of d))
+  planned (tree.If test size first second) d = Choice test size (way_of d) (planned first (first_of d)) (planned second (second_of d))
   planned (tree.Loop body) d = Repeat (marks_in (front_of d)) (marks_in (behind_of d)) (planned body (body_of d))
   planned t d = Stays t
 

@@ -1,16 +1,24 @@
 -- What is known of a byte where two programs of byte code run side by side, of which the second one does some operations on the
 -- low byte alone.
-use Rattle.std.specs.Prelude.{◌≡◌, ℕ, zero, suc, Bool, true, false, not, ◌&&◌, nat_eq, if◌then◌else◌}
+use Rattle.std.specs.Prelude.{◌≡◌, ℕ, zero, suc, ◌<◌, Bool, true, false, not, ◌&&◌, nat_eq, if◌then◌else◌}
 use Rattle.core_code.specs.Bytes.{Held, same_byte, behind}
 use Rattle.core_code.specs.Bytes as bytes
 use Rattle.core_code.specs.declared.code.Byte.{Byte}
 use Rattle.core_code.specs.declared.code.Byte.TheVariants.{Static, Frame, Result, Device}
 
 pub data Mark : Type 0 where
-  -- both hold a number, and the same
+  -- both hold 0
+  Zero : Mark
+  -- both hold a number, and the same, which fits into a byte
   Numbers : Mark
   -- both hold the same
   Same : Mark
+  -- both hold numbers, and just where the one is 0 the other one is
+  Tells : Mark
+  -- both hold numbers, of which just one is 0
+  Denies : Mark
+  -- the given program holds 0
+  Cleared : Mark
   -- nothing: an operation on the low byte alone didn't write it, or the code doesn't ask
   Differs : Mark
 
@@ -19,27 +27,56 @@ Marks = Byte → Mark
 
 -- what a mark says of a byte of the given program, and of the same byte of the other one
 abbrev pub Holds : Mark → Held → Held → Type 0
-Holds Numbers h l = (n : ℕ) × (h ≡ bytes.Number n) × (l ≡ bytes.Number n)
+Holds Zero h l = (h ≡ bytes.Number 0) × (l ≡ bytes.Number 0)
+Holds Numbers h l = (n : ℕ) × (n < 256) × (h ≡ bytes.Number n) × (l ≡ bytes.Number n)
 Holds Same h l = h ≡ l
+Holds Tells h l = (n : ℕ) × (k : ℕ) × (h ≡ bytes.Number n) × (l ≡ bytes.Number k) × (nat_eq k 0 ≡ nat_eq n 0)
+Holds Denies h l = (n : ℕ) × (k : ℕ) × (h ≡ bytes.Number n) × (l ≡ bytes.Number k) × (nat_eq k 0 ≡ not (nat_eq n 0))
+Holds Cleared h l = h ≡ bytes.Number 0
 Holds Differs h l = Unit {0}
 
--- the first mark says no more than the second one
-abbrev pub IsBelow : Mark → Mark → Type 0
-IsBelow Differs mark = Unit {0}
-IsBelow Same Differs = ⊥
-IsBelow Same mark = Unit {0}
-IsBelow Numbers Numbers = Unit {0}
-IsBelow Numbers mark = ⊥
-
 abbrev pub is_same : Mark → Bool
+is_same Zero = true
 is_same Numbers = true
 is_same Same = true
-is_same Differs = false
+is_same _ = false
 
 abbrev pub is_number : Mark → Bool
+is_number Zero = true
 is_number Numbers = true
-is_number Same = false
-is_number Differs = false
+is_number _ = false
+
+abbrev pub is_zero : Mark → Bool
+is_zero Zero = true
+is_zero _ = false
+
+abbrev pub is_cleared : Mark → Bool
+is_cleared Zero = true
+is_cleared Cleared = true
+is_cleared _ = false
+
+abbrev pub tells : Mark → Bool
+tells Zero = true
+tells Numbers = true
+tells Tells = true
+tells _ = false
+
+abbrev pub denies : Mark → Bool
+denies Denies = true
+denies _ = false
+
+-- the first mark says no more than the second one
+abbrev pub is_below : Mark → Mark → Bool
+is_below Zero known = is_zero known
+is_below Numbers known = is_number known
+is_below Same known = is_same known
+is_below Tells known = tells known
+is_below Denies known = denies known
+is_below Cleared known = is_cleared known
+is_below Differs known = true
+
+abbrev pub IsBelow : Mark → Mark → Type 0
+IsBelow said known = is_below said known ≡ true
 
 -- ---- marks behind a write
 abbrev pub marked : Marks → Byte → Mark → Marks
@@ -50,15 +87,15 @@ abbrev pub marked_bytes : Marks → Byte → ℕ → (ℕ → Mark) → Marks
 marked_bytes marks byte zero mark = marks
 marked_bytes marks byte (suc n) mark = marked (marked_bytes marks byte n mark) (behind byte n) (mark n)
 
+-- of the byte so many places up: one of the lowest, and another one of all above it
+abbrev pub stacked : Mark → Mark → ℕ → Mark
+stacked low high zero = low
+stacked low high (suc k) = high
+
 -- of so many bytes that are written lowest first, each by a step of its own
 abbrev pub marked_on : Marks → Byte → ℕ → Marks
 marked_on marks byte zero = marks
 marked_on marks byte (suc n) = marked_on (marked marks byte Same) (behind byte 1) n
-
--- the lowest byte is a number, and the others weren't written
-abbrev pub low_alone : ℕ → Mark
-low_alone zero = Numbers
-low_alone (suc k) = Differs
 
 -- ---- marks that a body may rely on
 -- Frames to which pointers may lead hold the same, and so does all that is no frame.
@@ -79,6 +116,11 @@ own_mark lent p marks (Device address) = Same
 abbrev pub agree : (ℕ → Bool) → ℕ → Marks → Byte → ℕ → Bool
 agree lent p marks byte zero = true
 agree lent p marks byte (suc n) = is_same (own_mark lent p marks byte) && agree lent p marks (behind byte 1) n
+
+-- so many bytes from this one on are 0 in the given program
+abbrev pub cleared : (ℕ → Bool) → ℕ → Marks → Byte → ℕ → Bool
+cleared lent p marks byte zero = true
+cleared lent p marks byte (suc n) = is_cleared (own_mark lent p marks byte) && cleared lent p marks (behind byte 1) n
 
 -- A byte that may come to differ: one of the own frame, to which no pointer leads.
 abbrev pub may_differ : (ℕ → Bool) → ℕ → Byte → Bool

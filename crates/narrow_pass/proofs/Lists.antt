@@ -1,9 +1,10 @@
 -- Lists of marks, as the code keeps them.
-use Rattle.std.proofs.Common.{◌≡◌, ℕ, zero, suc, ◌+◌, ◌<◌, ◌≤◌, Bool, true, false, List, [], ◌∷◌, ◌++◌, length, take, replicate, set, get_or, slice_get, refl, sym, ap, ◌∙◌, subst, arith}
-use Rattle.std.proofs.lemmas.Bool.{and_parts, and_from}
+use Rattle.std.proofs.Common.{◌≡◌, ◌≢◌, ℕ, zero, suc, ◌+◌, ◌<◌, ◌≤◌, Bool, true, false, if◌then◌else◌, List, [], ◌∷◌, ◌++◌, length, take, replicate, set, get_or, slice_get, refl, sym, ap, ◌∙◌, subst, arith}
+use Rattle.std.proofs.lemmas.Bool.{and_parts, and_from, lt-ltb}
 use Rattle.std.proofs.lemmas.List.{map-set, set_past, map_more, get_or-map, length-map, length-take-le}
-use Rattle.narrow_code.specs.Checked.{is_below, all_below, both_say, met, nowhere}
-use Rattle.narrow_code.specs.Marks.{Mark, Numbers, Differs}
+use Rattle.narrow_code.specs.Checked.{all_below, both_say, met, nowhere}
+use Rattle.narrow_code.specs.Marks.{Mark, Zero, Numbers, Same, Differs, is_below}
+use Rattle.narrow_code.specs.Right.{set_mark}
 use Rattle.narrow_pass.specs.Ways.{mark_of, marks_of, entry_mark, entry_flag, set_bytes}
 use Rattle.narrow_pass.specs.declared.marks.Mark as kept
 use Rattle.narrow_pass.specs.declared.marks.Mark.TheVariants as kept_marks
@@ -27,33 +28,41 @@ set_marks l at m = map-set mark_of l at m
 pub set_beyond : (l : List kept.Mark) (at : ℕ) (m : kept.Mark) → length l ≤ at → marks_of l ≡ set (marks_of l) at (mark_of m)
 set_beyond l at m h = sym (set_past (marks_of l) at (mark_of m) (omega (arith, h, length-map l mark_of)))
 
+-- ---- a number that is set
+pub set_zero : (n : ℕ) → n ≡ 0 → Zero ≡ set_mark n
+set_zero n e = sym (ap set_mark e)
+
+pub set_positive : (n : ℕ) → n ≢ 0 → n < 256 → Numbers ≡ set_mark n
+set_positive zero d h = absurd (d refl)
+set_positive (suc n) d h = sym (ap (λ (t : Bool). if t then Numbers else Same) (lt-ltb (suc n) 256 h))
+
 -- ---- no way leads here
-passed_on : (x : Mark) (l : List Mark) (n : ℕ) → set_bytes (x ∷ l) 0 (suc n) (λ k. Numbers) ≡ Numbers ∷ set_bytes l 0 n (λ k. Numbers)
+passed_on : (x : Mark) (l : List Mark) (n : ℕ) → set_bytes (x ∷ l) 0 (suc n) (λ k. Zero) ≡ Zero ∷ set_bytes l 0 n (λ k. Zero)
 passed_on x l zero = refl
 passed_on x l (suc n) =
-    ap (λ (r : List Mark). set r (0 + suc n) Numbers) (passed_on x l n)
-    ∙ ap (λ (i : ℕ). set (Numbers ∷ set_bytes l 0 n (λ k. Numbers)) i Numbers) (number n)
+    ap (λ (r : List Mark). set r (0 + suc n) Zero) (passed_on x l n)
+    ∙ ap (λ (i : ℕ). set (Zero ∷ set_bytes l 0 n (λ k. Zero)) i Zero) (number n)
   where
     number : (n : ℕ) → 0 + suc n ≡ suc (0 + n)
     number n = omega arith
 
-passed_whole : (l : List Mark) → set_bytes l 0 (length l) (λ k. Numbers) ≡ replicate (length l) Numbers
+passed_whole : (l : List Mark) → set_bytes l 0 (length l) (λ k. Zero) ≡ replicate (length l) Zero
 passed_whole [] = refl
-passed_whole (x ∷ l) = passed_on x l (length l) ∙ ap (λ (r : List Mark). Numbers ∷ r) (passed_whole l)
+passed_whole (x ∷ l) = passed_on x l (length l) ∙ ap (λ (r : List Mark). Zero ∷ r) (passed_whole l)
 
-pub none_passed : (marks : List Mark) → marks ≡ set_bytes marks 0 0 (λ k. Numbers)
+pub none_passed : (marks : List Mark) → marks ≡ set_bytes marks 0 0 (λ k. Zero)
 none_passed marks = refl
 
-pub one_passed : (marks now after : List Mark) (k : ℕ) → now ≡ set_bytes marks 0 k (λ i. Numbers) → after ≡ set now k Numbers → after ≡ set_bytes marks 0 (k + 1) (λ i. Numbers)
+pub one_passed : (marks now after : List Mark) (k : ℕ) → now ≡ set_bytes marks 0 k (λ i. Zero) → after ≡ set now k Zero → after ≡ set_bytes marks 0 (k + 1) (λ i. Zero)
 one_passed marks now after k e h =
     let more : suc k ≡ k + 1 = omega arith in
     let place : k ≡ 0 + k = omega arith in
-    subst (λ (n : ℕ). after ≡ set_bytes marks 0 n (λ i. Numbers)) more
-    (h ∙ ap (λ (r : List Mark). set r k Numbers) e ∙ ap (λ (i : ℕ). set (set_bytes marks 0 k (λ j. Numbers)) i Numbers) place)
+    subst (λ (n : ℕ). after ≡ set_bytes marks 0 n (λ i. Zero)) more
+    (h ∙ ap (λ (r : List Mark). set r k Zero) e ∙ ap (λ (i : ℕ). set (set_bytes marks 0 k (λ j. Zero)) i Zero) place)
 
-pub all_passed : (old : List kept.Mark) (marks after : List Mark) (n : ℕ) → marks ≡ marks_of old → n ≡ length old → after ≡ set_bytes marks 0 n (λ k. Numbers) → after ≡ nowhere marks
+pub all_passed : (old : List kept.Mark) (marks after : List Mark) (n : ℕ) → marks ≡ marks_of old → n ≡ length old → after ≡ set_bytes marks 0 n (λ k. Zero) → after ≡ nowhere marks
 all_passed old marks after n e h f =
-    f ∙ ap (λ (i : ℕ). set_bytes marks 0 i (λ k. Numbers)) (h ∙ sym (ap (λ (l : List Mark). length l) e ∙ length-map old mark_of)) ∙ passed_whole marks
+    f ∙ ap (λ (i : ℕ). set_bytes marks 0 i (λ k. Zero)) (h ∙ sym (ap (λ (l : List Mark). length l) e ∙ length-map old mark_of)) ∙ passed_whole marks
 
 -- ---- what says no more
 below_snoc : (xs : List Mark) (m : Mark) (ys : List Mark) → all_below xs ys ≡ true → is_below m (get_or ys (length xs) Differs) ≡ true → all_below (xs ++ m ∷ []) ys ≡ true

@@ -3,6 +3,7 @@ use Rattle.std.proofs.Common.{◌≡◌, ℕ, ◌+◌, ◌<◌, Bool, true, fals
 use Rattle.std.proofs.lemmas.Bool.{true≢false, and_parts, and_from}
 use Rattle.std.proofs.lemmas.List.{map_more}
 use Rattle.std.proofs.lemmas.Option.{none-some, cond_some}
+use Rattle.c_ints.specs.Operators.{type_of}
 use Rattle.c_ints.specs.Range.{bytes_of}
 use Rattle.c_ints.specs.declared.operators.BinOp.{BinOp}
 use Rattle.c_ints.specs.declared.types.IntTy.{IntTy}
@@ -15,12 +16,13 @@ use Rattle.core_code.specs.declared.code.Byte.TheVariants.{Device}
 use Rattle.core_code.specs.declared.code.Core.{Core}
 use Rattle.core_code.specs.declared.code.Core.TheVariants as Core
 use Rattle.core_code.proofs.Views.{tree_many, tree_if, tree_loop, trees_more}
-use Rattle.narrow_code.specs.Checked.{Turn, all_below, met, put_bytes, nowhere, allowed, walked_on, joined, comes_back, may_exit, may_repeat, same_at, same_from, may_cut, walk, walk_all}
+use Rattle.narrow_code.specs.Checked.{Turn, all_below, met, put_bytes, nowhere, allowed, walked_on, joined, comes_back, may_exit, may_repeat, same_at, same_from, small_at, may_cut, walk, walk_all}
 use Rattle.narrow_code.specs.Drafts as drafts
-use Rattle.narrow_code.specs.Drafts.{Draft, Drafts, NoDraft, AndDraft, head_of, tail_of, planned, all_planned}
+use Rattle.narrow_code.specs.Drafts.{Draft, Drafts, NoDraft, AndDraft, head_of, tail_of, marks_in, planned, all_planned}
 use Rattle.narrow_code.specs.Lending.{lends, all_lend}
-use Rattle.narrow_code.specs.Marks.{Mark, low_alone}
-use Rattle.narrow_code.specs.Plans.{made, all_made}
+use Rattle.narrow_code.specs.Marks.{Mark}
+use Rattle.narrow_code.specs.Plans.{Way, low_op, choice_by, made, all_made}
+use Rattle.narrow_code.specs.Right.{narrow_mark, fits_way}
 use Rattle.narrow_pass.specs.Ways.{marks_of, turn_of, may_go, reads_same, written, IsMade, AreMade}
 use Rattle.narrow_pass.specs.declared.marks.Mark as kept
 use Rattle.narrow_pass.specs.declared.turns.Turn as kept_turns
@@ -68,12 +70,12 @@ module _ (lent : ℕ → Bool) (p : ℕ) where
       subst (λ (u : Tree). IsMade lent p turns here t u after) (sym n) (subst (λ (l : List Mark). IsMade lent p turns here t t l) (sym a) (stays turns here t go len e))
 
   pub cut_made : (turns : List Turn) (here after : List Mark) (op : BinOp) (ty : IntTy) (to left right : Byte) (t new : Tree) → may_cut lent p here op ty to left right ≡ true
-      → t ≡ tree.Binary op ty to left right → new ≡ tree.Binary op UChar to left right → after ≡ put_bytes p here to (bytes_of ty) low_alone → IsMade lent p turns here t new after
+      → t ≡ tree.Binary op ty to left right → new ≡ tree.Binary (low_op op) UChar to left right → after ≡ put_bytes p here to (bytes_of (type_of op ty)) (narrow_mark op (small_at lent p here ty left right)) → IsMade lent p turns here t new after
   cut_made turns here after op ty to left right t new e o n a =
       subst (λ (l : List Mark). IsMade lent p turns here t new l) (sym a)
-      (subst (λ (u : Tree). IsMade lent p turns here t u (put_bytes p here to (bytes_of ty) low_alone)) (sym n)
-      (subst (λ (u : Tree). IsMade lent p turns here u (tree.Binary op UChar to left right) (put_bytes p here to (bytes_of ty) low_alone)) (sym o)
-      (record { draft = drafts.Cut; passes = holds (may_cut lent p here op ty to left right) (put_bytes p here to (bytes_of ty) low_alone) e; code = refl; lending = refl })))
+      (subst (λ (u : Tree). IsMade lent p turns here t u (put_bytes p here to (bytes_of (type_of op ty)) (narrow_mark op (small_at lent p here ty left right)))) (sym n)
+      (subst (λ (u : Tree). IsMade lent p turns here u (tree.Binary (low_op op) UChar to left right) (put_bytes p here to (bytes_of (type_of op ty)) (narrow_mark op (small_at lent p here ty left right)))) (sym o)
+      (record { draft = drafts.Cut; passes = holds (may_cut lent p here op ty to left right) (put_bytes p here to (bytes_of (type_of op ty)) (narrow_mark op (small_at lent p here ty left right))) e; code = refl; lending = refl })))
 
   -- ---- some operations, one behind the other
   code_more : (ts : List Tree) (ds : Drafts) (t : Tree) (d : Draft) → list_of (all_made (all_planned (trees_of (ts ++ t ∷ [])) (with_draft ts ds d))) ≡ list_of (all_made (all_planned (trees_of ts) ds)) ++ made (planned t d) ∷ []
@@ -134,28 +136,28 @@ module _ (lent : ℕ → Bool) (p : ℕ) where
       subst (λ (u : Tree). IsMade lent p turns here u n after) (ap (λ (i : List Core). tree.Many (trees_of (trees_in i))) l ∙ sym (ap tree_of e ∙ tree_many parts))
       (subst (λ (u : Tree). IsMade lent p turns here (tree.Many (trees_of (trees_in list))) u after) (sym f) (many turns here after (trees_in list) new are))
 
-  choice : (turns : List Turn) (here yes_after no_after : List Mark) (test : Byte) (size : ℕ) (a b c d : Tree) → same_from lent p here test size ≡ true
-      → IsMade lent p turns here a c yes_after → IsMade lent p turns here b d no_after → IsMade lent p turns here (tree.If test size a b) (tree.If test size c d) (met yes_after no_after)
-  choice turns here yes_after no_after test size a b c d e is other = record {
-    draft = drafts.Ways is.draft other.draft;
+  choice : (turns : List Turn) (here yes_after no_after : List Mark) (test : Byte) (size : ℕ) (way : Way) (a b c d : Tree) → fits_way lent p (marks_in here) test size way ≡ true
+      → IsMade lent p turns here a c yes_after → IsMade lent p turns here b d no_after → IsMade lent p turns here (tree.If test size a b) (choice_by test size way c d) (met yes_after no_after)
+  choice turns here yes_after no_after test size way a b c d e is other = record {
+    draft = drafts.Ways way is.draft other.draft;
     passes =
         ap (λ (t : Bool). if t then joined (walk lent p turns here a is.draft) (walk lent p turns here b other.draft) else None) e
         ∙ ap (λ (w : Option (List Mark)). joined w (walk lent p turns here b other.draft)) is.passes ∙ ap (joined (Some yes_after)) other.passes;
-    code = ap (λ (t : Tree). tree.If test size t d) is.code ∙ ap (tree.If test size (made (planned a is.draft))) other.code;
+    code = ap (λ (t : Tree). choice_by test size way t d) is.code ∙ ap (choice_by test size way (made (planned a is.draft))) other.code;
     lending = and_from (lends lent a) (lends lent b) is.lending other.lending;
   }
 
-  pub choice_made : (turns : List Turn) (here other : List kept.Mark) (yes_after no_after after : List Mark) (test : Byte) (size : ℕ) (t : Core) (yes_part no_part : _) (a b : Core) (c d n : Tree)
-      → t ≡ Core.If test size yes_part no_part → a ≡ yes_part.value → b ≡ no_part.value → same_from lent p (marks_of here) test size ≡ true → other ≡ here
+  pub choice_made : (turns : List Turn) (here other : List kept.Mark) (yes_after no_after after : List Mark) (test : Byte) (size : ℕ) (way : Way) (t : Core) (yes_part no_part : _) (a b : Core) (c d n : Tree)
+      → t ≡ Core.If test size yes_part no_part → a ≡ yes_part.value → b ≡ no_part.value → fits_way lent p (marks_in (marks_of here)) test size way ≡ true → other ≡ here
       → IsMade lent p turns (marks_of here) (tree_of a) c yes_after → IsMade lent p turns (marks_of other) (tree_of b) d no_after
-      → after ≡ met yes_after no_after → n ≡ tree.If test size c d → IsMade lent p turns (marks_of here) (tree_of t) n after
-  choice_made turns here other yes_after no_after after test size t yes_part no_part a b c d n o y z e k is else_is m w =
+      → after ≡ met yes_after no_after → n ≡ choice_by test size way c d → IsMade lent p turns (marks_of here) (tree_of t) n after
+  choice_made turns here other yes_after no_after after test size way t yes_part no_part a b c d n o y z e k is else_is m w =
       let whole : tree_of t ≡ tree.If test size (tree_of a) (tree_of b) =
       ap tree_of o ∙ tree_if test size yes_part no_part ∙ ap (λ (u : Core). tree.If test size (tree_of u) (tree_of no_part.value)) (sym y) ∙ ap (λ (u : Core). tree.If test size (tree_of a) (tree_of u)) (sym z) in
       subst (λ (l : List Mark). IsMade lent p turns (marks_of here) (tree_of t) n l) (sym m)
       (subst (λ (u : Tree). IsMade lent p turns (marks_of here) (tree_of t) u (met yes_after no_after)) (sym w)
-      (subst (λ (u : Tree). IsMade lent p turns (marks_of here) u (tree.If test size c d) (met yes_after no_after)) (sym whole)
-      (choice turns (marks_of here) yes_after no_after test size (tree_of a) (tree_of b) c d e is
+      (subst (λ (u : Tree). IsMade lent p turns (marks_of here) u (choice_by test size way c d) (met yes_after no_after)) (sym whole)
+      (choice turns (marks_of here) yes_after no_after test size way (tree_of a) (tree_of b) c d e is
       (subst (λ (l : List kept.Mark). IsMade lent p turns (marks_of l) (tree_of b) d no_after) k else_is))))
 
   loop : (turns : List Turn) (here front behind end : List Mark) (a c : Tree) → all_below front here ≡ true → all_below front end ≡ true

@@ -1,14 +1,16 @@
 -- Runs of bytes of the own frame, by their places in it.
-use Rattle.std.proofs.Common.{◌≡◌, ℕ, zero, suc, ◌+◌, Bool, true, false, ◌&&◌, nat_eq, if◌then◌else◌, List, set, get_or, Some, None, refl, sym, ap, ◌∙◌, subst, arith}
-use Rattle.std.proofs.lemmas.Bool.{true≢false, and_parts, and_from}
+use Rattle.std.proofs.Common.{◌≡◌, ℕ, zero, suc, ◌+◌, ◌-◌, ◌<◌, ◌≤◌, Bool, true, false, not, ◌&&◌, nat_eq, if◌then◌else◌, List, set, get_or, Some, None, refl, sym, ap, ◌∙◌, subst, arith}
+use Rattle.std.proofs.lemmas.Bool.{true≢false, and_parts, and_from, eqb-true}
+use Rattle.std.proofs.Math.Bool.{and-true, and_assoc}
 use Rattle.std.proofs.lemmas.Option.{none-some, cond_some}
 use Rattle.core_code.specs.Bytes.{behind}
 use Rattle.core_code.specs.declared.code.Byte.{Byte}
 use Rattle.core_code.specs.declared.code.Byte.TheVariants.{Static, Frame, Result, Device}
 use Rattle.narrow_code.specs.Checked.{put, put_bytes, put_on, same_from}
 use Rattle.narrow_code.specs.Drafts.{marks_in}
-use Rattle.narrow_code.specs.Marks.{Mark, Same, Differs, is_same, own_mark, agree}
-use Rattle.narrow_pass.specs.Ways.{own_place, is_steady, set_bytes, all_same}
+use Rattle.narrow_code.specs.Marks.{Mark, Same, Differs, is_same, is_cleared, own_mark, agree, cleared}
+use Rattle.narrow_code.specs.Right.{is_low_alone}
+use Rattle.narrow_pass.specs.Ways.{own_place, is_steady, set_bytes, all_same, all_cleared}
 
 never : {A : Type 0} → false ≡ true → A
 never e = absurd (true≢false (sym e))
@@ -141,3 +143,72 @@ agree_steady lent p marks (Device address) (suc n) e = agree_steady lent p marks
 
 pub both_same : (a b : Bool) → a ≡ true → b ≡ true → (a && b) ≡ true
 both_same a b e h = and_from a b e h
+
+-- ---- bytes that are 0
+cleared_on : (marks : List Mark) (at n : ℕ) → all_cleared marks at (suc n) ≡ (all_cleared marks at n && is_cleared (get_or marks (at + n) Differs))
+cleared_on marks at zero =
+    let none : at ≡ at + 0 = omega arith in
+    and-true (is_cleared (get_or marks at Differs)) ∙ ap (λ (i : ℕ). is_cleared (get_or marks i Differs)) none
+cleared_on marks at (suc n) =
+    let place : at + 1 + n ≡ at + suc n = omega arith in
+    ap (λ (t : Bool). is_cleared (get_or marks at Differs) && t) (cleared_on marks (at + 1) n)
+    ∙ sym (and_assoc (is_cleared (get_or marks at Differs)) (all_cleared marks (at + 1) n) (is_cleared (get_or marks (at + 1 + n) Differs)))
+    ∙ ap (λ (i : ℕ). (is_cleared (get_or marks at Differs) && all_cleared marks (at + 1) n) && is_cleared (get_or marks i Differs)) place
+
+pub cleared_more : (marks : List Mark) (at n : ℕ) (all next : Bool) → all ≡ all_cleared marks at n → next ≡ is_cleared (get_or marks (at + n) Differs) → (all && next) ≡ all_cleared marks at (n + 1)
+cleared_more marks at n all next e h =
+    let more : suc n ≡ n + 1 = omega arith in
+    ap (λ (t : Bool). t && next) e ∙ ap (λ (t : Bool). all_cleared marks at n && t) h ∙ sym (cleared_on marks at n) ∙ ap (all_cleared marks at) more
+
+pub alone_one : (lent : ℕ → Bool) (p : ℕ) (marks : List Mark) (byte : Byte) (n : ℕ) → n ≤ 1 → true ≡ is_low_alone lent p (marks_in marks) byte n
+alone_one lent p marks byte n h = let none : 0 ≡ n - 1 = omega arith in ap (cleared lent p (marks_in marks) (behind byte 1)) none
+
+own_cleared : (own lent : Bool) (mark : Mark) → own ≡ true → is_cleared (if own then (if lent then Same else mark) else Differs) ≡ (not lent && is_cleared mark)
+own_cleared true true mark e = refl
+own_cleared true false mark e = refl
+own_cleared false lent mark e = never e
+
+frame_cleared : (lent : ℕ → Bool) (p c : ℕ) (marks : List Mark) (at n : ℕ) → nat_eq c p ≡ true → lent c ≡ false → cleared lent p (marks_in marks) (Frame c at) n ≡ all_cleared marks at n
+frame_cleared lent p c marks at zero e h = refl
+frame_cleared lent p c marks at (suc n) e h =
+    ap (λ (t : Bool). t && cleared lent p (marks_in marks) (Frame c (at + 1)) n) (own_cleared (nat_eq c p) (lent c) (get_or marks at Differs) e ∙ ap (λ (t : Bool). not t && is_cleared (get_or marks at Differs)) h)
+    ∙ ap (λ (t : Bool). is_cleared (get_or marks at Differs) && t) (frame_cleared lent p c marks (at + 1) n e h)
+
+lent_cleared : (lent : ℕ → Bool) (p c : ℕ) (marks : List Mark) (at n : ℕ) → nat_eq c p ≡ true → lent c ≡ true → cleared lent p (marks_in marks) (Frame c at) (suc n) ≡ false
+lent_cleared lent p c marks at n e h = ap (λ (t : Bool). t && cleared lent p (marks_in marks) (Frame c (at + 1)) n) (own_cleared (nat_eq c p) (lent c) (get_or marks at Differs) e ∙ ap (λ (t : Bool). not t && is_cleared (get_or marks at Differs)) h)
+
+frame_alone : (lent : ℕ → Bool) (p c : ℕ) (marks : List Mark) (at n : ℕ) → nat_eq c p ≡ true → cleared lent p (marks_in marks) (Frame c at) (suc n) ≡ (not (lent p) && all_cleared marks at (suc n))
+frame_alone lent p c marks at n e = by_lent (lent c) refl
+  where
+    same : lent c ≡ lent p
+    same = ap lent (eqb-true c p e)
+
+    by_lent : (t : Bool) → lent c ≡ t → cleared lent p (marks_in marks) (Frame c at) (suc n) ≡ (not (lent p) && all_cleared marks at (suc n))
+    by_lent true h = lent_cleared lent p c marks at n e h ∙ sym (ap (λ (t : Bool). not t && all_cleared marks at (suc n)) (sym same ∙ h))
+    by_lent false h = frame_cleared lent p c marks at (suc n) e h ∙ sym (ap (λ (t : Bool). not t && all_cleared marks at (suc n)) (sym same ∙ h))
+
+above_one : (n : ℕ) → 1 < n → (k : ℕ) × (n - 1 ≡ suc k)
+above_one n h = (n - 2, omega arith)
+
+pub alone_own : (lent : ℕ → Bool) (p : ℕ) (marks : List Mark) (byte : Byte) (at n : ℕ) → own_place p byte ≡ Some at → 1 < n → (not (lent p) && all_cleared marks (at + 1) (n - 1)) ≡ is_low_alone lent p (marks_in marks) byte n
+alone_own lent p marks byte at n e h =
+    let w = place_is p byte at e in
+    let k = above_one n h in
+    subst (λ (b : Byte). (not (lent p) && all_cleared marks (at + 1) (n - 1)) ≡ is_low_alone lent p (marks_in marks) b n) (sym w.is)
+    (subst (λ (m : ℕ). (not (lent p) && all_cleared marks (at + 1) m) ≡ cleared lent p (marks_in marks) (Frame w.owner (at + 1)) m) (sym k.1) (sym (frame_alone lent p w.owner marks (at + 1) k.0 w.own)))
+
+cleared_off : (lent : ℕ → Bool) (p : ℕ) (marks : List Mark) (byte : Byte) (k : ℕ) → own_place p byte ≡ None → cleared lent p (marks_in marks) (behind byte 1) (suc k) ≡ false
+cleared_off lent p marks (Static object offset) k e = refl
+cleared_off lent p marks (Frame copy offset) k e = by_owner (nat_eq copy p) e
+  where
+    by_owner : (t : Bool) → (if t then Some offset else None) ≡ None
+        → (is_cleared (if t then (if lent copy then Same else get_or marks (offset + 1) Differs) else Differs) && cleared lent p (marks_in marks) (Frame copy (offset + 1 + 1)) k) ≡ false
+    by_owner true f = absurd (none-some offset (sym f))
+    by_owner false f = refl
+cleared_off lent p marks (Result root j) k e = refl
+cleared_off lent p marks (Device address) k e = refl
+
+pub alone_off : (lent : ℕ → Bool) (p : ℕ) (marks : List Mark) (byte : Byte) (n : ℕ) → own_place p byte ≡ None → 1 < n → false ≡ is_low_alone lent p (marks_in marks) byte n
+alone_off lent p marks byte n e h =
+    let k = above_one n h in
+    sym (ap (cleared lent p (marks_in marks) (behind byte 1)) k.1 ∙ cleared_off lent p marks byte k.0 e)

@@ -7,22 +7,34 @@ use Rattle.core_code.specs.Tree.{Tree, trees_of, list_of}
 use Rattle.core_code.specs.Values.{right_type}
 use Rattle.core_code.specs.declared.code.Byte.{Byte}
 use Rattle.core_code.specs.declared.code.Byte.TheVariants.{Static, Frame, Result, Device}
-use Rattle.narrow_code.specs.Checked.{Turn, put, put_bytes, put_on, nowhere, number_at, same_from, may_exit, may_repeat, walk, walk_all}
+use Rattle.narrow_code.specs.Checked.{Turn, put, put_bytes, put_on, nowhere, same_from, may_exit, may_repeat, walk, walk_all}
 use Rattle.narrow_code.specs.Drafts.{Draft, Drafts, marks_in, planned, all_planned}
 use Rattle.narrow_code.specs.Lending.{lends, all_lend}
-use Rattle.narrow_code.specs.Marks.{Mark, Numbers, Same, Differs, is_same, own_mark}
-use Rattle.narrow_code.specs.Plans.{made, all_made}
-use Rattle.narrow_code.specs.Right.{result_mark, converted_mark}
+use Rattle.narrow_code.specs.Marks.{Mark, Zero, Numbers, Same, Tells, Denies, Cleared, Differs, is_same, is_cleared, own_mark}
+use Rattle.narrow_code.specs.Plans.{Way, Whole, Low, Turned, made, all_made}
+use Rattle.narrow_code.specs.Right.{set_mark, behind_binary, behind_convert}
 use Rattle.narrow_pass.specs.declared.marks.Mark as kept
 use Rattle.narrow_pass.specs.declared.marks.Mark.TheVariants as kept_marks
 use Rattle.narrow_pass.specs.declared.marks.Run.{Run}
+use Rattle.narrow_pass.specs.declared.operations.Way as kept_way
+use Rattle.narrow_pass.specs.declared.operations.Way.TheVariants as kept_ways
 use Rattle.narrow_pass.specs.declared.turns.Turn as kept_turns
 
 -- ---- marks
 abbrev pub mark_of : kept.Mark → Mark
+mark_of kept_marks.Zero = Zero
 mark_of kept_marks.Numbers = Numbers
 mark_of kept_marks.Same = Same
+mark_of kept_marks.Tells = Tells
+mark_of kept_marks.Denies = Denies
+mark_of kept_marks.Cleared = Cleared
 mark_of kept_marks.Differs = Differs
+
+-- how a condition is made
+abbrev pub way_in : kept_way.Way → Way
+way_in kept_ways.Whole = Whole
+way_in kept_ways.Low = Low
+way_in kept_ways.Turned = Turned
 
 abbrev pub marks_of : List kept.Mark → List Mark
 marks_of marks = map mark_of marks
@@ -64,6 +76,11 @@ abbrev pub all_same : List Mark → ℕ → ℕ → Bool
 all_same marks at zero = true
 all_same marks at (suc n) = is_same (get_or marks at Differs) && all_same marks (at + 1) n
 
+-- so many are 0 in the given program
+abbrev pub all_cleared : List Mark → ℕ → ℕ → Bool
+all_cleared marks at zero = true
+all_cleared marks at (suc n) = is_cleared (get_or marks at Differs) && all_cleared marks (at + 1) n
+
 -- ---- operations
 -- the bytes that an operation reads, in one run or two, and which must be the same
 abbrev pub nothing_read : Run
@@ -98,13 +115,13 @@ may_go turns here _ = true
 
 -- what is known behind it
 abbrev pub written : (ℕ → Bool) → ℕ → List Mark → Tree → List Mark
-written lent p here (tree.Set to value) = put p here to Numbers
+written lent p here (tree.Set to value) = put p here to (set_mark value)
 written lent p here (tree.Address to place) = put_bytes p here to 2 (λ k. Same)
 written lent p here (tree.Copy to from) = put p here to (own_mark lent p (marks_in here) from)
 written lent p here (tree.Load to pointer count) = put_on p here to count
 written lent p here (tree.Unary op ty at) = put_bytes p here at (bytes_of (unary_type op ty)) (λ k. Numbers)
-written lent p here (tree.Binary op ty to left right) = put_bytes p here to (bytes_of (type_of op ty)) (λ k. result_mark (number_at lent p here left) (number_at lent p here right))
-written lent p here (tree.Convert from to at) = put_bytes p here at (bytes_of to) (λ k. converted_mark from (number_at lent p here at))
+written lent p here (tree.Binary op ty to left right) = put_bytes p here to (bytes_of (type_of op ty)) (behind_binary lent p (marks_in here) op ty left right)
+written lent p here (tree.Convert from to at) = put_bytes p here at (bytes_of to) (behind_convert lent p (marks_in here) from at)
 written lent p here (tree.BitRead to register bit) = put p here to Numbers
 written lent p here tree.Leave = nowhere here
 written lent p here (tree.Exit n) = nowhere here

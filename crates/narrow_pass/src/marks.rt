@@ -3,18 +3,30 @@
 ghost use Rattle.std.specs.Prelude.{◌≡◌, true, replicate, set, get_or, slice_get, ◌<◌, IfOk, IfSome};
 ghost use Rattle.narrow_code.specs.Marks as stated;
 ghost use Rattle.narrow_code.specs.Checked as tested;
+ghost use Rattle.narrow_code.specs.Right as rules;
 ghost use Rattle.narrow_code.specs.Drafts.{marks_in};
 ghost use Rattle.narrow_pass.specs.Narrowed.{lent_by};
-ghost use Rattle.narrow_pass.specs.Ways.{mark_of, marks_of, entry_mark, entry_flag, own_place, is_steady, set_bytes, all_same};
+ghost use Rattle.narrow_pass.specs.Ways.{mark_of, marks_of, entry_mark, entry_flag, own_place, is_steady, set_bytes, all_same, all_cleared};
 
 use core_code::Byte;
 use std::alloc::{AllocError, Global};
 
-/// What is known of a byte: both hold the same number, both hold the same, or nothing.
+/// What is known of a byte, in the given program and in the one that is made.
 #[derive(Clone, Copy, PartialEq, Eq, Debug)]
 pub enum Mark {
+    /// Both hold 0.
+    Zero,
+    /// Both hold the same number.
     Numbers,
+    /// Both hold the same.
     Same,
+    /// Both hold numbers, which are 0 together or not at all.
+    Tells,
+    /// Both hold numbers, of which just one is 0.
+    Denies,
+    /// The given program holds 0.
+    Cleared,
+    /// Nothing.
     Differs,
 }
 
@@ -29,8 +41,8 @@ pub fn is_same(mark: Mark) -> bool
     ensures { result ≡ stated.is_same (mark_of mark) }
 {
     match mark {
-        Mark::Numbers | Mark::Same => true,
-        Mark::Differs => false,
+        Mark::Zero | Mark::Numbers | Mark::Same => true,
+        Mark::Tells | Mark::Denies | Mark::Cleared | Mark::Differs => false,
     }
 }
 
@@ -38,8 +50,56 @@ pub fn is_number(mark: Mark) -> bool
     ensures { result ≡ stated.is_number (mark_of mark) }
 {
     match mark {
-        Mark::Numbers => true,
-        Mark::Same | Mark::Differs => false,
+        Mark::Zero | Mark::Numbers => true,
+        Mark::Same | Mark::Tells | Mark::Denies | Mark::Cleared | Mark::Differs => false,
+    }
+}
+
+fn is_zero(mark: Mark) -> bool
+    ensures { result ≡ stated.is_zero (mark_of mark) }
+{
+    match mark {
+        Mark::Zero => true,
+        Mark::Numbers
+        | Mark::Same
+        | Mark::Tells
+        | Mark::Denies
+        | Mark::Cleared
+        | Mark::Differs => false,
+    }
+}
+
+fn is_cleared(mark: Mark) -> bool
+    ensures { result ≡ stated.is_cleared (mark_of mark) }
+{
+    match mark {
+        Mark::Zero | Mark::Cleared => true,
+        Mark::Numbers | Mark::Same | Mark::Tells | Mark::Denies | Mark::Differs => false,
+    }
+}
+
+/// Whether a test of the byte comes to the same in both.
+pub fn tells(mark: Mark) -> bool
+    ensures { result ≡ stated.tells (mark_of mark) }
+{
+    match mark {
+        Mark::Zero | Mark::Numbers | Mark::Tells => true,
+        Mark::Same | Mark::Denies | Mark::Cleared | Mark::Differs => false,
+    }
+}
+
+/// Whether it comes to the opposite.
+pub fn denies(mark: Mark) -> bool
+    ensures { result ≡ stated.denies (mark_of mark) }
+{
+    match mark {
+        Mark::Denies => true,
+        Mark::Zero
+        | Mark::Numbers
+        | Mark::Same
+        | Mark::Tells
+        | Mark::Cleared
+        | Mark::Differs => false,
     }
 }
 
@@ -172,6 +232,32 @@ pub fn same_from(lent: &[bool], copy: u16, here: &[Mark], run: Run) -> bool
     }
 }
 
+#[tactic(auto, using(crate::proofs::Runs::cleared_more))]
+fn own_cleared(here: &[Mark], at: usize, count: u16) -> bool
+    requires { at < 65537 }
+    ensures { result ≡ all_cleared (marks_of here.now) at count }
+{
+    let mut all = true;
+    for k in 0..count {
+        all = all && is_cleared(own_at(here, at + k as usize));
+    }
+    all
+}
+
+/// Whether all of these bytes but the first one are 0 in the given program.
+#[tactic(auto, using(crate::proofs::Runs::alone_one))]
+pub fn is_low_alone(lent: &[bool], copy: u16, here: &[Mark], run: Run) -> bool
+    ensures { result ≡ rules.is_low_alone (lent_by lent.now) copy (marks_in (marks_of here.now)) run.byte run.count }
+{
+    if run.count <= 1 {
+        return true;
+    }
+    match own_place(copy, run.byte) {
+        Some(at) => !is_lent(lent, copy) && own_cleared(here, at + 1, run.count - 1),
+        None => false,
+    }
+}
+
 // ---- writes
 
 #[tactic(auto, using(crate::proofs::Lists::set_marks, crate::proofs::Lists::set_beyond))]
@@ -192,19 +278,19 @@ fn set_all(here: &mut Vec<Mark>, at: usize, count: u16, mark: Mark)
     }
 }
 
-// The lowest is a number, and nothing is known of the others.
-fn low_mark(k: u16) -> Mark
-    ensures { mark_of result ≡ stated.low_alone k }
+// One of the lowest, and another one of all above it.
+fn stacked(low: Mark, high: Mark, k: u16) -> Mark
+    ensures { mark_of result ≡ stated.stacked (mark_of low) (mark_of high) k }
 {
-    if k == 0 { Mark::Numbers } else { Mark::Differs }
+    if k == 0 { low } else { high }
 }
 
-fn set_low(here: &mut Vec<Mark>, at: usize, count: u16)
+fn set_stacked(here: &mut Vec<Mark>, at: usize, count: u16, low: Mark, high: Mark)
     requires { at < 65536 }
-    ensures { marks_of here.new.items ≡ set_bytes (marks_of here.old.items) at count stated.low_alone }
+    ensures { marks_of here.new.items ≡ set_bytes (marks_of here.old.items) at count (stated.stacked (mark_of low) (mark_of high)) }
 {
     for k in 0..count {
-        set_at(here, at + k as usize, low_mark(k));
+        set_at(here, at + k as usize, stacked(low, high, k));
     }
 }
 
@@ -238,13 +324,20 @@ pub fn put_on(copy: u16, here: &mut Vec<Mark>, byte: Byte, count: u16)
     put_all(copy, here, byte, count, Mark::Same);
 }
 
-/// What is known behind an operator that is done on the low bytes.
+/// The same, where of the lowest one something else is known than of the others.
 #[tactic(auto, using(crate::proofs::Runs::bytes_own, crate::proofs::Runs::bytes_off))]
-pub fn put_low(copy: u16, here: &mut Vec<Mark>, byte: Byte, count: u16)
-    ensures { marks_of here.new.items ≡ tested.put_bytes copy (marks_of here.old.items) byte count stated.low_alone }
+pub fn put_stacked(
+    copy: u16,
+    here: &mut Vec<Mark>,
+    byte: Byte,
+    count: u16,
+    low: Mark,
+    high: Mark,
+)
+    ensures { marks_of here.new.items ≡ tested.put_bytes copy (marks_of here.old.items) byte count (stated.stacked (mark_of low) (mark_of high)) }
 {
     match own_place(copy, byte) {
-        Some(at) => set_low(here, at, count),
+        Some(at) => set_stacked(here, at, count, low, high),
         None => {}
     }
 }
@@ -257,7 +350,7 @@ pub fn put_nowhere(here: &mut Vec<Mark>)
     ensures { marks_of here.new.items ≡ tested.nowhere (marks_of here.old.items) }
 {
     for k in 0..here.len() {
-        set_at(here, k, Mark::Numbers);
+        set_at(here, k, Mark::Zero);
     }
 }
 
@@ -276,12 +369,16 @@ pub fn copied(marks: &Vec<Mark>) -> Result<Vec<Mark>, AllocError>
 }
 
 fn is_below(said: Mark, known: Mark) -> bool
-    ensures { result ≡ tested.is_below (mark_of said) (mark_of known) }
+    ensures { result ≡ stated.is_below (mark_of said) (mark_of known) }
 {
     match said {
-        Mark::Differs => true,
-        Mark::Same => is_same(known),
+        Mark::Zero => is_zero(known),
         Mark::Numbers => is_number(known),
+        Mark::Same => is_same(known),
+        Mark::Tells => tells(known),
+        Mark::Denies => denies(known),
+        Mark::Cleared => is_cleared(known),
+        Mark::Differs => true,
     }
 }
 
@@ -301,16 +398,12 @@ pub fn all_below(said: &[Mark], known: &[Mark]) -> bool
 pub fn both_say(first: Mark, second: Mark) -> Mark
     ensures { mark_of result ≡ tested.both_say (mark_of first) (mark_of second) }
 {
-    match first {
-        Mark::Differs => Mark::Differs,
-        Mark::Same => {
-            if is_same(second) {
-                Mark::Same
-            } else {
-                Mark::Differs
-            }
-        }
-        Mark::Numbers => second,
+    if is_below(first, second) {
+        first
+    } else if is_below(second, first) {
+        second
+    } else {
+        Mark::Differs
     }
 }
 

@@ -7,15 +7,17 @@ ghost use Rattle.core_code.specs.Values.{right_type};
 ghost use Rattle.core_code.specs.View.{tree_of};
 ghost use Rattle.narrow_code.specs.Checked as tested;
 ghost use Rattle.narrow_code.specs.Lending as lending;
-ghost use Rattle.narrow_code.specs.Marks.{low_alone};
+ghost use Rattle.narrow_code.specs.Drafts.{marks_in};
+ghost use Rattle.narrow_code.specs.Marks as stated_marks;
+ghost use Rattle.narrow_code.specs.Plans as plans;
 ghost use Rattle.narrow_code.specs.Right as rules;
 ghost use Rattle.narrow_pass.specs.Narrowed.{lent_by};
 ghost use Rattle.narrow_pass.specs.Ways as stated;
 ghost use Rattle.narrow_pass.specs.Ways.{mark_of, marks_of, turns_of};
 
 use crate::marks::{
-    Mark, Run, is_lent, is_number, mark_at, may_differ, put_all, put_low, put_nowhere, put_on,
-    put_one, same_from,
+    Mark, Run, denies, is_lent, is_low_alone, is_number, mark_at, may_differ, put_all, put_nowhere,
+    put_on, put_one, put_stacked, same_from, tells,
 };
 use crate::turns::Turns;
 use c_ints::{BinOp, IntTy, UnOp, promote, size};
@@ -282,6 +284,66 @@ pub fn lends(lent: &[bool], c: &Core) -> bool
     }
 }
 
+// ---- small values
+
+fn keeps_small(op: BinOp) -> bool
+    ensures { result ≡ rules.keeps_small op }
+{
+    match op {
+        BinOp::And | BinOp::Xor | BinOp::Or => true,
+        BinOp::Mul
+        | BinOp::Div
+        | BinOp::Rem
+        | BinOp::Add
+        | BinOp::Sub
+        | BinOp::Shl
+        | BinOp::Shr
+        | BinOp::Lt
+        | BinOp::Gt
+        | BinOp::Le
+        | BinOp::Ge
+        | BinOp::Eq
+        | BinOp::Ne => false,
+    }
+}
+
+fn is_small(op: BinOp, small: bool) -> bool
+    ensures { result ≡ rules.is_small op small }
+{
+    compares(op) || keeps_small(op) && small
+}
+
+fn is_byte(ty: IntTy) -> bool
+    ensures { result ≡ rules.is_byte ty }
+{
+    match ty {
+        IntTy::Char | IntTy::UChar => true,
+        IntTy::SChar
+        | IntTy::Short
+        | IntTy::UShort
+        | IntTy::Int
+        | IntTy::UInt
+        | IntTy::Long
+        | IntTy::ULong => false,
+    }
+}
+
+/// Whether the low bytes of two values of a type stand for them.
+pub fn are_low_alone(
+    lent: &[bool],
+    copy: u16,
+    here: &[Mark],
+    ty: IntTy,
+    left: Byte,
+    right: Byte,
+) -> bool
+    ensures { result ≡ rules.are_low_alone (lent_by lent.now) copy (marks_in (marks_of here.now)) ty left right }
+{
+    let count = bytes_in(ty);
+    is_low_alone(lent, copy, here, Run { byte: left, count })
+        && is_low_alone(lent, copy, here, Run { byte: right, count })
+}
+
 // ---- writes
 
 fn numbers_if(holds: bool) -> Mark
@@ -302,6 +364,21 @@ fn result_mark(left: bool, right: bool) -> Mark
     numbers_if(left && right)
 }
 
+// What is known of a number that is set.
+#[tactic(auto, using(crate::proofs::Lists::set_zero, crate::proofs::Lists::set_positive))]
+fn set_mark(value: u8) -> Mark
+    ensures { mark_of result ≡ rules.set_mark value }
+{
+    if value == 0 { Mark::Zero } else { Mark::Numbers }
+}
+
+// Of the bytes above the lowest one.
+fn upper(small: bool, mark: Mark) -> Mark
+    ensures { mark_of result ≡ (if small then stated_marks.Zero else mark_of mark) }
+{
+    if small { Mark::Zero } else { mark }
+}
+
 fn converted_mark(from: IntTy, number: bool) -> Mark
     ensures { mark_of result ≡ rules.converted_mark from number }
 {
@@ -314,9 +391,8 @@ pub fn write(lent: &[bool], copy: u16, here: &mut Vec<Mark>, c: &Core)
     ensures { marks_of here.new.items ≡ stated.written (lent_by lent.now) copy (marks_of here.old.items) (tree_of c.now) }
 {
     match c {
-        Core::Set { to, .. } | Core::BitRead { to, .. } => {
-            put_one(copy, here, *to, Mark::Numbers);
-        }
+        Core::Set { to, value } => put_one(copy, here, *to, set_mark(*value)),
+        Core::BitRead { to, .. } => put_one(copy, here, *to, Mark::Numbers),
         Core::Address { to, .. } => put_all(copy, here, *to, 2, Mark::Same),
         Core::Copy { to, from } => {
             let mark = mark_at(lent, copy, here, *from);
@@ -339,15 +415,17 @@ pub fn write(lent: &[bool], copy: u16, here: &mut Vec<Mark>, c: &Core)
             left,
             right,
         } => {
-            let mark = result_mark(
-                number_at(lent, copy, here, *left),
-                number_at(lent, copy, here, *right),
-            );
-            put_all(copy, here, *to, bytes_in(type_of(*op, *ty)), mark);
+            let first = number_at(lent, copy, here, *left);
+            let second = number_at(lent, copy, here, *right);
+            let small = is_small(*op, are_low_alone(lent, copy, here, *ty, *left, *right));
+            let mark = result_mark(first, second);
+            let high = upper(first && second && small, mark);
+            put_stacked(copy, here, *to, bytes_in(type_of(*op, *ty)), mark, high);
         }
         Core::Convert { from, to, at } => {
             let mark = converted_mark(*from, number_at(lent, copy, here, *at));
-            put_all(copy, here, *at, bytes_in(*to), mark);
+            let high = upper(is_byte(*from), mark);
+            put_stacked(copy, here, *at, bytes_in(*to), mark, high);
         }
         Core::Leave | Core::Exit(_) | Core::Again(_) => put_nowhere(here),
         Core::Store { .. }
@@ -374,18 +452,130 @@ pub fn may_cut(
 ) -> bool
     ensures { result ≡ tested.may_cut (lent_by lent.now) copy (marks_of here.now) op ty to left right }
 {
-    is_low(op)
+    (is_low(op) || compares(op) && are_low_alone(lent, copy, here, ty, left, right))
         && 1 < bytes_in(ty)
         && number_at(lent, copy, here, left)
         && number_at(lent, copy, here, right)
         && may_differ(lent, copy, to)
 }
 
-/// What is known behind an operator that is done on the low bytes.
-pub fn put_cut(copy: u16, here: &mut Vec<Mark>, ty: IntTy, to: Byte)
-    ensures { marks_of here.new.items ≡ tested.put_bytes copy (marks_of here.old.items) to (bytes_of ty) low_alone }
+/// What is done in its place.
+pub fn low_op(op: BinOp) -> BinOp
+    ensures { result ≡ plans.low_op op }
 {
-    put_low(copy, here, to, bytes_in(ty));
+    match op {
+        BinOp::Eq | BinOp::Ne => BinOp::Xor,
+        BinOp::Mul
+        | BinOp::Div
+        | BinOp::Rem
+        | BinOp::Add
+        | BinOp::Sub
+        | BinOp::Shl
+        | BinOp::Shr
+        | BinOp::Lt
+        | BinOp::Gt
+        | BinOp::Le
+        | BinOp::Ge
+        | BinOp::And
+        | BinOp::Xor
+        | BinOp::Or => op,
+    }
+}
+
+fn lowest_mark(op: BinOp) -> Mark
+    ensures { mark_of result ≡ rules.lowest_mark op }
+{
+    match op {
+        BinOp::Eq => Mark::Denies,
+        BinOp::Ne => Mark::Tells,
+        BinOp::Mul
+        | BinOp::Div
+        | BinOp::Rem
+        | BinOp::Add
+        | BinOp::Sub
+        | BinOp::Shl
+        | BinOp::Shr
+        | BinOp::Lt
+        | BinOp::Gt
+        | BinOp::Le
+        | BinOp::Ge
+        | BinOp::And
+        | BinOp::Xor
+        | BinOp::Or => Mark::Numbers,
+    }
+}
+
+fn small_mark(small: bool) -> Mark
+    ensures { mark_of result ≡ (if small then stated_marks.Cleared else stated_marks.Differs) }
+{
+    if small { Mark::Cleared } else { Mark::Differs }
+}
+
+fn upper_mark(op: BinOp, small: bool) -> Mark
+    ensures { mark_of result ≡ rules.upper_mark op small }
+{
+    match op {
+        BinOp::Eq | BinOp::Ne => Mark::Cleared,
+        BinOp::Lt | BinOp::Gt | BinOp::Le | BinOp::Ge => Mark::Zero,
+        BinOp::And | BinOp::Xor | BinOp::Or => small_mark(small),
+        BinOp::Mul
+        | BinOp::Div
+        | BinOp::Rem
+        | BinOp::Add
+        | BinOp::Sub
+        | BinOp::Shl
+        | BinOp::Shr => Mark::Differs,
+    }
+}
+
+/// What is known behind an operator that is done on the low bytes.
+pub fn put_cut(
+    lent: &[bool],
+    copy: u16,
+    here: &mut Vec<Mark>,
+    op: BinOp,
+    ty: IntTy,
+    to: Byte,
+    left: Byte,
+    right: Byte,
+)
+    ensures { marks_of here.new.items ≡ tested.put_bytes copy (marks_of here.old.items) to (bytes_of (type_of op ty)) (rules.narrow_mark op (tested.small_at (lent_by lent.now) copy (marks_of here.old.items) ty left right)) }
+{
+    let small = are_low_alone(lent, copy, here, ty, left, right);
+    let count = bytes_in(type_of(op, ty));
+    put_stacked(copy, here, to, count, lowest_mark(op), upper_mark(op, small));
+}
+
+// ---- conditions
+
+/// How a condition is made: as it is, by the low byte of its test alone, or by that with its ways changed over.
+#[derive(Clone, Copy, PartialEq, Eq, Debug)]
+pub enum Way {
+    Whole,
+    Low,
+    Turned,
+}
+
+/// How a condition may be made, if at all.
+pub fn way_of(lent: &[bool], copy: u16, here: &[Mark], test: Byte, size: u8) -> Option<Way>
+    ensures { IfSome result (λ way. rules.fits_way (lent_by lent.now) copy (marks_in (marks_of here.now)) test size (stated.way_in way) ≡ true) }
+{
+    let run = Run {
+        byte: test,
+        count: size as u16,
+    };
+    let mark = mark_at(lent, copy, here, test);
+    let low = 0 < size && is_low_alone(lent, copy, here, run);
+    if low && denies(mark) {
+        return Some(Way::Turned);
+    }
+    if low && tells(mark) {
+        return Some(Way::Low);
+    }
+    if same_from(lent, copy, here, run) {
+        return Some(Way::Whole);
+    }
+    None
 }
 
 /// Whether all that an operation reads is the same.

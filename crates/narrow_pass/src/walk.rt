@@ -3,13 +3,15 @@
 ghost use Rattle.std.specs.Prelude.{◌≡◌, true, [], length, take, IfOk, IfSome};
 ghost use Rattle.core_code.specs.Tree.{Many, If, Loop, trees_of};
 ghost use Rattle.core_code.specs.View.{tree_of, trees_in};
-ghost use Rattle.narrow_code.specs.Checked as tested;
+ghost use Rattle.narrow_code.specs.Plans.{choice_by};
 ghost use Rattle.narrow_pass.specs.Narrowed.{lent_by};
-ghost use Rattle.narrow_pass.specs.Ways.{IsMade, AreMade, marks_of, turns_of};
+ghost use Rattle.narrow_pass.specs.Ways.{IsMade, AreMade, marks_of, turns_of, way_in};
 
 use crate::hints::Hints;
-use crate::marks::{Mark, Run, all_below, copied, met, same_from};
-use crate::operations::{lends, may_cut, may_go, put_cut, reads_same, same_operation, write};
+use crate::marks::{Mark, all_below, copied, met};
+use crate::operations::{
+    Way, lends, low_op, may_cut, may_go, put_cut, reads_same, same_operation, way_of, write,
+};
 use crate::turns::Turns;
 use c_ints::IntTy;
 use core_code::{Byte, Core};
@@ -50,9 +52,9 @@ fn cut(c: &Core, lent: &[bool], copy: u16, turns: &Turns, here: &mut Vec<Mark>) 
             if !may_cut(lent, copy, here, *op, *ty, *to, *left, *right) {
                 return None;
             }
-            put_cut(copy, here, *ty, *to);
+            put_cut(lent, copy, here, *op, *ty, *to, *left, *right);
             Some(Core::Binary {
-                op: *op,
+                op: low_op(*op),
                 ty: IntTy::UChar,
                 to: *to,
                 left: *left,
@@ -88,20 +90,6 @@ fn narrow_single(
     }
 }
 
-fn tests_same(lent: &[bool], copy: u16, here: &[Mark], test: Byte, size: u8) -> bool
-    ensures same { result ≡ true → tested.same_from (lent_by lent.now) copy (marks_of here.now) test size ≡ true }
-{
-    same_from(
-        lent,
-        copy,
-        here,
-        Run {
-            byte: test,
-            count: size as u16,
-        },
-    )
-}
-
 #[tactic(auto, using(core_code::proofs::Views::tree_many))]
 fn made_many(parts: Vec<Core>) -> Core
     ensures many { tree_of result ≡ Many (trees_of (trees_in parts.items)) }
@@ -109,9 +97,10 @@ fn made_many(parts: Vec<Core>) -> Core
     Core::Many(parts)
 }
 
+// A condition by its ways, the first of which is taken where the test holds.
 #[tactic(auto, using(core_code::proofs::Views::tree_if))]
-fn made_choice(alloc: Global, test: Byte, size: u8, yes: Core, no: Core) -> Result<Core, AllocError>
-    ensures choice { IfOk result (λ made. tree_of made ≡ If test size (tree_of yes) (tree_of no)) }
+fn condition(alloc: Global, test: Byte, size: u8, yes: Core, no: Core) -> Result<Core, AllocError>
+    ensures condition { IfOk result (λ made. tree_of made ≡ If test size (tree_of yes) (tree_of no)) }
 {
     Ok(Core::If {
         test,
@@ -119,6 +108,23 @@ fn made_choice(alloc: Global, test: Byte, size: u8, yes: Core, no: Core) -> Resu
         yes: Box::new(alloc, yes)?,
         no: Box::new(alloc, no)?,
     })
+}
+
+fn made_choice(
+    alloc: Global,
+    test: Byte,
+    size: u8,
+    way: Way,
+    yes: Core,
+    no: Core,
+) -> Result<Core, AllocError>
+    ensures choice { IfOk result (λ made. tree_of made ≡ choice_by test size (way_in way) (tree_of yes) (tree_of no)) }
+{
+    match way {
+        Way::Whole => condition(alloc, test, size, yes, no),
+        Way::Low => condition(alloc, test, 1, yes, no),
+        Way::Turned => condition(alloc, test, 1, no, yes),
+    }
 }
 
 #[tactic(auto, using(core_code::proofs::Views::tree_loop))]
@@ -155,9 +161,9 @@ pub fn narrow_one(
             yes,
             no,
         } => {
-            if !tests_same(lent, copy, here, *test, *size) {
+            let Some(way) = way_of(lent, copy, here, *test, *size) else {
                 return Ok(None);
-            }
+            };
             let mut other = copied(here)?;
             let Some(first) = narrow_one(yes, alloc, lent, copy, turns, hints, here)? else {
                 return Ok(None);
@@ -168,7 +174,7 @@ pub fn narrow_one(
             let Some(both) = met(alloc, here, &other)? else {
                 return Ok(None);
             };
-            let made = made_choice(alloc, *test, *size, first, second)?;
+            let made = made_choice(alloc, *test, *size, way, first, second)?;
             *here = both;
             Ok(Some(made))
         }

@@ -1,7 +1,7 @@
 //! What is known along a body, found by going along it until nothing changes.
 
 use crate::marks::{Mark, both_say, copied, own_at};
-use crate::operations::{may_cut, put_cut, write};
+use crate::operations::{are_low_alone, may_cut, put_cut, write};
 use crate::search::flat::{Flat, Step};
 use crate::turns::Turn;
 use core_code::Core;
@@ -10,11 +10,21 @@ use std::alloc::{AllocError, Global};
 // The most walks along a body; where they aren't enough, the test refuses.
 const ROUNDS: usize = 16;
 
+/// Whether an operator on two values may be done on the low bytes.
+#[derive(Clone, Copy, PartialEq, Eq, Debug)]
+pub enum Able {
+    Never,
+    /// Where no more of the result is asked for.
+    Low,
+    /// And the low bytes stand for the operands.
+    Small,
+}
+
 /// What is known at loops, and of each operator on two values whether it may be done on the low bytes.
 #[derive(Drop)]
 pub struct Known {
     pub turns: Vec<Turn>,
-    pub able: Vec<bool>,
+    pub able: Vec<Able>,
 }
 
 #[derive(Drop)]
@@ -24,7 +34,7 @@ struct Round {
     saved: Vec<Vec<Mark>>,
     // the numbers of the loops round this place, innermost last
     loops: Vec<usize>,
-    able: Vec<bool>,
+    able: Vec<Able>,
     changed: bool,
 }
 
@@ -75,6 +85,16 @@ fn is_cut(cuts: &[bool], at: usize) -> bool {
     }
 }
 
+fn able(may: bool, small: bool) -> Able {
+    if !may {
+        Able::Never
+    } else if small {
+        Able::Small
+    } else {
+        Able::Low
+    }
+}
+
 impl Round {
     fn leave(&mut self, turns: &mut Vec<Turn>, count: usize) {
         if let Some(number) = loop_out(&self.loops, count) {
@@ -109,10 +129,11 @@ impl Round {
                 right,
             } => {
                 let at = self.able.len();
-                let able = may_cut(lent, copy, &self.here, *op, *ty, *to, *left, *right);
-                self.able.push(able)?;
-                if able && is_cut(cuts, at) {
-                    put_cut(copy, &mut self.here, *ty, *to);
+                let may = may_cut(lent, copy, &self.here, *op, *ty, *to, *left, *right);
+                let small = are_low_alone(lent, copy, &self.here, *ty, *left, *right);
+                self.able.push(able(may, small))?;
+                if may && is_cut(cuts, at) {
+                    put_cut(lent, copy, &mut self.here, *op, *ty, *to, *left, *right);
                     return Ok(true);
                 }
                 Ok(false)
@@ -211,8 +232,8 @@ fn filled(alloc: Global, size: usize, mark: Mark) -> Result<Vec<Mark>, AllocErro
 fn first_turns(alloc: Global, loops: usize, size: usize) -> Result<Vec<Turn>, AllocError> {
     let mut turns = Vec::new(alloc);
     for _ in 0..loops {
-        let front = filled(alloc, size, Mark::Numbers)?;
-        let behind = filled(alloc, size, Mark::Numbers)?;
+        let front = filled(alloc, size, Mark::Zero)?;
+        let behind = filled(alloc, size, Mark::Zero)?;
         turns.push(Turn { front, behind })?;
     }
     Ok(turns)
