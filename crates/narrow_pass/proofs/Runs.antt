@@ -155,10 +155,10 @@ cleared_on marks at (suc n) =
     ∙ sym (and_assoc (is_cleared (get_or marks at Differs)) (all_cleared marks (at + 1) n) (is_cleared (get_or marks (at + 1 + n) Differs)))
     ∙ ap (λ (i : ℕ). (is_cleared (get_or marks at Differs) && all_cleared marks (at + 1) n) && is_cleared (get_or marks i Differs)) place
 
-pub cleared_more : (marks : List Mark) (at n : ℕ) (all next : Bool) → all ≡ all_cleared marks at n → next ≡ is_cleared (get_or marks (at + n) Differs) → (all && next) ≡ all_cleared marks at (n + 1)
-cleared_more marks at n all next e h =
+pub cleared_more : (marks : List Mark) (at n : ℕ) (all next both : Bool) → all ≡ all_cleared marks at n → next ≡ is_cleared (get_or marks (at + n) Differs) → both ≡ (all && next) → both ≡ all_cleared marks at (n + 1)
+cleared_more marks at n all next both e h f =
     let more : suc n ≡ n + 1 = omega arith in
-    ap (λ (t : Bool). t && next) e ∙ ap (λ (t : Bool). all_cleared marks at n && t) h ∙ sym (cleared_on marks at n) ∙ ap (all_cleared marks at) more
+    f ∙ ap (λ (t : Bool). t && next) e ∙ ap (λ (t : Bool). all_cleared marks at n && t) h ∙ sym (cleared_on marks at n) ∙ ap (all_cleared marks at) more
 
 pub alone_one : (lent : ℕ → Bool) (p : ℕ) (marks : List Mark) (byte : Byte) (n : ℕ) → n ≤ 1 → true ≡ is_low_alone lent p (marks_in marks) byte n
 alone_one lent p marks byte n h = let none : 0 ≡ n - 1 = omega arith in ap (cleared lent p (marks_in marks) (behind byte 1)) none
@@ -190,12 +190,16 @@ frame_alone lent p c marks at n e = by_lent (lent c) refl
 above_one : (n : ℕ) → 1 < n → (k : ℕ) × (n - 1 ≡ suc k)
 above_one n h = (n - 2, omega arith)
 
-pub alone_own : (lent : ℕ → Bool) (p : ℕ) (marks : List Mark) (byte : Byte) (at n : ℕ) → own_place p byte ≡ Some at → 1 < n → (not (lent p) && all_cleared marks (at + 1) (n - 1)) ≡ is_low_alone lent p (marks_in marks) byte n
-alone_own lent p marks byte at n e h =
+own_alone : (lent : ℕ → Bool) (p : ℕ) (marks : List Mark) (byte : Byte) (at n : ℕ) → own_place p byte ≡ Some at → 1 < n → (not (lent p) && all_cleared marks (at + 1) (n - 1)) ≡ is_low_alone lent p (marks_in marks) byte n
+own_alone lent p marks byte at n e h =
     let w = place_is p byte at e in
     let k = above_one n h in
     subst (λ (b : Byte). (not (lent p) && all_cleared marks (at + 1) (n - 1)) ≡ is_low_alone lent p (marks_in marks) b n) (sym w.is)
     (subst (λ (m : ℕ). (not (lent p) && all_cleared marks (at + 1) m) ≡ cleared lent p (marks_in marks) (Frame w.owner (at + 1)) m) (sym k.1) (sym (frame_alone lent p w.owner marks (at + 1) k.0 w.own)))
+
+pub alone_own : (lent : ℕ → Bool) (p : ℕ) (marks : List Mark) (byte : Byte) (at n : ℕ) (is rest both : Bool) → own_place p byte ≡ Some at → 1 < n → is ≡ lent p → rest ≡ all_cleared marks (at + 1) (n - 1)
+    → both ≡ (not is && rest) → both ≡ is_low_alone lent p (marks_in marks) byte n
+alone_own lent p marks byte at n is rest both e h f g i = i ∙ ap (λ (t : Bool). not t && rest) f ∙ ap (λ (t : Bool). not (lent p) && t) g ∙ own_alone lent p marks byte at n e h
 
 cleared_off : (lent : ℕ → Bool) (p : ℕ) (marks : List Mark) (byte : Byte) (k : ℕ) → own_place p byte ≡ None → cleared lent p (marks_in marks) (behind byte 1) (suc k) ≡ false
 cleared_off lent p marks (Static object offset) k e = refl

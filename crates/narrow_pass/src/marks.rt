@@ -1,6 +1,6 @@
 //! What is known of the bytes of a frame, where a body and what is made of it run side by side.
 
-ghost use Rattle.std.specs.Prelude.{◌≡◌, true, replicate, set, get_or, slice_get, ◌<◌, IfOk, IfSome};
+ghost use Rattle.std.specs.Prelude.{◌≡◌, true, ◌&&◌, replicate, set, get_or, slice_get, ◌<◌, IfOk, IfSome};
 ghost use Rattle.narrow_code.specs.Marks as stated;
 ghost use Rattle.narrow_code.specs.Checked as tested;
 ghost use Rattle.narrow_code.specs.Right as rules;
@@ -232,6 +232,13 @@ pub fn same_from(lent: &[bool], copy: u16, here: &[Mark], run: Run) -> bool
     }
 }
 
+/// Whether both hold.
+pub fn both(first: bool, second: bool) -> bool
+    ensures { result ≡ (first && second) }
+{
+    first && second
+}
+
 #[tactic(auto, using(crate::proofs::Runs::cleared_more))]
 fn own_cleared(here: &[Mark], at: usize, count: u16) -> bool
     requires { at < 65537 }
@@ -239,13 +246,13 @@ fn own_cleared(here: &[Mark], at: usize, count: u16) -> bool
 {
     let mut all = true;
     for k in 0..count {
-        all = all && is_cleared(own_at(here, at + k as usize));
+        all = both(all, is_cleared(own_at(here, at + k as usize)));
     }
     all
 }
 
 /// Whether all of these bytes but the first one are 0 in the given program.
-#[tactic(auto, using(crate::proofs::Runs::alone_one))]
+#[tactic(auto, using(crate::proofs::Runs::alone_one, crate::proofs::Runs::alone_own, crate::proofs::Runs::alone_off))]
 pub fn is_low_alone(lent: &[bool], copy: u16, here: &[Mark], run: Run) -> bool
     ensures { result ≡ rules.is_low_alone (lent_by lent.now) copy (marks_in (marks_of here.now)) run.byte run.count }
 {
@@ -253,7 +260,10 @@ pub fn is_low_alone(lent: &[bool], copy: u16, here: &[Mark], run: Run) -> bool
         return true;
     }
     match own_place(copy, run.byte) {
-        Some(at) => !is_lent(lent, copy) && own_cleared(here, at + 1, run.count - 1),
+        Some(at) => both(
+            !is_lent(lent, copy),
+            own_cleared(here, at + 1, run.count - 1),
+        ),
         None => false,
     }
 }

@@ -1,6 +1,6 @@
 //! What an operation without parts reads and writes.
 
-ghost use Rattle.std.specs.Prelude.{◌≡◌, true, false, ◌&&◌, ◌||◌, IfSome};
+ghost use Rattle.std.specs.Prelude.{◌≡◌, true, false, ◌&&◌, ◌||◌, if◌then◌else◌, IfSome};
 ghost use Rattle.c_ints.specs.Operators.{type_of, unary_type, compares, shifts};
 ghost use Rattle.c_ints.specs.Range.{bytes_of};
 ghost use Rattle.core_code.specs.Values.{right_type};
@@ -16,7 +16,7 @@ ghost use Rattle.narrow_pass.specs.Ways as stated;
 ghost use Rattle.narrow_pass.specs.Ways.{mark_of, marks_of, turns_of};
 
 use crate::marks::{
-    Mark, Run, denies, is_lent, is_low_alone, is_number, mark_at, may_differ, put_all, put_nowhere,
+    Mark, Run, both, denies, is_lent, is_low_alone, is_number, mark_at, may_differ, put_all, put_nowhere,
     put_on, put_one, put_stacked, same_from, tells,
 };
 use crate::turns::Turns;
@@ -379,6 +379,35 @@ fn upper(small: bool, mark: Mark) -> Mark
     if small { Mark::Zero } else { mark }
 }
 
+// Of the lowest byte of what an operator gives.
+fn result_at(lent: &[bool], copy: u16, here: &[Mark], left: Byte, right: Byte) -> Mark
+    ensures { mark_of result ≡ rules.result_mark (tested.number_at (lent_by lent.now) copy (marks_of here.now) left) (tested.number_at (lent_by lent.now) copy (marks_of here.now) right) }
+{
+    result_mark(
+        number_at(lent, copy, here, left),
+        number_at(lent, copy, here, right),
+    )
+}
+
+// Whether the others are 0.
+fn is_thin(
+    lent: &[bool],
+    copy: u16,
+    here: &[Mark],
+    op: BinOp,
+    ty: IntTy,
+    left: Byte,
+    right: Byte,
+) -> bool
+    ensures { result ≡ ((tested.number_at (lent_by lent.now) copy (marks_of here.now) left && tested.number_at (lent_by lent.now) copy (marks_of here.now) right) && rules.is_small op (tested.small_at (lent_by lent.now) copy (marks_of here.now) ty left right)) }
+{
+    let numbers = both(
+        number_at(lent, copy, here, left),
+        number_at(lent, copy, here, right),
+    );
+    both(numbers, is_small(op, are_low_alone(lent, copy, here, ty, left, right)))
+}
+
 fn converted_mark(from: IntTy, number: bool) -> Mark
     ensures { mark_of result ≡ rules.converted_mark from number }
 {
@@ -415,11 +444,8 @@ pub fn write(lent: &[bool], copy: u16, here: &mut Vec<Mark>, c: &Core)
             left,
             right,
         } => {
-            let first = number_at(lent, copy, here, *left);
-            let second = number_at(lent, copy, here, *right);
-            let small = is_small(*op, are_low_alone(lent, copy, here, *ty, *left, *right));
-            let mark = result_mark(first, second);
-            let high = upper(first && second && small, mark);
+            let mark = result_at(lent, copy, here, *left, *right);
+            let high = upper(is_thin(lent, copy, here, *op, *ty, *left, *right), mark);
             put_stacked(copy, here, *to, bytes_in(type_of(*op, *ty)), mark, high);
         }
         Core::Convert { from, to, at } => {

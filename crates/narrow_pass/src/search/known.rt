@@ -85,7 +85,7 @@ fn is_cut(cuts: &[bool], at: usize) -> bool {
     }
 }
 
-fn able(may: bool, small: bool) -> Able {
+fn able_of(may: bool, small: bool) -> Able {
     if !may {
         Able::Never
     } else if small {
@@ -131,7 +131,7 @@ impl Round {
                 let at = self.able.len();
                 let may = may_cut(lent, copy, &self.here, *op, *ty, *to, *left, *right);
                 let small = are_low_alone(lent, copy, &self.here, *ty, *left, *right);
-                self.able.push(able(may, small))?;
+                self.able.push(able_of(may, small))?;
                 if may && is_cut(cuts, at) {
                     put_cut(lent, copy, &mut self.here, *op, *ty, *to, *left, *right);
                     return Ok(true);

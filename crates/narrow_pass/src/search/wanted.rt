@@ -157,10 +157,10 @@ fn is_binary(c: &Core) -> bool {
 
 impl Wanted {
     // Whether the last operator that wasn't met yet may be done on the low bytes.
-    fn able(&self, able: &[Able]) -> Able {
+    fn next_able(&self, all: &[Able]) -> Able {
         let seen = self.cuts.len();
-        if seen < able.len() {
-            able[able.len() - 1 - seen]
+        if seen < all.len() {
+            all[all.len() - 1 - seen]
         } else {
             Able::Never
         }
@@ -215,11 +215,11 @@ impl Wanted {
     ) -> Result<(), AllocError> {
         self.go(c, fronts)?;
         if is_binary(c) {
-            let able = self.able(able);
-            let is = is_cut(copy, &self.here, c, able);
+            let found = self.next_able(able);
+            let is = is_cut(copy, &self.here, c, found);
             self.cuts.push(is)?;
             if is {
-                self.cut(copy, c, able);
+                self.cut(copy, c, found);
                 return Ok(());
             }
         }
