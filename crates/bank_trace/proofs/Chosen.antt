@@ -36,6 +36,7 @@ module _ (given made : List SymBlock) (handler : Option ℕ) (placed : Placed) (
   sound = record {
     pages = page_within made at has.fit;
     apart = apart_at made has.apart;
+    mates = has.mates;
     reaches = reaches_at placed facts made has.reaches;
     lead = lead_at facts made (both_last (is_open_at facts handler) (all_lead facts made) later);
     main = both_first (is_open facts 0) (is_open_at facts handler && all_lead facts made) has.consistent;
@@ -83,6 +84,7 @@ flows_of given made handler placed at g h has = record {
   limits = has.limits;
   same = has.same;
   apart = has.apart;
+  mates = λ bit name. refl;
   consistent = unknown_consistent handler made;
   reaches = plain_reaches placed made has.reaches;
 }

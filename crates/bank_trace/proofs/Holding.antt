@@ -1,5 +1,5 @@
 -- What is known holds of the bits that are selected.
-use Rattle.std.proofs.Common.{◌≡◌, ℕ, zero, suc, ◌+◌, ◌*◌, ◌/◌, ◌%◌, ◌<◌, Bool, true, false, ◌&&◌, nat_eq, if◌then◌else◌, Option, Some, None, refl, ap, ◌∙◌, arith}
+use Rattle.std.proofs.Common.{◌≡◌, ℕ, zero, suc, ◌+◌, ◌*◌, ◌/◌, ◌%◌, ◌<◌, Bool, true, false, ◌&&◌, nat_eq, if◌then◌else◌, Option, Some, None, refl, sym, ap, ◌∙◌, arith}
 use Rattle.std.proofs.lemmas.Bool.{eqb-true}
 use Rattle.pic_world.specs.Bits.{truth}
 use Rattle.sym_code.specs.Effect.{page_bit}
@@ -13,10 +13,11 @@ use Rattle.sym_code.specs.declared.code.Sym.{Sym}
 use Rattle.sym_code.specs.declared.code.Sym.TheVariants as syms
 use Rattle.sym_code.specs.declared.code.Target.{Target}
 use Rattle.bank_page.specs.Known.{nothing, kept, left, learned, same_bit, is_bit, is_page, is_of_bit, writes_status, writes_pclath}
-use Rattle.bank_page.specs.Selected.{has_bank, reaches_target}
+use Rattle.bank_page.specs.Selected.{has_bank}
 use Rattle.bank_page.specs.Step.{rp0_of, rp1_of}
 use Rattle.bank_page.specs.declared.known.Known.{Known}
-use Rattle.flow_facts.specs.Facts.{Fact, gives_bit, gives_page, gives, shared_bit, shared_page, shared}
+use Rattle.flow_facts.specs.Facts.{Fact, Facts, AreMates, gives_bit, gives_page, gives, shared_bit, shared_page, shared}
+use Rattle.flow_facts.specs.Walk.{mated, finds_target}
 use Rattle.flow_facts.proofs.More.{given_parts}
 use Rattle.bank_trace.proofs.Lists.{never}
 
@@ -69,12 +70,13 @@ selected pages own (syms.SelectPage Low target) b = record b { low = page_bit Lo
 selected pages own (syms.SelectPage High target) b = record b { high = page_bit High (pages (block_of own target)) }
 selected pages own s b = b
 
-pub holds_learned : (pages : BlockName → ℕ) (own : BlockName) (known : Known) (s : Sym) (b : Bits) → Holds pages known b → Holds pages (learned own known s) (selected pages own s b)
-holds_learned pages own known (syms.SelectBank Rp0 on) b h = record { rp0 = refl; rp1 = h.rp1; low = h.low; high = h.high }
-holds_learned pages own known (syms.SelectBank Rp1 on) b h = record { rp0 = h.rp0; rp1 = refl; low = h.low; high = h.high }
-holds_learned pages own known (syms.SelectPage Low target) b h = record { rp0 = h.rp0; rp1 = h.rp1; low = refl; high = h.high }
-holds_learned pages own known (syms.SelectPage High target) b h = record { rp0 = h.rp0; rp1 = h.rp1; low = h.low; high = refl }
-holds_learned pages own known s b h = h
+-- the page of a block has the bits of the one that stands for it
+pub holds_learned : (pages : BlockName → ℕ) (f : Facts) → AreMates pages f.mate → (own : BlockName) (known : Known) (s : Sym) (b : Bits) → Holds pages known b → Holds pages (learned own known (mated f own s)) (selected pages own s b)
+holds_learned pages f mates own known (syms.SelectBank Rp0 on) b h = record { rp0 = refl; rp1 = h.rp1; low = h.low; high = h.high }
+holds_learned pages f mates own known (syms.SelectBank Rp1 on) b h = record { rp0 = h.rp0; rp1 = refl; low = h.low; high = h.high }
+holds_learned pages f mates own known (syms.SelectPage Low target) b h = record { rp0 = h.rp0; rp1 = h.rp1; low = sym (mates Low (block_of own target)); high = h.high }
+holds_learned pages f mates own known (syms.SelectPage High target) b h = record { rp0 = h.rp0; rp1 = h.rp1; low = h.low; high = sym (mates High (block_of own target)) }
+holds_learned pages f mates own known s b h = h
 
 -- ---- what is found
 pub both_first : (a b : Bool) → (a && b) ≡ true → a ≡ true
@@ -116,11 +118,14 @@ page_known : (pages : BlockName → ℕ) (bit : PageBit) (known : Option BlockNa
 page_known pages bit None name v e h = never e
 page_known pages bit (Some known) name v e h = h ∙ ap (λ n. page_bit bit (pages n)) (same_names known name e)
 
-pub page_is : (pages : BlockName → ℕ) (own : BlockName) (known : Known) (target : Target) (b : Bits) → pages (block_of own target) < 4 → reaches_target own known (Some target) ≡ true → Holds pages known b → 2 * b.high + b.low ≡ pages (block_of own target)
-page_is pages own known target b l e h =
+pub page_is : (pages : BlockName → ℕ) (f : Facts) → AreMates pages f.mate → (own : BlockName) (known : Known) (target : Target) (b : Bits) → pages (block_of own target) < 4 → finds_target f own known (Some target) ≡ true → Holds pages known b
+    → 2 * b.high + b.low ≡ pages (block_of own target)
+page_is pages f mates own known target b l e h =
     let name = block_of own target in
-    let first = page_known pages High known.high name b.high (both_first (is_page known.high name) (is_page known.low name) e) h.high in
-    let last = page_known pages Low known.low name b.low (both_last (is_page known.high name) (is_page known.low name) e) h.low in
+    let one = f.mate High name in
+    let other = f.mate Low name in
+    let first : b.high ≡ page_bit High (pages name) = page_known pages High known.high one b.high (both_first (is_page known.high one) (is_page known.low other) e) h.high ∙ mates High name in
+    let last : b.low ≡ page_bit Low (pages name) = page_known pages Low known.low other b.low (both_last (is_page known.high one) (is_page known.low other) e) h.low ∙ mates Low name in
     omega arith
 
 -- ---- flow facts

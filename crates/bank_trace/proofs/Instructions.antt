@@ -23,10 +23,10 @@ use Rattle.sym_code.specs.declared.code.Sym.TheVariants as syms
 use Rattle.sym_code.specs.declared.code.Target.{Target}
 use Rattle.bank_page.specs.Kinds.{is_skip, byte_of, byte_named, target_of}
 use Rattle.bank_page.specs.Known.{is_retlw}
-use Rattle.bank_page.specs.Selected.{is_right, reaches_byte, reaches_target}
+use Rattle.bank_page.specs.Selected.{reaches_byte}
 use Rattle.bank_page.specs.declared.known.Known.{Known}
 use Rattle.flow_facts.specs.Facts.{Fact, gives, at_target}
-use Rattle.flow_facts.specs.Walk.{holds_of, all_hold, leaves, leads}
+use Rattle.flow_facts.specs.Walk.{finds_target, is_right, holds_of, all_hold, leaves, leads}
 use Rattle.bank_trace.proofs.Lists.{is_plain, never}
 use Rattle.bank_trace.proofs.Facts.{spot_front, passes_at}
 use Rattle.bank_trace.proofs.Holding.{Bits, Holds, HoldsFact, holds_given, both_first, both_last, page_is}
@@ -46,9 +46,9 @@ module _ (x : Site) (sound : IsSound x) (q : Position) (stack : List Position) (
       subst (λ (a : Access). Does x (e (access_of (plain_setting x) inside writes r operand)) (f a)) (sym (access_same x b r known operand inside writes holds reach named))
       (does (access_of (plain_setting x) inside writes r operand))
 
-  in_page : (target : Target) → reaches_target q.block known (Some target) ≡ true → (e f : Effect) → Does x e f → Does x e (if is_in_page (banked_setting x) q (over b r) target then f else Stuck)
+  in_page : (target : Target) → finds_target x.facts q.block known (Some target) ≡ true → (e f : Effect) → Does x e f → Does x e (if is_in_page (banked_setting x) q (over b r) target then f else Stuck)
   in_page target reach e f does =
-      subst (λ (c : Bool). Does x e (if c then f else Stuck)) (sym (eq-eqb (2 * b.high + b.low) (x.pages (block_of q.block target)) (page_is x.pages q.block known target b (sound.pages (block_of q.block target)) reach holds))) does
+      subst (λ (c : Bool). Does x e (if c then f else Stuck)) (sym (eq-eqb (2 * b.high + b.low) (x.pages (block_of q.block target)) (page_is x.pages x.facts sound.mates q.block known target b (sound.pages (block_of q.block target)) reach holds))) does
 
   module _ (s : Sym) (fetch : slice_get (x.made q.block) q.index ≡ Some s) (plain_one : is_plain s ≡ true) where
     next : goes_past s ≡ true → (c : Bool) → (c ≡ true → is_skip s ≡ true) → Onto x b q c
@@ -59,14 +59,14 @@ module _ (x : Site) (sound : IsSound x) (q : Position) (stack : List Position) (
     test_there test all =
         subst (λ (y : Fact). holds_of test y s ≡ true) is (passes_at x.facts q.block test (spot_front x.facts q.block) (x.made q.block) q.index s all fetch)
 
-    pub right : is_right x.placed q.block known s ≡ true
-    right = test_there (is_right x.placed q.block) (sound.reaches q.block)
+    pub right : is_right x.placed x.facts q.block known s ≡ true
+    right = test_there (is_right x.placed x.facts q.block) (sound.reaches q.block)
 
     reach_byte : reaches_byte x.placed known (byte_of s) ≡ true
-    reach_byte = both_first (reaches_byte x.placed known (byte_of s)) (reaches_target q.block known (target_of s)) right
+    reach_byte = both_first (reaches_byte x.placed known (byte_of s)) (finds_target x.facts q.block known (target_of s)) right
 
-    reach_target : reaches_target q.block known (target_of s) ≡ true
-    reach_target = both_last (reaches_byte x.placed known (byte_of s)) (reaches_target q.block known (target_of s)) right
+    reach_target : finds_target x.facts q.block known (target_of s) ≡ true
+    reach_target = both_last (reaches_byte x.placed known (byte_of s)) (finds_target x.facts q.block known (target_of s)) right
 
     -- what is expected where it leads to is known
     pub lead : leads x.facts q.block known s ≡ true

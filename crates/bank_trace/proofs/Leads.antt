@@ -46,23 +46,23 @@ module _ (x : Site) (q : Position) (stack : List Position) (r : Registers) where
     pub select_under : under x to ≡ under x q
     select_under = ap (under x) (behind_is (with x) q) ∙ ap (position q.block) (mark_settle (x.made q.block) (suc q.index) ∙ mark_select (x.made q.block) q.index there)
 
-    holds_select : (known : Known) (behind : Bool) (t : Sym) → is_select t ≡ true → Holds x.pages known b → HoldsFact x.pages (fact_after x.facts q.block (Some known) behind t) (selected x.pages q.block t b)
-    holds_select known behind (syms.SelectBank Rp0 on) e h = holds_learned x.pages q.block known (syms.SelectBank Rp0 on) b h
-    holds_select known behind (syms.SelectBank Rp1 on) e h = holds_learned x.pages q.block known (syms.SelectBank Rp1 on) b h
-    holds_select known behind (syms.SelectPage bit target) e h = holds_learned x.pages q.block known (syms.SelectPage bit target) b h
-    holds_select known behind t e h = never e
+    holds_select : IsSound x → (known : Known) (behind : Bool) (t : Sym) → is_select t ≡ true → Holds x.pages known b → HoldsFact x.pages (fact_after x.facts q.block (Some known) behind t) (selected x.pages q.block t b)
+    holds_select sound known behind (syms.SelectBank Rp0 on) e h = holds_learned x.pages x.facts sound.mates q.block known (syms.SelectBank Rp0 on) b h
+    holds_select sound known behind (syms.SelectBank Rp1 on) e h = holds_learned x.pages x.facts sound.mates q.block known (syms.SelectBank Rp1 on) b h
+    holds_select sound known behind (syms.SelectPage bit target) e h = holds_learned x.pages x.facts sound.mates q.block known (syms.SelectPage bit target) b h
+    holds_select sound known behind t e h = never e
 
-    holds_past : HoldsFact x.pages (fact_at x q) b → HoldsFact x.pages (spot_at x.facts q.block (spot_front x.facts q.block) (x.made q.block) (suc q.index)).fact set
-    holds_past h =
+    holds_past : IsSound x → HoldsFact x.pages (fact_at x q) b → HoldsFact x.pages (spot_at x.facts q.block (spot_front x.facts q.block) (x.made q.block) (suc q.index)).fact set
+    holds_past sound h =
         let l = live x.pages (fact_at x q) b h in
         subst (λ (t : Spot). HoldsFact x.pages t.fact set) (sym (spot_next x.facts q.block (spot_front x.facts q.block) (x.made q.block) q.index s fetch))
-        (subst (λ (y : Fact). HoldsFact x.pages (fact_after x.facts q.block y (spot x q).behind s) set) (sym l.is) (holds_select l.known (spot x q).behind s select l.holds))
+        (subst (λ (y : Fact). HoldsFact x.pages (fact_after x.facts q.block y (spot x q).behind s) set) (sym l.is) (holds_select sound l.known (spot x q).behind s select l.holds))
 
     pub select_fine : IsSound x → IsFine x q b → IsFine x to set
     select_fine sound h =
         subst (λ (p : Position). IsFine x p set) (sym (behind_is (with x) q)) (record {
           settled = settle_again (x.made q.block) (suc q.index);
-          holds = fact_settles x.facts q.block x.pages set (spot_front x.facts q.block) (x.made q.block) (suc q.index) (sound.lead q.block) (holds_past h.holds);
+          holds = fact_settles x.facts q.block x.pages set (spot_front x.facts q.block) (x.made q.block) (suc q.index) (sound.lead q.block) (holds_past sound h.holds);
         })
 
     pub select_ahead : selects_ahead (x.made q.block) q.index ≡ suc (selects_ahead (x.made to.block) to.index)

@@ -14,9 +14,9 @@ use Rattle.code_place.specs.Instructions.{known}
 use Rattle.code_place.specs.Layouts.{page_of}
 use Rattle.code_place.specs.Places.{at_if, block_place, target_for, HasAddress, HaveAddresses, BlocksHaveAddresses}
 use Rattle.code_place.specs.Sizes.{Stands, Fit}
-use Rattle.bank_page.specs.Selected.{NoSelectBehindSkip, IsApart, is_right}
+use Rattle.bank_page.specs.Selected.{NoSelectBehindSkip, IsApart}
 use Rattle.flow_facts.specs.Facts.{Facts}
-use Rattle.flow_facts.specs.Walk.{all_hold, holds_in, leads, all_lead, Reaches}
+use Rattle.flow_facts.specs.Walk.{is_right, all_hold, holds_in, leads, all_lead, Reaches}
 use Rattle.bank_trace.proofs.Holding.{same_names, both_first, both_last}
 use Rattle.bank_trace.proofs.Sites.{IsNamed}
 
@@ -88,9 +88,9 @@ named_at placed blocks at fit named =
 pub apart_at : (blocks : List SymBlock) → All IsApart blocks → (name : BlockName) → NoSelectBehindSkip (block_in blocks name)
 apart_at blocks all = of_name IsApart (λ name list. NoSelectBehindSkip list) (λ block h. h) (λ name e. absurd (cc)) blocks (each_all IsApart blocks all)
 
-pub reaches_at : (placed : Placed) (f : Facts) (blocks : List SymBlock) → All (Reaches placed f) blocks → (name : BlockName) → all_hold (is_right placed name) f name (f.front name) false (block_in blocks name) ≡ true
+pub reaches_at : (placed : Placed) (f : Facts) (blocks : List SymBlock) → All (Reaches placed f) blocks → (name : BlockName) → all_hold (is_right placed f name) f name (f.front name) false (block_in blocks name) ≡ true
 reaches_at placed f blocks all =
-    of_name (Reaches placed f) (λ name list. all_hold (is_right placed name) f name (f.front name) false list ≡ true) (λ block h. h) (λ name. refl) blocks (each_all (Reaches placed f) blocks all)
+    of_name (Reaches placed f) (λ name list. all_hold (is_right placed f name) f name (f.front name) false list ≡ true) (λ block h. h) (λ name. refl) blocks (each_all (Reaches placed f) blocks all)
 
 abbrev LeadsAlong : Facts → SymBlock → Type 0
 LeadsAlong f block = holds_in (leads f) f block ≡ true

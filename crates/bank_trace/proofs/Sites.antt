@@ -10,9 +10,9 @@ use Rattle.sym_code.specs.declared.code.Operand.{Operand}
 use Rattle.sym_code.specs.declared.code.Sym.{Sym}
 use Rattle.code_place.specs.Addresses.{file_address}
 use Rattle.code_place.specs.Layouts.{layout_of}
-use Rattle.bank_page.specs.Selected.{NoSelectBehindSkip, is_right}
-use Rattle.flow_facts.specs.Facts.{Facts}
-use Rattle.flow_facts.specs.Walk.{all_hold, leads, is_open, is_open_at}
+use Rattle.bank_page.specs.Selected.{NoSelectBehindSkip}
+use Rattle.flow_facts.specs.Facts.{Facts, AreMates}
+use Rattle.flow_facts.specs.Walk.{is_right, all_hold, leads, is_open, is_open_at}
 
 pub record Site : Type 0 where
   -- the code with its selects
@@ -46,8 +46,9 @@ IsNamed placed (Some touched) = IsSome (file_address placed touched.0)
 pub record IsSound (x : Site) : Type 0 where
   pub pages : (name : BlockName) → x.pages name < 4
   pub apart : (name : BlockName) → NoSelectBehindSkip (x.made name)
-  -- by the facts each access, jump and call finds what it needs, and the facts are consistent
-  pub reaches : (name : BlockName) → all_hold (is_right x.placed name) x.facts name (x.facts.front name) false (x.made name) ≡ true
+  -- by the facts each access, jump and call finds what it needs, and the facts are consistent; each block has the page of the one that stands for it
+  pub mates : AreMates x.pages x.facts.mate
+  pub reaches : (name : BlockName) → all_hold (is_right x.placed x.facts name) x.facts name (x.facts.front name) false (x.made name) ≡ true
   pub lead : (name : BlockName) → all_hold (leads x.facts name) x.facts name (x.facts.front name) false (x.made name) ≡ true
   pub main : is_open x.facts 0 ≡ true
   pub entry : is_open_at x.facts x.handler ≡ true

@@ -13,14 +13,15 @@ use Rattle.sym_code.specs.declared.code.SymBlock.{SymBlock}
 use Rattle.bank_page.specs.Known.{nothing}
 use Rattle.bank_page.specs.Links.{price_from, price_in}
 use Rattle.bank_page.specs.Selected as plain
-use Rattle.bank_page.specs.Selected.{NoSelectBehindSkip, names_of, bare_lists, IsApart, is_right, front, all_pass}
+use Rattle.bank_page.specs.Selected.{NoSelectBehindSkip, names_of, bare_lists, IsApart, front, all_pass}
 use Rattle.flow_facts.specs.Facts.{Facts}
-use Rattle.flow_facts.specs.Walk.{all_hold, leads, all_lead, is_open, is_open_at, is_consistent, Reaches}
+use Rattle.flow_facts.specs.Walk.{is_right, all_hold, leads, all_lead, is_open, is_open_at, is_consistent, Reaches}
 use Rattle.flow_facts.specs.Thin.{thin_from, thin, IsThin}
 use Rattle.flow_facts.specs.Laws.{is_lean, IsLean, IsShorter, ThinningKeeps}
 use Rattle.flow_facts.specs.Links.{ThinningHasFlow}
 use Rattle.flow_facts.proofs.More.{and_first, and_last, and_both}
 use Rattle.flow_facts.proofs.Plain.{gives_nothing}
+use Rattle.flow_facts.proofs.Stands.{mates_thin}
 use Rattle.flow_facts.proofs.Along.{right_whole, right_thin}
 use Rattle.flow_facts.proofs.Lists.{hold_thin, apart_thin, bare_thin, shorter_thin, lean_thin, price_thin}
 
@@ -61,7 +62,7 @@ module _ (f : Facts) where
   lead_of given apart lead true = lead
   lead_of given apart lead false = hold_thin f given.name (leads f given.name) (f.front given.name) false given.list.items apart lead
 
-  reach_of : (placed : Placed) (given : SymBlock) → plain.Reaches placed given → (c : Bool) → all_hold (is_right placed given.name) f given.name (f.front given.name) false (thin_if given c) ≡ true
+  reach_of : (placed : Placed) (given : SymBlock) → plain.Reaches placed given → (c : Bool) → all_hold (is_right placed f given.name) f given.name (f.front given.name) false (thin_if given c) ≡ true
   reach_of placed given reaches true = right_whole f given.name placed (f.front given.name) false nothing false given.list.items (λ e. e) (gives_nothing (f.front given.name)) reaches
   reach_of placed given reaches false = right_thin f given.name placed (f.front given.name) false nothing false given.list.items (λ e. e) (gives_nothing (f.front given.name)) reaches
 
@@ -134,7 +135,7 @@ module _ (f : Facts) where
   all_reach placed (g ∷ given) [] z all = absurd z
   all_reach placed (g ∷ given) (m ∷ made) z all =
       All-cons (Reaches placed f) m made
-      (of_made (λ n l. all_hold (is_right placed n) f n (f.front n) false l ≡ true) g m z.0 (λ c e. reach_of placed g (all_first (plain.Reaches placed) g given all) c))
+      (of_made (λ n l. all_hold (is_right placed f n) f n (f.front n) false l ≡ true) g m z.0 (λ c e. reach_of placed g (all_first (plain.Reaches placed) g given all) c))
       (all_reach placed given made z.1 (all_others (plain.Reaches placed) g given all))
 
   are_lean : (given made : List SymBlock) → AllZip (IsThin f) given made → All (IsLean f) made
@@ -165,7 +166,7 @@ module _ (f : Facts) where
       (still_lead given made z all (and_last (is_open_at f handler) (all_lead f given) later)))
 
 pub thinning_keeps : ThinningKeeps
-thinning_keeps placed handler given made thinned apart reaches =
+thinning_keeps placed handler at given made thinned apart reaches =
     let f = thinned.facts in
     record {
       names = names_are f given made thinned.each;
@@ -175,13 +176,14 @@ thinning_keeps placed handler given made thinned apart reaches =
       prices = prices_are f given made thinned.each;
       lean = are_lean f given made thinned.each;
       apart = are_apart f given made thinned.each apart;
+      mates = mates_thin f given made at thinned.each thinned.mates;
       consistent = still_consistent f handler given made thinned.each apart thinned.consistent;
       reaches = all_reach f placed given made thinned.each reaches;
     }
 
 pub thinning_has_flow : ThinningHasFlow
 thinning_has_flow given whole made handler placed at g h thinned apart reaches same given_code made_code without with pages fit named limits =
-    let keeps = thinning_keeps placed handler whole made thinned apart reaches in
+    let keeps = thinning_keeps placed handler at whole made thinned apart reaches in
     record {
       given_code = given_code;
       made_code = made_code;
@@ -193,6 +195,7 @@ thinning_has_flow given whole made handler placed at g h thinned apart reaches s
       limits = limits;
       same = λ name. keeps.same name ∙ same name;
       apart = keeps.apart;
+      mates = keeps.mates;
       consistent = keeps.consistent;
       reaches = keeps.reaches;
     }

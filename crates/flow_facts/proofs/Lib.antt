@@ -1,5 +1,6 @@
 pub mod Turns
 pub mod Plain
+pub mod Stands
 pub mod More
 pub mod Along
 pub mod Lists

@@ -15,7 +15,7 @@ use Rattle.bank_page.specs.Links.{price_from}
 use Rattle.bank_page.specs.Selected.{Place, Free, Behind, Broken, place_after, walk}
 use Rattle.bank_page.specs.declared.known.Known.{Known}
 use Rattle.flow_facts.specs.Facts.{Fact, Facts}
-use Rattle.flow_facts.specs.Walk.{fact_after, behind_after, holds_of, all_hold}
+use Rattle.flow_facts.specs.Walk.{mated, fact_after, behind_after, holds_of, all_hold}
 use Rattle.flow_facts.specs.Thin.{is_known, thin_from}
 use Rattle.flow_facts.specs.Laws.{is_lean}
 use Rattle.flow_facts.proofs.More.{never, and_first, and_last, and_both, same_bits, same_names}
@@ -93,13 +93,13 @@ learned_same own known (syms.SelectPage High target) e = ap (λ (o : Option Bloc
 learned_same own known s e = never e
 
 module _ (f : Facts) (own : BlockName) where
-  fact_same : (fact : Fact) (behind : Bool) (s : Sym) → is_known own fact s ≡ true → fact_after f own fact behind s ≡ fact
+  fact_same : (fact : Fact) (behind : Bool) (s : Sym) → is_known f own fact s ≡ true → fact_after f own fact behind s ≡ fact
   fact_same None behind (syms.SelectBank bit on) e = refl
   fact_same None behind (syms.SelectPage bit target) e = refl
   fact_same None behind s e = never e
   fact_same (Some known) behind (syms.SelectBank Rp0 on) e = ap (λ (k : Known). Some k) (learned_same own known (syms.SelectBank Rp0 on) e)
   fact_same (Some known) behind (syms.SelectBank Rp1 on) e = ap (λ (k : Known). Some k) (learned_same own known (syms.SelectBank Rp1 on) e)
-  fact_same (Some known) behind (syms.SelectPage bit target) e = ap (λ (k : Known). Some k) (learned_same own known (syms.SelectPage bit target) e)
+  fact_same (Some known) behind (syms.SelectPage bit target) e = ap (λ (k : Known). Some k) (learned_same own known (mated f own (syms.SelectPage bit target)) e)
   fact_same (Some known) behind s e = never e
 
   abbrev rest_of : Fact → Bool → Sym → List Sym → List Sym
@@ -109,17 +109,17 @@ module _ (f : Facts) (own : BlockName) where
   pub hold_thin : (test : Known → Sym → Bool) (fact : Fact) (behind : Bool) (list : List Sym) → Unbroken behind list → all_hold test f own fact behind list ≡ true → all_hold test f own fact behind (thin_from f own fact behind list) ≡ true
   hold_thin test fact behind [] h e = refl
   hold_thin test fact behind (s ∷ list) h e =
-      by (is_known own fact s) refl (hold_thin test fact behind list) (hold_thin test (fact_after f own fact behind s) (behind_after behind s) list)
+      by (is_known f own fact s) refl (hold_thin test fact behind list) (hold_thin test (fact_after f own fact behind s) (behind_after behind s) list)
     where
       later : all_hold test f own (fact_after f own fact behind s) (behind_after behind s) list ≡ true
       later = and_last (holds_of test fact s) (all_hold test f own (fact_after f own fact behind s) (behind_after behind s) list) e
 
-      by : (c : Bool) → is_known own fact s ≡ c
+      by : (c : Bool) → is_known f own fact s ≡ c
           → (Unbroken behind list → all_hold test f own fact behind list ≡ true → all_hold test f own fact behind (thin_from f own fact behind list) ≡ true)
           → (Unbroken (behind_after behind s) list → all_hold test f own (fact_after f own fact behind s) (behind_after behind s) list ≡ true → all_hold test f own (fact_after f own fact behind s) (behind_after behind s) (rest_of fact behind s list) ≡ true)
           → all_hold test f own fact behind (if c then thin_from f own fact behind list else s ∷ rest_of fact behind s list) ≡ true
       by true known same next =
-          let select = known_select own fact s known in
+          let select = known_select f own fact s known in
           let free = not_behind behind s list select h in
           let skips : behind_after behind s ≡ behind = ap (λ (b : Bool). if b then behind else is_skip s) (select_no_label s select) ∙ select_no_skip s select ∙ sym free in
           same (past_select behind s list select h)
@@ -132,30 +132,30 @@ module _ (f : Facts) (own : BlockName) where
   pub apart_thin : (fact : Fact) (behind : Bool) (list : List Sym) → Unbroken behind list → Unbroken behind (thin_from f own fact behind list)
   apart_thin fact behind [] h = h
   apart_thin fact behind (s ∷ list) h =
-      by (is_known own fact s) refl (apart_thin fact behind list) (apart_thin (fact_after f own fact behind s) (behind_after behind s) list)
+      by (is_known f own fact s) refl (apart_thin fact behind list) (apart_thin (fact_after f own fact behind s) (behind_after behind s) list)
     where
-      by : (c : Bool) → is_known own fact s ≡ c
+      by : (c : Bool) → is_known f own fact s ≡ c
           → (Unbroken behind list → Unbroken behind (thin_from f own fact behind list))
           → (Unbroken (behind_after behind s) list → Unbroken (behind_after behind s) (rest_of fact behind s list))
           → Unbroken behind (if c then thin_from f own fact behind list else s ∷ rest_of fact behind s list)
-      by true known same next = same (past_select behind s list (known_select own fact s known) h)
+      by true known same next = same (past_select behind s list (known_select f own fact s known) h)
       by false known same next =
           subst (λ (p : Place). walk p (rest_of fact behind s list) ≡ Broken → ⊥) (sym (same_place behind s (no_select behind s list h))) (next (next_unbroken behind s list h))
 
   pub bare_thin : (fact : Fact) (behind : Bool) (list : List Sym) → bare (thin_from f own fact behind list) ≡ bare list
   bare_thin fact behind [] = refl
   bare_thin fact behind (s ∷ list) =
-      by (is_known own fact s) refl (bare_thin fact behind list) (bare_thin (fact_after f own fact behind s) (behind_after behind s) list)
+      by (is_known f own fact s) refl (bare_thin fact behind list) (bare_thin (fact_after f own fact behind s) (behind_after behind s) list)
     where
-      by : (c : Bool) → is_known own fact s ≡ c → bare (thin_from f own fact behind list) ≡ bare list → bare (rest_of fact behind s list) ≡ bare list
+      by : (c : Bool) → is_known f own fact s ≡ c → bare (thin_from f own fact behind list) ≡ bare list → bare (rest_of fact behind s list) ≡ bare list
           → bare (if c then thin_from f own fact behind list else s ∷ rest_of fact behind s list) ≡ bare (s ∷ list)
-      by true known same next = same ∙ ap (λ (b : Bool). if not b then s ∷ bare list else bare list) (sym (known_select own fact s known))
+      by true known same next = same ∙ ap (λ (b : Bool). if not b then s ∷ bare list else bare list) (sym (known_select f own fact s known))
       by false known same next = ap (λ (l : List Sym). if not (is_select s) then s ∷ l else l) next
 
   pub shorter_thin : (fact : Fact) (behind : Bool) (list : List Sym) → words_in (thin_from f own fact behind list) ≤ words_in list
   shorter_thin fact behind [] = omega arith
   shorter_thin fact behind (s ∷ list) =
-      by (is_known own fact s) (shorter_thin fact behind list) (shorter_thin (fact_after f own fact behind s) (behind_after behind s) list)
+      by (is_known f own fact s) (shorter_thin fact behind list) (shorter_thin (fact_after f own fact behind s) (behind_after behind s) list)
     where
       by : (c : Bool) → words_in (thin_from f own fact behind list) ≤ words_in list → words_in (rest_of fact behind s list) ≤ words_in list
           → words_in (if c then thin_from f own fact behind list else s ∷ rest_of fact behind s list) ≤ words_in (s ∷ list)
@@ -170,9 +170,9 @@ module _ (f : Facts) (own : BlockName) where
   pub lean_thin : (fact : Fact) (behind : Bool) (list : List Sym) → is_lean f own fact behind (thin_from f own fact behind list) ≡ true
   lean_thin fact behind [] = refl
   lean_thin fact behind (s ∷ list) =
-      by (is_known own fact s) refl (lean_thin fact behind list) (lean_thin (fact_after f own fact behind s) (behind_after behind s) list)
+      by (is_known f own fact s) refl (lean_thin fact behind list) (lean_thin (fact_after f own fact behind s) (behind_after behind s) list)
     where
-      by : (c : Bool) → is_known own fact s ≡ c → is_lean f own fact behind (thin_from f own fact behind list) ≡ true
+      by : (c : Bool) → is_known f own fact s ≡ c → is_lean f own fact behind (thin_from f own fact behind list) ≡ true
           → is_lean f own (fact_after f own fact behind s) (behind_after behind s) (rest_of fact behind s list) ≡ true
           → is_lean f own fact behind (if c then thin_from f own fact behind list else s ∷ rest_of fact behind s list) ≡ true
       by true known same next = same
@@ -201,14 +201,14 @@ module _ (f : Facts) (own : BlockName) where
   pub price_thin : (m n : ℕ) → m ≤ n → (fact : Fact) (behind : Bool) (list : List Sym) (k : ℕ) → price_from m (thin_from f own fact behind list) k ≤ price_from n list k
   price_thin m n l fact behind [] k = omega arith
   price_thin m n l fact behind (s ∷ list) k =
-      by (is_known own fact s) refl k (λ x y r z. price_thin x y r fact behind list z) (λ x y r z. price_thin x y r (fact_after f own fact behind s) (behind_after behind s) list z)
+      by (is_known f own fact s) refl k (λ x y r z. price_thin x y r fact behind list z) (λ x y r z. price_thin x y r (fact_after f own fact behind s) (behind_after behind s) list z)
     where
-      by : (c : Bool) → is_known own fact s ≡ c → (k : ℕ)
+      by : (c : Bool) → is_known f own fact s ≡ c → (k : ℕ)
           → ((x y : ℕ) → x ≤ y → (z : ℕ) → price_from x (thin_from f own fact behind list) z ≤ price_from y list z)
           → ((x y : ℕ) → x ≤ y → (z : ℕ) → price_from x (rest_of fact behind s list) z ≤ price_from y list z)
           → price_from m (if c then thin_from f own fact behind list else s ∷ rest_of fact behind s list) k ≤ price_from n (s ∷ list) k
       by true known k same next =
-          subst (λ (x : ℕ). price_from m (thin_from f own fact behind list) k ≤ x) (sym (price_of_select n s list k (known_select own fact s known))) (same m (n + 1) (omega arith) k)
+          subst (λ (x : ℕ). price_from m (thin_from f own fact behind list) k ≤ x) (sym (price_of_select n s list k (known_select f own fact s known))) (same m (n + 1) (omega arith) k)
       by false known zero same next =
           here_less m n (price_from (m + 1) (rest_of fact behind s list) zero) (price_from (n + 1) list zero) (is_select s) (is_label s) l
           (next (m + 1) (n + 1) (omega arith) zero)

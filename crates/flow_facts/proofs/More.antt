@@ -1,5 +1,5 @@
 -- Where more is known.
-use Rattle.std.proofs.Common.{◌≡◌, ℕ, Bool, true, false, ◌&&◌, Option, Some, None, refl, sym, ap, subst, true≢false}
+use Rattle.std.proofs.Common.{◌≡◌, ℕ, Bool, true, false, ◌&&◌, Option, Some, None, option_map, refl, sym, ap, subst, true≢false}
 use Rattle.std.proofs.lemmas.Bool.{eqb-true, eq-eqb}
 use Rattle.core_code.specs.declared.code.Byte.{Byte}
 use Rattle.pic_map.specs.declared.Placed.{Placed}
@@ -13,10 +13,12 @@ use Rattle.sym_code.specs.declared.code.Sym.TheVariants as syms
 use Rattle.sym_code.specs.declared.code.Target.{Target}
 use Rattle.bank_page.specs.Kinds.{byte_of, target_of}
 use Rattle.bank_page.specs.Known.{kept, left, learned, knows, same_bit, is_bit, is_page, is_of_bit, writes_status, writes_pclath}
-use Rattle.bank_page.specs.Selected.{bank_number, has_bank, reaches_byte, reaches_target, is_right}
+use Rattle.bank_page.specs.Selected as plain
+use Rattle.bank_page.specs.Selected.{bank_number, has_bank, reaches_byte, reaches_target}
 use Rattle.bank_page.specs.Step.{rp0_of, rp1_of}
 use Rattle.bank_page.specs.declared.known.Known.{Known}
-use Rattle.flow_facts.specs.Facts.{gives_bit, gives_page, gives_known}
+use Rattle.flow_facts.specs.Facts.{Facts, gives_bit, gives_page, gives_known}
+use Rattle.flow_facts.specs.Walk.{mated, finds_target, is_right}
 
 pub never : {A : Type 0} → false ≡ true → A
 never e = absurd (true≢false (sym e))
@@ -100,29 +102,38 @@ pub gives_page_itself : (a : Option BlockName) → gives_page a a ≡ true
 gives_page_itself None = refl
 gives_page_itself (Some name) = page_itself name
 
-gives_page_kept : (c : Bool) (a b : Option BlockName) → gives_page a b ≡ true → gives_page (kept c a) (kept c b) ≡ true
-gives_page_kept true a b g = refl
-gives_page_kept false a b g = g
+-- ---- blocks that stand for others
+gives_page_kept : (mate : BlockName → BlockName) (c : Bool) (a b : Option BlockName) → gives_page a (option_map mate b) ≡ true → gives_page (kept c a) (option_map mate (kept c b)) ≡ true
+gives_page_kept mate true a b g = refl
+gives_page_kept mate false a b g = g
+
+page_mate : (mate : BlockName → BlockName) (a : Option BlockName) (name : BlockName) → is_page a name ≡ true → is_page (option_map mate a) (mate name) ≡ true
+page_mate mate None name e = never e
+page_mate mate (Some x) name e = subst (λ (y : BlockName). is_page (Some (mate x)) (mate y) ≡ true) (same_names x name e) (page_itself (mate x))
+
+-- what straight code knows, by the blocks that stand for those that it names
+abbrev pub by_mates : Facts → Known → Known
+by_mates f known = record { rp0 = known.rp0; rp1 = known.rp1; low = option_map (f.mate Low) known.low; high = option_map (f.mate High) known.high }
 
 -- ---- behind an instruction more stays known
-module _ (a b : Known) (g : Gives a b) where
-  pub left_more : (s : Sym) → Gives (left a s (writes_status s) (writes_pclath s)) (left b s (writes_status s) (writes_pclath s))
+module _ (f : Facts) (a b : Known) (g : Gives a (by_mates f b)) where
+  pub left_more : (s : Sym) → Gives (left a s (writes_status s) (writes_pclath s)) (by_mates f (left b s (writes_status s) (writes_pclath s)))
   left_more s = record {
     rp0 = gives_bit_kept (writes_status s && is_of_bit s 5) a.rp0 b.rp0 g.rp0;
     rp1 = gives_bit_kept (writes_status s && is_of_bit s 6) a.rp1 b.rp1 g.rp1;
-    low = gives_page_kept (writes_pclath s && is_of_bit s 3) a.low b.low g.low;
-    high = gives_page_kept (writes_pclath s && is_of_bit s 4) a.high b.high g.high;
+    low = gives_page_kept (f.mate Low) (writes_pclath s && is_of_bit s 3) a.low b.low g.low;
+    high = gives_page_kept (f.mate High) (writes_pclath s && is_of_bit s 4) a.high b.high g.high;
   }
 
-  pub learned_more : (own : BlockName) (s : Sym) → Gives (learned own a s) (learned own b s)
+  pub learned_more : (own : BlockName) (s : Sym) → Gives (learned own a (mated f own s)) (by_mates f (learned own b s))
   learned_more own (syms.SelectBank Rp0 on) = record { rp0 = bit_itself on; rp1 = g.rp1; low = g.low; high = g.high }
   learned_more own (syms.SelectBank Rp1 on) = record { rp0 = g.rp0; rp1 = bit_itself on; low = g.low; high = g.high }
-  learned_more own (syms.SelectPage Low target) = record { rp0 = g.rp0; rp1 = g.rp1; low = page_itself (block_of own target); high = g.high }
-  learned_more own (syms.SelectPage High target) = record { rp0 = g.rp0; rp1 = g.rp1; low = g.low; high = page_itself (block_of own target) }
+  learned_more own (syms.SelectPage Low target) = record { rp0 = g.rp0; rp1 = g.rp1; low = page_itself (f.mate Low (block_of own target)); high = g.high }
+  learned_more own (syms.SelectPage High target) = record { rp0 = g.rp0; rp1 = g.rp1; low = g.low; high = page_itself (f.mate High (block_of own target)) }
   learned_more own s = g
 
   -- what a select sets that is known there is known
-  pub knows_more : (own : BlockName) (s : Sym) → knows own a s ≡ true → Gives a (learned own b s)
+  pub knows_more : (own : BlockName) (s : Sym) → knows own a (mated f own s) ≡ true → Gives a (by_mates f (learned own b s))
   knows_more own (syms.SelectBank Rp0 on) e = record { rp0 = e; rp1 = g.rp1; low = g.low; high = g.high }
   knows_more own (syms.SelectBank Rp1 on) e = record { rp0 = g.rp0; rp1 = e; low = g.low; high = g.high }
   knows_more own (syms.SelectPage Low target) e = record { rp0 = g.rp0; rp1 = g.rp1; low = e; high = g.high }
@@ -141,16 +152,18 @@ module _ (a b : Known) (g : Gives a b) where
   byte_more placed None e = refl
   byte_more placed (Some byte) e = bank_more (bank_number placed byte) e
 
-  target_more : (own : BlockName) (target : Option Target) → reaches_target own b target ≡ true → reaches_target own a target ≡ true
+  target_more : (own : BlockName) (target : Option Target) → reaches_target own b target ≡ true → finds_target f own a target ≡ true
   target_more own None e = refl
   target_more own (Some target) e =
       let name = block_of own target in
-      and_both (is_page a.high name) (is_page a.low name)
-      (page_more a.high b.high name g.high (and_first (is_page b.high name) (is_page b.low name) e))
-      (page_more a.low b.low name g.low (and_last (is_page b.high name) (is_page b.low name) e))
+      let high = f.mate High in
+      let low = f.mate Low in
+      and_both (is_page a.high (high name)) (is_page a.low (low name))
+      (page_more a.high (option_map high b.high) (high name) g.high (page_mate high b.high name (and_first (is_page b.high name) (is_page b.low name) e)))
+      (page_more a.low (option_map low b.low) (low name) g.low (page_mate low b.low name (and_last (is_page b.high name) (is_page b.low name) e)))
 
-  pub right_more : (placed : Placed) (own : BlockName) (s : Sym) → is_right placed own b s ≡ true → is_right placed own a s ≡ true
+  pub right_more : (placed : Placed) (own : BlockName) (s : Sym) → plain.is_right placed own b s ≡ true → is_right placed f own a s ≡ true
   right_more placed own s e =
-      and_both (reaches_byte placed a (byte_of s)) (reaches_target own a (target_of s))
+      and_both (reaches_byte placed a (byte_of s)) (finds_target f own a (target_of s))
       (byte_more placed (byte_of s) (and_first (reaches_byte placed b (byte_of s)) (reaches_target own b (target_of s)) e))
       (target_more own (target_of s) (and_last (reaches_byte placed b (byte_of s)) (reaches_target own b (target_of s)) e))

@@ -37,11 +37,11 @@ pub lead_end : (f : Facts) (whole : Bool) (left : List SymBlock) → left ≡ []
 lead_end f whole left is all = sym (ap (all_lead f) is) ∙ all
 
 -- ---- what is put
-pub left_out : (f : Facts) (own : BlockName) (fact : Fact) (behind : Bool) (s : Sym) (out : List Sym) → is_known own fact s ≡ true → (rest : List Sym) → out ++ thin_from f own fact behind rest ≡ out ++ thin_from f own fact behind (s ∷ rest)
+pub left_out : (f : Facts) (own : BlockName) (fact : Fact) (behind : Bool) (s : Sym) (out : List Sym) → is_known f own fact s ≡ true → (rest : List Sym) → out ++ thin_from f own fact behind rest ≡ out ++ thin_from f own fact behind (s ∷ rest)
 left_out f own fact behind s out known rest =
     ap (λ (c : Bool). out ++ (if c then thin_from f own fact behind rest else s ∷ thin_from f own (fact_after f own fact behind s) (behind_after behind s) rest)) (sym known)
 
-pub put_on : (f : Facts) (own : BlockName) (fact : Fact) (behind : Bool) (s : Sym) (out new : List Sym) (next : Fact) (after : Bool) → is_known own fact s ≡ false → new ≡ out ++ s ∷ [] → next ≡ fact_after f own fact behind s → after ≡ behind_after behind s
+pub put_on : (f : Facts) (own : BlockName) (fact : Fact) (behind : Bool) (s : Sym) (out new : List Sym) (next : Fact) (after : Bool) → is_known f own fact s ≡ false → new ≡ out ++ s ∷ [] → next ≡ fact_after f own fact behind s → after ≡ behind_after behind s
     → (rest : List Sym) → new ++ thin_from f own next after rest ≡ out ++ thin_from f own fact behind (s ∷ rest)
 put_on f own fact behind s out new next after other put is same rest =
     let left : List Sym = thin_from f own (fact_after f own fact behind s) (behind_after behind s) rest in

@@ -1,8 +1,10 @@
 -- What is known of the bits that selects set at places that code comes to from elsewhere: the fronts of blocks, labels, and behind calls.
-use Rattle.std.specs.Prelude.{ℕ, Bool, true, false, ◌&&◌, Option, Some, None, if◌then◌else◌}
+use Rattle.std.specs.Prelude.{ℕ, ◌≡◌, Bool, true, false, ◌&&◌, Option, Some, None, if◌then◌else◌}
+use Rattle.sym_code.specs.Effect.{page_bit}
 use Rattle.sym_code.specs.declared.code.BlockName.{BlockName}
 use Rattle.sym_code.specs.declared.code.Label.{Label}
 use Rattle.sym_code.specs.declared.code.Label.TheVariants as labels
+use Rattle.sym_code.specs.declared.code.PageBit.{PageBit}
 use Rattle.sym_code.specs.declared.code.Target.{Target}
 use Rattle.sym_code.specs.declared.code.Target.TheVariants as targets
 use Rattle.bank_page.specs.Known.{nothing, is_bit, is_page}
@@ -19,10 +21,16 @@ pub record Facts : Type 0 where
   pub label : BlockName → ℕ → Fact
   -- where a block returns
   pub back : BlockName → Fact
+  -- the block that stands for all those whose pages have the same bit
+  pub mate : PageBit → BlockName → BlockName
 
--- facts by which nothing is known anywhere
+-- The page of a block has the bit of its mate's.
+abbrev pub AreMates : (BlockName → ℕ) → (PageBit → BlockName → BlockName) → Type 0
+AreMates pages mate = (bit : PageBit) (name : BlockName) → page_bit bit (pages (mate bit name)) ≡ page_bit bit (pages name)
+
+-- facts by which nothing is known anywhere, and each block stands for itself alone
 abbrev pub unknown : Facts
-unknown = record { front = λ name. Some nothing; label = λ name n. Some nothing; back = λ name. Some nothing }
+unknown = record { front = λ name. Some nothing; label = λ name n. Some nothing; back = λ name. Some nothing; mate = λ bit name. name }
 
 -- ---- more is known
 abbrev pub gives_bit : Option Bool → Option Bool → Bool

@@ -13,12 +13,13 @@ use Rattle.code_place.specs.Sizes.{Fit}
 use Rattle.bank_page.specs.Links.{SelectsKeep}
 use Rattle.bank_page.specs.Selected as plain
 use Rattle.bank_page.specs.Selected.{IsApart}
-use Rattle.flow_facts.specs.Facts.{Facts}
+use Rattle.flow_facts.specs.Facts.{Facts, AreMates}
 use Rattle.flow_facts.specs.Thin.{IsThinned}
 use Rattle.flow_facts.specs.Walk.{is_consistent, Reaches}
 
 -- Blocks with their selects, and facts that are consistent: by these each access finds its bank selected, and each jump and call its
--- page; between a skip and the instruction behind it stands none. All that is named has an address.
+-- page, which it knows by a block whose page has the same bits; between a skip and the instruction behind it stands none. All that is named has
+-- an address.
 pub record HasFlow (given made : List SymBlock) (handler : Option ℕ) (placed : Placed) (at : List ℕ) (facts : Facts) (g h : Setting) : Type 0 where
   pub given_code : g.program ≡ program_of given handler placed
   pub made_code : h.program ≡ program_of made handler placed
@@ -30,6 +31,7 @@ pub record HasFlow (given made : List SymBlock) (handler : Option ℕ) (placed :
   pub limits : h.limit ≡ g.limit
   pub same : (name : BlockName) → bare (block_in made name) ≡ block_in given name
   pub apart : All IsApart made
+  pub mates : AreMates (page_of made at) facts.mate
   pub consistent : is_consistent facts handler made ≡ true
   pub reaches : All (Reaches placed facts) made
 
@@ -42,7 +44,7 @@ FlowsKeep =
 -- What is left of code with selects, which finds by straight code what it needs, is such code.
 abbrev pub ThinningHasFlow : Type 0
 ThinningHasFlow =
-    (given whole made : List SymBlock) (handler : Option ℕ) (placed : Placed) (at : List ℕ) (g h : Setting) (thinned : IsThinned handler whole made)
+    (given whole made : List SymBlock) (handler : Option ℕ) (placed : Placed) (at : List ℕ) (g h : Setting) (thinned : IsThinned handler at whole made)
     → All IsApart whole → All (plain.Reaches placed) whole → ((name : BlockName) → bare (block_in whole name) ≡ block_in given name)
     → g.program ≡ program_of given handler placed → h.program ≡ program_of made handler placed → g.banked ≡ false → h.banked ≡ true
     → h.page_of ≡ page_of made at → Fit made at → BlocksHaveAddresses placed made at → h.limit ≡ g.limit

@@ -5,24 +5,40 @@ use Rattle.sym_code.specs.Programs.{block_of}
 use Rattle.sym_code.specs.Selects.{is_select}
 use Rattle.sym_code.specs.declared.code.BlockName.{BlockName}
 use Rattle.sym_code.specs.declared.code.BlockName.TheVariants.{Copy}
+use Rattle.sym_code.specs.declared.code.PageBit.TheVariants.{Low, High}
 use Rattle.sym_code.specs.declared.code.Sym.{Sym}
 use Rattle.sym_code.specs.declared.code.Sym.TheVariants as syms
 use Rattle.sym_code.specs.declared.code.SymBlock.{SymBlock}
 use Rattle.sym_code.specs.declared.code.Target.{Target}
 use Rattle.sym_code.specs.declared.code.Target.TheVariants as targets
-use Rattle.bank_page.specs.Kinds.{is_label, is_skip}
-use Rattle.bank_page.specs.Known.{nothing, ends, is_return, is_retlw, left, learned, writes_status, writes_pclath}
-use Rattle.bank_page.specs.Selected.{is_right}
+use Rattle.bank_page.specs.Kinds.{is_label, is_skip, byte_of, target_of}
+use Rattle.bank_page.specs.Known.{nothing, is_page, ends, is_return, is_retlw, left, learned, writes_status, writes_pclath}
+use Rattle.bank_page.specs.Selected.{reaches_byte}
 use Rattle.bank_page.specs.declared.known.Known.{Known}
 use Rattle.flow_facts.specs.Facts.{Fact, Facts, gives, shared, at_label, at_target}
 
+-- ---- pages by their mates
+-- A select of a page with the block that stands for those of this page: what is known of pages names such blocks alone.
+abbrev pub mated : Facts → BlockName → Sym → Sym
+mated f own (syms.SelectPage bit target) = syms.SelectPage bit (targets.Block (f.mate bit (block_of own target)))
+mated f own s = s
+
+-- a jump's or call's target is in a block whose page is known to be selected
+abbrev pub finds_target : Facts → BlockName → Known → Option Target → Bool
+finds_target f own known None = true
+finds_target f own known (Some target) = is_page known.high (f.mate High (block_of own target)) && is_page known.low (f.mate Low (block_of own target))
+
+-- what an instruction needs is known to be selected
+abbrev pub is_right : Placed → Facts → BlockName → Known → Sym → Bool
+is_right placed f own known s = reaches_byte placed known (byte_of s) && finds_target f own known (target_of s)
+
 -- ---- behind an instruction
 -- one that is neither a label nor a call: behind a jump or return that isn't skipped nothing comes
-abbrev pub known_after : BlockName → Known → Sym → Known
-known_after own known s = if is_select s then learned own known s else left known s (writes_status s) (writes_pclath s)
+abbrev pub known_after : Facts → BlockName → Known → Sym → Known
+known_after f own known s = if is_select s then learned own known (mated f own s) else left known s (writes_status s) (writes_pclath s)
 
-abbrev pub passed : BlockName → Known → Bool → Sym → Fact
-passed own known behind s = if ends s && not behind then None else Some (known_after own known s)
+abbrev pub passed : Facts → BlockName → Known → Bool → Sym → Fact
+passed f own known behind s = if ends s && not behind then None else Some (known_after f own known s)
 
 -- a call comes back with what the block that it calls leaves, and may be skipped
 abbrev pub called : Fact → Known → Bool → Fact
@@ -31,7 +47,7 @@ called back known behind = if behind then shared (Some known) back else back
 abbrev pub live_after : Facts → BlockName → Known → Bool → Sym → Fact
 live_after f own known behind (syms.Label label) = at_label f own label
 live_after f own known behind (syms.Call target) = called (f.back (block_of own target)) known behind
-live_after f own known behind s = passed own known behind s
+live_after f own known behind s = passed f own known behind s
 
 abbrev pub dead_after : Facts → BlockName → Sym → Fact
 dead_after f own (syms.Label label) = at_label f own label
@@ -98,4 +114,4 @@ is_consistent f handler blocks = is_open f 0 && (is_open_at f handler && all_lea
 
 -- By the facts each access finds its bank selected, and each jump and call its page.
 abbrev pub Reaches : Placed → Facts → SymBlock → Type 0
-Reaches placed f block = holds_in (is_right placed) f block ≡ true
+Reaches placed f block = holds_in (is_right placed f) f block ≡ true

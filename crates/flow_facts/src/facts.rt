@@ -1,11 +1,12 @@
 //! Flow facts of the blocks of a program.
 
 ghost use Rattle.std.specs.Prelude.{◌≡◌, None, Some, MatchOption, slice_get};
+ghost use Rattle.sym_code.specs.declared.code.BlockName.TheVariants.{Copy};
 ghost use Rattle.flow_facts.specs.Facts as stated;
 ghost use Rattle.flow_facts.specs.Stored as stored;
 
 use bank_page::known::Known;
-use sym_code::{BlockName, Label, Target};
+use sym_code::{BlockName, Label, PageBit, Target};
 
 /// What is known at the front of a block, where it returns, and at its inner labels, by their numbers. `None` stands where nothing
 /// comes.
@@ -16,10 +17,13 @@ pub struct BlockFacts {
     pub labels: Vec<Option<Known>>,
 }
 
-/// The facts of the copies' blocks, by the copies' numbers. Of a block that isn't there nothing is known.
+/// The facts of the copies' blocks, by the copies' numbers, and the blocks that stand for them, by bit 3 of PCLATH and by bit 4 of it. Of a
+/// block that isn't there nothing is known, and it stands for itself.
 #[derive(Drop)]
 pub struct FlowFacts {
     pub copies: Vec<BlockFacts>,
+    pub low: Vec<BlockName>,
+    pub high: Vec<BlockName>,
 }
 
 fn label_in(facts: &BlockFacts, number: usize) -> Option<Known>
@@ -31,7 +35,29 @@ fn label_in(facts: &BlockFacts, number: usize) -> Option<Known>
     }
 }
 
+fn mate_in(mates: &[BlockName], copy: u16) -> BlockName
+    ensures { result ≡ stored.mate_or (slice_get mates.now copy) (Copy copy) }
+{
+    match mates.get(copy as usize) {
+        Some(mate) => *mate,
+        None => BlockName::Copy(copy),
+    }
+}
+
 impl FlowFacts {
+    /// The block that stands for one.
+    pub fn mate(&self, bit: PageBit, name: BlockName) -> BlockName
+        ensures { result ≡ stored.mate_of self.now bit name }
+    {
+        match name {
+            BlockName::Start => BlockName::Start,
+            BlockName::Copy(copy) => match bit {
+                PageBit::Low => mate_in(&self.low, copy),
+                PageBit::High => mate_in(&self.high, copy),
+            },
+        }
+    }
+
     fn of_block(&self, name: BlockName) -> Option<&BlockFacts>
         ensures { MatchOption result (stored.of_block self.now name ≡ None) (λ facts. stored.of_block self.now name ≡ Some facts.now) }
     {

@@ -4,12 +4,13 @@
 ghost use Rattle.std.specs.Prelude.{◌≡◌, replicate, None, IfOk};
 
 use crate::facts::{BlockFacts, FlowFacts};
+use crate::mates::find_mates;
 use crate::sharing::shared;
 use crate::walk::{Place, place_after};
 use bank_page::kinds::{is_retlw, is_return};
 use bank_page::known::Known;
 use std::alloc::{AllocError, Global};
-use sym_code::{BlockName, Label, Sym, SymBlock, Target};
+use sym_code::{BlockName, Label, PageBit, Sym, SymBlock, Target};
 
 /// How often all blocks are gone through, at most.
 const ROUNDS: u32 = 200;
@@ -42,7 +43,7 @@ fn put_labels(copies: &mut [BlockFacts], copy: u16, labels: Vec<Option<Known>>) 
     }
 }
 
-fn all_unreached(alloc: Global, blocks: &[SymBlock]) -> Result<FlowFacts, AllocError> {
+fn all_unreached(alloc: Global, blocks: &[SymBlock], at: &[u16]) -> Result<FlowFacts, AllocError> {
     let mut copies = Vec::new(alloc);
     for _block in blocks {
         copies.push(unreached(alloc, 0)?)?;
@@ -53,7 +54,11 @@ fn all_unreached(alloc: Global, blocks: &[SymBlock]) -> Result<FlowFacts, AllocE
             put_labels(&mut copies, copy, labels);
         }
     }
-    Ok(FlowFacts { copies })
+    Ok(FlowFacts {
+        copies,
+        low: find_mates(alloc, blocks, at, PageBit::Low)?,
+        high: find_mates(alloc, blocks, at, PageBit::High)?,
+    })
 }
 
 // One more way comes to a place. Answers whether less is known there than before.
@@ -178,13 +183,14 @@ fn begin_at(facts: &mut FlowFacts, copy: u16) -> bool {
     come_to_front(facts, BlockName::Copy(copy), Some(Known::nothing()))
 }
 
-/// Facts of a program's blocks. Main is copy 0, and the handler the copy with this number.
+/// Facts of a program's blocks at their addresses. Main is copy 0, and the handler the copy with this number.
 pub fn search(
     alloc: Global,
     blocks: &[SymBlock],
     handler: Option<u16>,
+    at: &[u16],
 ) -> Result<FlowFacts, AllocError> {
-    let mut facts = all_unreached(alloc, blocks)?;
+    let mut facts = all_unreached(alloc, blocks, at)?;
     begin_at(&mut facts, 0);
     if let Some(copy) = handler {
         begin_at(&mut facts, copy);

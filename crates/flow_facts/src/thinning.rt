@@ -4,14 +4,18 @@ ghost use Rattle.std.specs.Prelude.{ℕ, ◌≡◌, ◌∷◌, ◌++◌, [], tru
 ghost use Rattle.std.specs.List.{AllZip};
 ghost use Rattle.sym_code.specs.WellFormed.{is_well_formed, are_well_formed};
 ghost use Rattle.sym_code.specs.declared.code.Sym.{Sym as AnySym};
+ghost use Rattle.sym_code.specs.declared.code.BlockName.{BlockName as Name};
+ghost use Rattle.code_place.specs.Layouts.{page_of};
+ghost use Rattle.flow_facts.specs.Facts.{AreMates};
 ghost use Rattle.flow_facts.specs.Stored.{facts_of};
 ghost use Rattle.flow_facts.specs.Thin as stated;
 ghost use Rattle.flow_facts.specs.Walk.{is_consistent as are_consistent};
 
 use crate::checking::is_consistent;
 use crate::facts::FlowFacts;
+use crate::mates::are_mates;
 use crate::search::search;
-use crate::walk::{Place, first_of, place_after};
+use crate::walk::{Place, first_of, mated, place_after};
 use bank_page::kinds::is_select;
 use bank_page::known::{Known, same_block};
 use bank_page::put_made;
@@ -19,12 +23,12 @@ use std::alloc::{AllocError, Global};
 use sym_code::{BlockName, Sym, SymBlock, SymProgram};
 
 // Whether it is a select that sets what is known to be so, or to which nothing comes.
-fn is_known(own: BlockName, fact: Option<Known>, sym: Sym) -> bool
-    ensures { result ≡ stated.is_known own fact sym }
+fn is_known(facts: &FlowFacts, own: BlockName, fact: Option<Known>, sym: Sym) -> bool
+    ensures { result ≡ stated.is_known (facts_of facts.now) own fact sym }
 {
     match fact {
         None => is_select(sym),
-        Some(known) => known.knows(own, sym),
+        Some(known) => known.knows(own, mated(facts, own, sym)),
     }
 }
 
@@ -40,7 +44,7 @@ fn put_next(
     ensures next { IfOk result (λ next. (rest : List AnySym) → out.new.list.items ++ stated.thin_from (facts_of facts.now) out.old.name next.fact next.behind rest ≡ out.old.list.items ++ stated.thin_from (facts_of facts.now) out.old.name place.fact place.behind (sym ∷ rest)) }
     ensures name { out.new.name ≡ out.old.name }
 {
-    if is_known(out.name, place.fact, sym) {
+    if is_known(facts, out.name, place.fact, sym) {
         return Ok(place);
     }
     out.put(sym)?;
@@ -112,55 +116,66 @@ fn thin_blocks(
     Ok(made)
 }
 
-// Facts by which nothing is known.
-#[tactic(auto, using(crate::proofs::Plain::none_consistent))]
+// Facts by which nothing is known, and each block stands for itself.
+#[tactic(auto, using(crate::proofs::Plain::none_consistent, crate::proofs::Stands::none_mates))]
 fn none_known(alloc: Global, handler: Option<u16>, blocks: &[SymBlock]) -> FlowFacts
-    ensures { are_consistent (facts_of result) handler blocks.now ≡ true }
+    ensures consistent { are_consistent (facts_of result) handler blocks.now ≡ true }
+    ensures mates { (pages : Name → ℕ) → AreMates pages (facts_of result).mate }
 {
     FlowFacts {
         copies: Vec::new(alloc),
+        low: Vec::new(alloc),
+        high: Vec::new(alloc),
     }
 }
 
-/// Facts that are consistent.
+/// Facts that are consistent, of blocks at these addresses.
 fn facts_for(
     alloc: Global,
     handler: Option<u16>,
     blocks: &[SymBlock],
+    at: &[u16],
 ) -> Result<FlowFacts, AllocError>
-    ensures { IfOk result (λ facts. are_consistent (facts_of facts) handler blocks.now ≡ true) }
+    ensures consistent { IfOk result (λ facts. are_consistent (facts_of facts) handler blocks.now ≡ true) }
+    ensures mates { IfOk result (λ facts. AreMates (page_of blocks.now at.now) (facts_of facts).mate) }
 {
-    let found = search(alloc, blocks, handler)?;
+    let found = search(alloc, blocks, handler, at)?;
     if is_consistent(&found, handler, blocks) {
-        return Ok(found);
+        if are_mates(&found, blocks, at) {
+            return Ok(found);
+        }
     }
     Ok(none_known(alloc, handler, blocks))
 }
 
 /// The program without those selects that set what is so already by the facts that were found, or to which by these nothing comes. Main
-/// is copy 0, and the handler the copy with this number. The start block stays whole.
+/// is copy 0, and the handler the copy with this number; block `k` begins at `at[k]`, by which blocks in one page are known. The start
+/// block stays whole.
 pub fn thinned(
     alloc: Global,
     program: &SymProgram,
     handler: Option<u16>,
+    at: &[u16],
 ) -> Result<SymProgram, AllocError>
     // By facts that are consistent, the selects that set what is known or to which nothing comes are left out, and nothing else is.
-    ensures { IfOk result (λ made. stated.IsThinned handler program.now.blocks.items made.blocks.items) }
+    ensures { IfOk result (λ made. stated.IsThinned handler at.now program.now.blocks.items made.blocks.items) }
 {
-    let facts = facts_for(alloc, handler, &program.blocks)?;
+    let facts = facts_for(alloc, handler, &program.blocks, at)?;
     let blocks = thin_blocks(alloc, &facts, &program.blocks)?;
     Ok(SymProgram { blocks })
 }
 
 /// The program without those selects to which nothing comes, where nothing is known at labels, at the fronts of blocks and behind calls.
 /// Main is copy 0, and the handler the copy with this number. The start block stays whole.
+#[tactic(auto, using(crate::proofs::Stands::thin_anywhere))]
 pub fn thinned_plainly(
     alloc: Global,
     program: &SymProgram,
     handler: Option<u16>,
 ) -> Result<SymProgram, AllocError>
-    // By facts that are consistent, the selects that set what is known or to which nothing comes are left out, and nothing else is.
-    ensures { IfOk result (λ made. stated.IsThinned handler program.now.blocks.items made.blocks.items) }
+    // By facts that are consistent, the selects that set what is known or to which nothing comes are left out, and nothing else is,
+    // wherever the blocks stand.
+    ensures { IfOk result (λ made. (at : List ℕ) → stated.IsThinned handler at program.now.blocks.items made.blocks.items) }
 {
     let facts = none_known(alloc, handler, &program.blocks);
     let blocks = thin_blocks(alloc, &facts, &program.blocks)?;

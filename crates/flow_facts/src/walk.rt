@@ -28,24 +28,36 @@ pub fn first_of(list: &[Sym]) -> Option<(Sym, &[Sym])>
     }
 }
 
-fn known_after(own: BlockName, known: Known, sym: Sym) -> Known
-    ensures { result ≡ stated.known_after own known sym }
+/// A select of a page with the block that stands for those of this page.
+pub fn mated(facts: &FlowFacts, own: BlockName, sym: Sym) -> Sym
+    ensures { result ≡ stated.mated (facts_of facts.now) own sym }
+{
+    match sym {
+        Sym::SelectPage(bit, target) => {
+            Sym::SelectPage(bit, Target::Block(facts.mate(bit, block_of(own, target))))
+        }
+        _ => sym,
+    }
+}
+
+fn known_after(facts: &FlowFacts, own: BlockName, known: Known, sym: Sym) -> Known
+    ensures { result ≡ stated.known_after (facts_of facts.now) own known sym }
 {
     if is_select(sym) {
-        known.learned(own, sym)
+        known.learned(own, mated(facts, own, sym))
     } else {
         known.left(sym)
     }
 }
 
 // Behind an instruction that is neither a label nor a call.
-fn passed(own: BlockName, known: Known, behind: bool, sym: Sym) -> Option<Known>
-    ensures { result ≡ stated.passed own known behind sym }
+fn passed(facts: &FlowFacts, own: BlockName, known: Known, behind: bool, sym: Sym) -> Option<Known>
+    ensures { result ≡ stated.passed (facts_of facts.now) own known behind sym }
 {
     if ends(sym) && !behind {
         None
     } else {
-        Some(known_after(own, known, sym))
+        Some(known_after(facts, own, known, sym))
     }
 }
 
@@ -72,7 +84,7 @@ fn live_after(
     match sym {
         Sym::Label(label) => facts.at_label(own, label),
         Sym::Call(target) => called(facts.back(block_of(own, target)), known, behind),
-        _ => passed(own, known, behind, sym),
+        _ => passed(facts, own, known, behind, sym),
     }
 }
 

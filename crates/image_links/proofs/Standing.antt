@@ -42,6 +42,6 @@ module _ (p : Program) (copies : List FnCopy) (facts : Facts) (whole made : List
 pub translations_fit : TranslationsFit
 translations_fit typed copies core given whole made placed at blocks bodies thinned has placing statics paged =
     let p = program_of typed in
-    let kept = thinning_keeps placed (handler_at copies) whole made thinned blocks.apart blocks.reaches in
+    let kept = thinning_keeps placed (handler_at copies) at whole made thinned blocks.apart blocks.reaches in
     blocks_fit p copies made at paged (thin_in_order p copies thinned.facts whole made thinned.each paged.order (blocks_in_order typed copies core given whole placed at blocks has paged))
     (thin_stated p copies thinned.facts whole made thinned.each kept.shorter (blocks_stated typed copies core given whole placed blocks bodies has placing statics))

@@ -50,8 +50,8 @@ of_first placed [] block e all = absurd (cc)
 of_first placed (x ∷ blocks) block e all = subst (Reaches placed) (some_is x block e) (all 0 x (omega arith))
 
 module _ (p : Program) (copies : List FnCopy) (core : CoreProgram) (given made : List SymBlock) (placed : Placed) (at : List ℕ) (passed : IsPassed p copies core given made placed at) where
-  pub kept : Keeps placed (handler_at copies) passed.whole made passed.thinned.facts
-  kept = thinning_keeps placed (handler_at copies) passed.whole made passed.thinned passed.blocks.apart passed.blocks.reaches
+  pub kept : Keeps placed (handler_at copies) at passed.whole made passed.thinned.facts
+  kept = thinning_keeps placed (handler_at copies) at passed.whole made passed.thinned passed.blocks.apart passed.blocks.reaches
 
   leaner : IsReady core copies given passed.lean
   leaner = ready p copies core given passed.lean passed.whole placed passed.blocks

@@ -48,6 +48,6 @@ LeanKeepsOperands = (placed : Placed) (given lean : List SymBlock) → AllZip Is
 
 abbrev pub MadeHaveOperands : Type 0
 MadeHaveOperands =
-    (typed : Typed) (copies : List FnCopy) (core : CoreProgram) (given lean whole made : List SymBlock) (placed : Placed) → AreBlocks (program_of typed) copies core given lean whole placed → IsThinned (handler_at copies) whole made → HasCalls (program_of typed) copies
+    (typed : Typed) (copies : List FnCopy) (core : CoreProgram) (given lean whole made : List SymBlock) (placed : Placed) (at : List ℕ) → AreBlocks (program_of typed) copies core given lean whole placed → IsThinned (handler_at copies) at whole made → HasCalls (program_of typed) copies
     → IsPlacing (program_of typed) copies (map object_of placed.objects.items) (map frame_of placed.frames.items) → map items_of core.statics.items ≡ first_bytes (program_of typed)
     → length (program_of typed).statics ≤ 65535 → BlocksHaveOperands placed made

@@ -77,7 +77,7 @@ BlocksAreInOrder =
 abbrev pub TranslationsFit : Type 0
 TranslationsFit =
     (typed : Typed) (copies : List FnCopy) (core : CoreProgram) (given whole made : List SymBlock) (placed : Placed) (at : List ℕ)
-    → AreBlocks (program_of typed) copies core given given whole placed → map body_of core.bodies.items ≡ bodies_of (program_of typed) copies → IsThinned (handler_at copies) whole made → HasCalls (program_of typed) copies
+    → AreBlocks (program_of typed) copies core given given whole placed → map body_of core.bodies.items ≡ bodies_of (program_of typed) copies → IsThinned (handler_at copies) at whole made → HasCalls (program_of typed) copies
     → IsPlacing (program_of typed) copies (map object_of placed.objects.items) (map frame_of placed.frames.items)
     → map items_of core.statics.items ≡ first_bytes (program_of typed) → IsPaged (program_of typed) copies at → Fit made at
 

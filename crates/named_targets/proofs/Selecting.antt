@@ -114,7 +114,7 @@ module _ (target : Target → Option ℕ) where
   thin_have_from : (f : Facts) (own : BlockName) (fact : Fact) (behind : Bool) (list : List Sym) → HaveTargets target list → HaveTargets target (thin_from f own fact behind list)
   thin_have_from f own fact behind [] h = tt
   thin_have_from f own fact behind (s ∷ list) h =
-      by (is_known own fact s) (thin_have_from f own fact behind list h.1) (thin_have_from f own (fact_after f own fact behind s) (behind_after behind s) list h.1) where
+      by (is_known f own fact s) (thin_have_from f own fact behind list h.1) (thin_have_from f own (fact_after f own fact behind s) (behind_after behind s) list h.1) where
         by : (b : Bool) → HaveTargets target (thin_from f own fact behind list) → HaveTargets target (thin_from f own (fact_after f own fact behind s) (behind_after behind s) list)
             → HaveTargets target (if b then thin_from f own fact behind list else s ∷ thin_from f own (fact_after f own fact behind s) (behind_after behind s) list)
         by true out in_it = out
@@ -140,19 +140,19 @@ no_select label (syms.Plain op) e = absurd (cc)
 no_select label (syms.Call to) e = absurd (cc)
 no_select label (syms.Goto to) e = absurd (cc)
 
-not_known : (own : BlockName) (fact : Fact) (label : Label) (s : Sym) → placing.is_label label (placing.label_of s) ≡ true → is_known own fact s ≡ false
-not_known own None label s e = no_select label s e
-not_known own (Some known) label (syms.Label other) e = refl
-not_known own (Some known) label (syms.SelectBank bit on) e = absurd (cc)
-not_known own (Some known) label (syms.SelectPage bit to) e = absurd (cc)
-not_known own (Some known) label (syms.File op file into) e = absurd (cc)
-not_known own (Some known) label (syms.Movwf file) e = absurd (cc)
-not_known own (Some known) label (syms.Clrf file) e = absurd (cc)
-not_known own (Some known) label (syms.Bit op file bit) e = absurd (cc)
-not_known own (Some known) label (syms.Literal op value) e = absurd (cc)
-not_known own (Some known) label (syms.Plain op) e = absurd (cc)
-not_known own (Some known) label (syms.Call to) e = absurd (cc)
-not_known own (Some known) label (syms.Goto to) e = absurd (cc)
+not_known : (f : Facts) (own : BlockName) (fact : Fact) (label : Label) (s : Sym) → placing.is_label label (placing.label_of s) ≡ true → is_known f own fact s ≡ false
+not_known f own None label s e = no_select label s e
+not_known f own (Some known) label (syms.Label other) e = refl
+not_known f own (Some known) label (syms.SelectBank bit on) e = absurd (cc)
+not_known f own (Some known) label (syms.SelectPage bit to) e = absurd (cc)
+not_known f own (Some known) label (syms.File op file into) e = absurd (cc)
+not_known f own (Some known) label (syms.Movwf file) e = absurd (cc)
+not_known f own (Some known) label (syms.Clrf file) e = absurd (cc)
+not_known f own (Some known) label (syms.Bit op file bit) e = absurd (cc)
+not_known f own (Some known) label (syms.Literal op value) e = absurd (cc)
+not_known f own (Some known) label (syms.Plain op) e = absurd (cc)
+not_known f own (Some known) label (syms.Call to) e = absurd (cc)
+not_known f own (Some known) label (syms.Goto to) e = absurd (cc)
 
 put_keeps : (label : Label) (select plain : Bool) (own : BlockName) (st : State) (s : Sym) (needs : Option Needs) → select ≡ false → has_label label (s ∷ []) ≡ true → has_label label (put_of select plain own st s needs) ≡ true
 put_keeps label true plain own st s needs e h = absurd (cc)
@@ -177,16 +177,16 @@ selected_keeps label placed own st (s ∷ rest) h = by (placing.is_label label (
 thin_keeps_from : (label : Label) (f : Facts) (own : BlockName) (fact : Fact) (behind : Bool) (list : List Sym) → has_label label list ≡ true → has_label label (thin_from f own fact behind list) ≡ true
 thin_keeps_from label f own fact behind [] h = absurd (cc)
 thin_keeps_from label f own fact behind (s ∷ list) h =
-    by (placing.is_label label (placing.label_of s)) (is_known own fact s) refl refl h (thin_keeps_from label f own fact behind list) (thin_keeps_from label f own (fact_after f own fact behind s) (behind_after behind s) list) where
+    by (placing.is_label label (placing.label_of s)) (is_known f own fact s) refl refl h (thin_keeps_from label f own fact behind list) (thin_keeps_from label f own (fact_after f own fact behind s) (behind_after behind s) list) where
       out : List Sym
       out = thin_from f own fact behind list
 
       in_it : List Sym
       in_it = thin_from f own (fact_after f own fact behind s) (behind_after behind s) list
 
-      by : (b k : Bool) → placing.is_label label (placing.label_of s) ≡ b → is_known own fact s ≡ k → (b || has_label label list) ≡ true → (has_label label list ≡ true → has_label label out ≡ true) → (has_label label list ≡ true → has_label label in_it ≡ true)
+      by : (b k : Bool) → placing.is_label label (placing.label_of s) ≡ b → is_known f own fact s ≡ k → (b || has_label label list) ≡ true → (has_label label list ≡ true → has_label label out ≡ true) → (has_label label list ≡ true → has_label label in_it ≡ true)
           → has_label label (if k then out else s ∷ in_it) ≡ true
-      by true true is known all o i = let other = not_known own fact label s is in absurd (cc)
+      by true true is known all o i = let other = not_known f own fact label s is in absurd (cc)
       by true false is known all o i = ap (λ b. b || has_label label in_it) is
       by false true is known all o i = o all
       by false false is known all o i = or_second (placing.is_label label (placing.label_of s)) (has_label label in_it) (i all)

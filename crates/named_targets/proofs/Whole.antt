@@ -115,7 +115,7 @@ zip_left R [] (b ∷ ys) z k y is = absurd z
 zip_left {A} {B} R (a ∷ xs) (b ∷ ys) z zero y is = record { other = a; there = refl; is = subst (λ (c : B). R a c) (same_Some b y is) z.0 }
 zip_left R (a ∷ xs) (b ∷ ys) z (suc k) y is = let r = zip_left R xs ys z.1 k y is in record { other = r.other; there = r.there; is = r.is }
 
-module _ (p : Program) (copies : List FnCopy) (core : CoreProgram) (given lean whole made : List SymBlock) (placed : Placed) (at : List ℕ) (blocks : AreBlocks p copies core given lean whole placed) (thinned : IsThinned (handler_at copies) whole made) (calls : HasCalls p copies) (fit : Fit made at) where
+module _ (p : Program) (copies : List FnCopy) (core : CoreProgram) (given lean whole made : List SymBlock) (placed : Placed) (at : List ℕ) (blocks : AreBlocks p copies core given lean whole placed) (thinned : IsThinned (handler_at copies) at whole made) (calls : HasCalls p copies) (fit : Fit made at) where
   leaner : AllZip IsLeaner given lean
   leaner = blocks_are_leaner (layout_of placed) (handler_at copies) (core_of p copies).variable_bytes given lean blocks.leaner
 

@@ -41,13 +41,13 @@ BlocksHaveOperands placed blocks = (k : ℕ) (block : SymBlock) → slice_get bl
 abbrev pub TargetsAreThere : Type 0
 TargetsAreThere =
     (p : Program) (copies : List FnCopy) (core : CoreProgram) (given lean whole made : List SymBlock) (placed : Placed) (at : List ℕ)
-    → AreBlocks p copies core given lean whole placed → IsThinned (handler_at copies) whole made → HasCalls p copies → Fit made at → BlocksHaveTargets made at
+    → AreBlocks p copies core given lean whole placed → IsThinned (handler_at copies) at whole made → HasCalls p copies → Fit made at → BlocksHaveTargets made at
 
 -- and main's block and the label at which it halts.
 abbrev pub EndsAreThere : Type 0
 EndsAreThere =
     (p : Program) (copies : List FnCopy) (core : CoreProgram) (given lean whole made : List SymBlock) (placed : Placed) (at : List ℕ)
-    → AreBlocks p copies core given lean whole placed → IsThinned (handler_at copies) whole made → HasCalls p copies → Fit made at → HasEnds made at
+    → AreBlocks p copies core given lean whole placed → IsThinned (handler_at copies) at whole made → HasCalls p copies → Fit made at → HasEnds made at
 
 -- Where both targets and bytes have addresses, all that is named has one.
 abbrev pub AllIsThere : Type 0

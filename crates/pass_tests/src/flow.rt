@@ -40,7 +40,7 @@ fn looping(alloc: Global) -> Result<SymBlock, AllocError> {
 fn a_bank_is_selected_once_before_a_loop(rt: HostRuntime) -> Result<(), AllocError> {
     let mut blocks = Vec::new(rt.alloc());
     blocks.push(looping(rt.alloc())?)?;
-    let made = thinned(rt.alloc(), &SymProgram { blocks }, None)?;
+    let made = thinned(rt.alloc(), &SymProgram { blocks }, None, &[0])?;
     let wanted = [
         (0, Sym::SelectBank(BankBit::Rp1, false)),
         (1, Sym::SelectBank(BankBit::Rp0, true)),
@@ -86,11 +86,12 @@ fn called(alloc: Global, bank: bool) -> Result<SymBlock, AllocError> {
     Ok(block)
 }
 
-fn lengths(alloc: Global, bank: bool) -> Result<(usize, usize), AllocError> {
+// Main stands in page 0, and copy 1 at an address.
+fn lengths(alloc: Global, bank: bool, at: u16) -> Result<(usize, usize), AllocError> {
     let mut blocks = Vec::new(alloc);
     blocks.push(calling(alloc)?)?;
     blocks.push(called(alloc, bank)?)?;
-    let made = thinned(alloc, &SymProgram { blocks }, None)?;
+    let made = thinned(alloc, &SymProgram { blocks }, None, &[0, at])?;
     let first = match made.blocks.get(0) {
         Some(block) => block.list.len(),
         None => 0,
@@ -104,8 +105,62 @@ fn lengths(alloc: Global, bank: bool) -> Result<(usize, usize), AllocError> {
 
 #[test]
 fn a_call_comes_back_with_what_it_leaves(rt: HostRuntime) -> Result<(), AllocError> {
-    assert_eq!(rt; lengths(rt.alloc(), false)?, (10, 1));
-    assert_eq!(rt; lengths(rt.alloc(), true)?, (11, 2));
+    assert_eq!(rt; lengths(rt.alloc(), false, 0x1800)?, (10, 1));
+    assert_eq!(rt; lengths(rt.alloc(), true, 0x1800)?, (11, 2));
+    Ok(())
+}
+
+// What is left of a call of copy 1 and the jump to the halt behind it: of four selects of a page those that set another bit.
+#[test]
+fn a_page_is_selected_once(rt: HostRuntime) -> Result<(), AllocError> {
+    assert_eq!(rt; lengths(rt.alloc(), false, 0x07ff)?, (8, 1));
+    assert_eq!(rt; lengths(rt.alloc(), false, 0x0800)?, (9, 1));
+    assert_eq!(rt; lengths(rt.alloc(), false, 0x1000)?, (9, 1));
+    Ok(())
+}
+
+fn put_call(block: &mut SymBlock, copy: u16) -> Result<(), AllocError> {
+    let callee = Target::Block(BlockName::Copy(copy));
+    put_page(block, callee)?;
+    block.put(Sym::Call(callee))
+}
+
+// Main calls copy 1 and copy 2, and copy 1 calls copy 2.
+fn calling_each_other(alloc: Global) -> Result<Vec<SymBlock>, AllocError> {
+    let mut main = SymBlock::new(alloc, BlockName::Copy(0));
+    put_call(&mut main, 1)?;
+    put_call(&mut main, 2)?;
+    let mut first = SymBlock::new(alloc, BlockName::Copy(1));
+    put_call(&mut first, 2)?;
+    first.put(Sym::Plain(PlainOperation::Return))?;
+    let mut blocks = Vec::new(alloc);
+    blocks.push(main)?;
+    blocks.push(first)?;
+    let mut second = SymBlock::new(alloc, BlockName::Copy(2));
+    second.put(Sym::Plain(PlainOperation::Return))?;
+    blocks.push(second)?;
+    Ok(blocks)
+}
+
+fn all_lengths(alloc: Global, at: [u16; 3]) -> Result<[usize; 3], AllocError> {
+    let blocks = calling_each_other(alloc)?;
+    let made = thinned(alloc, &SymProgram { blocks }, None, &at)?;
+    let mut lengths = [0, 0, 0];
+    for (place, block) in made.blocks.iter().enumerate() {
+        if place < 3 {
+            lengths[place] = block.list.len();
+        }
+    }
+    Ok(lengths)
+}
+
+// In one page only the first of three calls has its selects; across pages, each bit that is another one is selected.
+#[test]
+fn calls_in_one_page_select_it_once(rt: HostRuntime) -> Result<(), AllocError> {
+    assert_eq!(rt; all_lengths(rt.alloc(), [0, 0x100, 0x200])?, [4, 2, 1]);
+    assert_eq!(rt; all_lengths(rt.alloc(), [0x800, 0x900, 0xa00])?, [4, 2, 1]);
+    assert_eq!(rt; all_lengths(rt.alloc(), [0, 0x100, 0x800])?, [4, 3, 1]);
+    assert_eq!(rt; all_lengths(rt.alloc(), [0, 0x100, 0x1800])?, [4, 4, 1]);
     Ok(())
 }
 
@@ -118,7 +173,7 @@ fn a_handler_selects_its_bank(rt: HostRuntime) -> Result<(), AllocError> {
     let mut blocks = Vec::new(rt.alloc());
     blocks.push(looping(rt.alloc())?)?;
     blocks.push(handler)?;
-    let made = thinned(rt.alloc(), &SymProgram { blocks }, Some(1))?;
+    let made = thinned(rt.alloc(), &SymProgram { blocks }, Some(1), &[0, 0x100])?;
     let mut lengths = [0, 0];
     for (place, block) in made.blocks.iter().enumerate() {
         if place < 2 {

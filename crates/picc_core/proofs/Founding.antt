@@ -138,7 +138,7 @@ module _ (typed : Typed) (copies : List FnCopy) (placed : Placed) (at : List ℕ
       all_operands = operands_have_addresses typed copies core symbolic.core symbolic.given placed founded.sound founded.roots founded.numbers bodies symbolic.code symbolic.joined founded.calls founded.spread.placing first statics_few
 
       lists_kept : bare_lists made ≡ bare_lists symbolic.lean
-      lists_kept = (thinning_keeps placed (handler_at copies) symbolic.selects.whole made symbolic.selects.thinned symbolic.selects.apart symbolic.selects.reaches).lists ∙ symbolic.selects.bare
+      lists_kept = (thinning_keeps placed (handler_at copies) at symbolic.selects.whole made symbolic.selects.thinned symbolic.selects.apart symbolic.selects.reaches).lists ∙ symbolic.selects.bare
 
       leaner : AllZip IsLeaner symbolic.given symbolic.lean
       leaner = blocks_are_leaner (layout_of placed) (handler_at copies) (core_of (program_of typed) copies).variable_bytes symbolic.given symbolic.lean symbolic.leaner

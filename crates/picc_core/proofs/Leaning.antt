@@ -85,17 +85,17 @@ module _ (typed : Typed) (copies : List FnCopy) (placed : Placed) (at : List ℕ
 
   -- what the pass gives, with its selects
   pub lean_to : (list : List ℕ) (handler : Option ℕ) (given lean made : List SymBlock) → list ≡ map bytes copies → handler ≡ handler_at copies → IsLean (layout_of placed) handler (variables_of list) given lean
-      → HasSelects placed handler lean made → Fit made at → IsLeanTo p copies placed at given made
+      → HasSelects placed handler at lean made → Fit made at → IsLeanTo p copies placed at given made
   lean_to list handler given lean made is same leaner selects fit = record {
     lean = lean;
     leaner = subst (λ (v : ℕ → ℕ). IsLean (layout_of placed) (handler_at copies) v given lean) (variables_are list is) (subst (λ (h : Option ℕ). IsLean (layout_of placed) h (variables_of list) given lean) same leaner);
-    selects = subst (λ (h : Option ℕ). HasSelects placed h lean made) same selects;
+    selects = subst (λ (h : Option ℕ). HasSelects placed h at lean made) same selects;
     fit = fit;
   }
 
   -- the same, of lists that were lent
   pub lean_lent : (lent_copies : List FnCopy) (list lent_list : List ℕ) (handler : Option ℕ) (given lent_given lean made lent_made : List SymBlock) → lent_copies ≡ copies → list ≡ map bytes lent_copies → lent_list ≡ list
-      → lent_given ≡ given → lent_made ≡ made → handler ≡ handler_at copies → IsLean (layout_of placed) handler (variables_of lent_list) lent_given lean → HasSelects placed handler lean made → Fit lent_made at
+      → lent_given ≡ given → lent_made ≡ made → handler ≡ handler_at copies → IsLean (layout_of placed) handler (variables_of lent_list) lent_given lean → HasSelects placed handler at lean made → Fit lent_made at
       → IsLeanTo p copies placed at given made
   lean_lent lent_copies list lent_list handler given lent_given lean made lent_made of_copies is of_list of_given of_made same leaner selects fit =
       lean_to list handler given lean made (is ∙ ap (map bytes) of_copies) same
@@ -134,7 +134,7 @@ module _ (typed : Typed) (copies : List FnCopy) (placed : Placed) (at : List ℕ
   all_as_given (b ∷ blocks) = (record { name = refl; code = refl }, all_as_given blocks)
 
   -- as it was selected
-  pub given_symbolic : (core : CoreProgram) (handler : Option ℕ) (given made : List SymBlock) → IsJoined core copies given → handler ≡ handler_at copies → HasSelects placed handler given made → IsSymbolic p core copies placed at made
+  pub given_symbolic : (core : CoreProgram) (handler : Option ℕ) (given made : List SymBlock) → IsJoined core copies given → handler ≡ handler_at copies → HasSelects placed handler at given made → IsSymbolic p core copies placed at made
   given_symbolic core handler given made joined same selects = record {
     core = core;
     code = AsLowered refl;
@@ -142,6 +142,6 @@ module _ (typed : Typed) (copies : List FnCopy) (placed : Placed) (at : List ℕ
     joined = joined;
     lean = given;
     leaner = Kept (all_as_given given);
-    selects = subst (λ (h : Option ℕ). HasSelects placed h given made) same selects;
+    selects = subst (λ (h : Option ℕ). HasSelects placed h at given made) same selects;
     room = AsGiven refl refl;
   }

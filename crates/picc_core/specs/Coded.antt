@@ -21,8 +21,8 @@ use Rattle.lean_pass.specs.Made.{IsLean}
 use Rattle.program_code.specs.Joined.{IsJoined}
 use Rattle.program_code.specs.Passed.{IsByteCode}
 
--- The blocks have the selects that they need, but for those that flow facts make needless.
-pub record HasSelects (placed : Placed) (handler : Option ℕ) (lean made : List SymBlock) : Type 0 where
+-- The blocks have the selects that they need, but for those that flow facts make needless at their addresses.
+pub record HasSelects (placed : Placed) (handler : Option ℕ) (at : List ℕ) (lean made : List SymBlock) : Type 0 where
   pub whole : List SymBlock
   pub names : names_of whole ≡ names_of lean
   pub bare : bare_lists whole ≡ bare_lists lean
@@ -30,7 +30,7 @@ pub record HasSelects (placed : Placed) (handler : Option ℕ) (lean made : List
   pub reaches : All (Reaches placed) whole
   pub few : AllZip IsWithin lean whole
   pub exact : AllZip (IsExact placed) lean whole
-  pub thinned : IsThinned handler whole made
+  pub thinned : IsThinned handler at whole made
 
 -- The code is as it was selected from byte code as it is lowered, or its blocks were seen to have room at their addresses.
 pub data IsRoomy (lowered core : CoreProgram) (given lean made : List SymBlock) (at : List ℕ) : Type 0 where
@@ -41,7 +41,7 @@ pub data IsRoomy (lowered core : CoreProgram) (given lean made : List SymBlock) 
 pub record IsLeanTo (p : Program) (copies : List FnCopy) (placed : Placed) (at : List ℕ) (given made : List SymBlock) : Type 0 where
   pub lean : List SymBlock
   pub leaner : IsLean (layout_of placed) (handler_at copies) (core_of p copies).variable_bytes given lean
-  pub selects : HasSelects placed (handler_at copies) lean made
+  pub selects : HasSelects placed (handler_at copies) at lean made
   pub fit : Fit made at
 
 -- .. of blocks that are joined from byte code
@@ -59,7 +59,7 @@ pub record IsSymbolic (p : Program) (lowered : CoreProgram) (copies : List FnCop
   pub joined : IsJoined core copies given
   pub lean : List SymBlock
   pub leaner : IsLean (layout_of placed) (handler_at copies) (core_of p copies).variable_bytes given lean
-  pub selects : HasSelects placed (handler_at copies) lean made
+  pub selects : HasSelects placed (handler_at copies) at lean made
   pub room : IsRoomy lowered core given lean made at
 
 -- The image has the words of such blocks at their addresses, and no others; main begins at the first copy's, and ends at the label for that.

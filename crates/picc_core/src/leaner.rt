@@ -42,12 +42,13 @@ fn thinner(
     alloc: Global,
     program: &SymProgram,
     handler: Option<u16>,
+    at: &[u16],
     saving: Saving,
 ) -> Result<SymProgram, AllocError>
-    ensures { IfOk result (λ made. IsThinned handler program.now.blocks.items made.blocks.items) }
+    ensures { IfOk result (λ made. IsThinned handler at.now program.now.blocks.items made.blocks.items) }
 {
     match saving {
-        Saving::Lean => thinned(alloc, program, handler),
+        Saving::Lean => thinned(alloc, program, handler, at),
         Saving::Plain => thinned_plainly(alloc, program, handler),
     }
 }
@@ -58,13 +59,14 @@ fn selected(
     program: &SymProgram,
     placed: &Placed,
     handler: Option<u16>,
+    at: &[u16],
     saving: Saving,
 ) -> Result<SymProgram, AllocError>
     requires { All (CanSelect placed.now) program.now.blocks.items }
-    ensures { IfOk result (λ made. HasSelects placed.now handler program.now.blocks.items made.blocks.items) }
+    ensures { IfOk result (λ made. HasSelects placed.now handler at.now program.now.blocks.items made.blocks.items) }
 {
     let whole = selects(alloc, program, placed)?;
-    let made = thinner(alloc, &whole, handler, saving)?;
+    let made = thinner(alloc, &whole, handler, at, saving)?;
     Ok(made)
 }
 
@@ -98,7 +100,7 @@ fn leaner(
         return Ok(None);
     }
     let program = SymProgram { blocks };
-    let made = selected(alloc, &program, placed, handler, Saving::Lean)?;
+    let made = selected(alloc, &program, placed, handler, at, Saving::Lean)?;
     if fits(&made.blocks, at) {
         Ok(Some(made))
     } else {
@@ -190,6 +192,6 @@ pub(crate) fn symbolic_by(
         }
     }
     let given = joined(alloc, core, copies)?;
-    let made = selected(alloc, &given, placed, handler_of(copies), saving)?;
+    let made = selected(alloc, &given, placed, handler_of(copies), at, saving)?;
     Ok(made)
 }

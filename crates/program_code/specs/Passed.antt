@@ -53,6 +53,6 @@ pub record IsPassed (p : Program) (copies : List FnCopy) (core : CoreProgram) (g
   pub lean : List SymBlock
   pub whole : List SymBlock
   pub blocks : AreBlocks p copies core given lean whole placed
-  pub thinned : IsThinned (handler_at copies) whole made
+  pub thinned : IsThinned (handler_at copies) at whole made
   pub fit : Fit made at
   pub named : BlocksHaveAddresses placed made at
