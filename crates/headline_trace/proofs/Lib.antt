@@ -10,4 +10,5 @@ pub mod Sources
 pub mod Showing
 pub mod Beginning
 pub mod Chains
+pub mod Opened
 pub mod Whole

@@ -14,7 +14,8 @@ use Rattle.pic_map.specs.MapContent.{MapContent}
 use Rattle.pic_map.specs.declared.Placed.{Placed}
 use Rattle.pic_world.specs.World.{Outside, Happening, event_as}
 use Rattle.pic_world.specs.declared.Arrival.{Arrival}
-use Rattle.run_links.specs.Runs.{Run}
+use Rattle.run_links.specs.Runs as runs
+use Rattle.run_links.specs.Runs.{Run, Goes, IsSlow}
 use Rattle.core_code.specs.Bytes.{Held}
 use Rattle.core_code.specs.Machine as core
 use Rattle.core_code.specs.Runs as core_runs
@@ -37,7 +38,6 @@ use Rattle.lower_stmt.specs.Programs.{core_of}
 use Rattle.lower_trace.specs.Lowering.{source_run, held_as}
 use Rattle.lower_trace.proofs.Lowered.{lowers}
 use Rattle.bank_page.specs.Links.{price_in}
-use Rattle.value_trace.proofs.Whole.{selection_law}
 use Rattle.bank_trace.proofs.Chosen.{flows_keep}
 use Rattle.chip_trace.specs.Arriving.{IsStarted, Arrives, one_each}
 use Rattle.chip_trace.proofs.Final.{arriving}
@@ -46,10 +46,11 @@ use Rattle.headline.specs.Headline.{Source, Follows, setting_of}
 use Rattle.headline.specs.SourceOf as sources
 use Rattle.headline.specs.SourceOf.{source_of}
 use Rattle.headline_trace.specs.Carried.{IsLed, IsSeen, IsTold}
-use Rattle.headline_trace.specs.Linked.{IsLinked, MakesHeadline, program_with, bare_setting, full_setting}
+use Rattle.headline_trace.specs.Linked.{IsLinked, MakesHeadline, StaysOpen, program_with, bare_setting, full_setting}
 use Rattle.headline_trace.proofs.Beginning.{begins as begins_alike}
-use Rattle.headline_trace.proofs.Chains.{led_on}
+use Rattle.headline_trace.proofs.Chains.{through, led_on}
 use Rattle.headline_trace.proofs.Ends.{end_state, frames}
+use Rattle.headline_trace.proofs.Opened.{selection_opens}
 use Rattle.headline_trace.proofs.Joining.{prefix, pace, no_underflow, no_overflow, start_up}
 use Rattle.headline_trace.proofs.Showing.{seen}
 
@@ -150,10 +151,6 @@ module _ (p : Program) (copies : List FnCopy) (bodies : List Body) (statics : Li
     unfolding core_runs.least_by
     narrow_free = refl
 
-    plain_free : plain_run.least 0 ≡ 0
-    unfolding cost_by
-    plain_free = refl
-
     bare_free : bare_run.least 0 ≡ 0
     unfolding cost_by
     bare_free = refl
@@ -162,23 +159,26 @@ module _ (p : Program) (copies : List FnCopy) (bodies : List Body) (statics : Li
     led_narrow : IsLed (event_as (held_as p copies)) (above o) (steps_by (sources.setting_of p o)) (nodes_of p) narrow_run
     led_narrow =
         led_on (event_as (held_as p copies)) (λ event. event) (above o) byte_run narrow_run (steps_by (sources.setting_of p o)) (nodes_of p) byte_free led_byte
-        (λ k d. linked.narrowed o k d)
+        (λ n d. linked.narrowed o ((led_byte.followed n d).at n) (led_byte.followed n d).goes)
 
     -- symbolic code, by that of selection, leaner, and with its selects
-    led_plain : IsLed show (above o) (steps_by (sources.setting_of p o)) (nodes_of p) plain_run
-    led_plain =
-        led_on (event_as (held_as p copies)) (event_as (shown l)) (above o) narrow_run plain_run (steps_by (sources.setting_of p o)) (nodes_of p) narrow_free led_narrow
-        (λ k d. selection_law r copies bodies reaches plain linked.price linked.sure linked.selected o (bytes_in o is) e begins m entries begun k d)
+    opens : (k : ℕ) → Goes narrow_run k
+        → (link : runs.Follows (event_as (shown l)) narrow_run plain_run k) × IsSlow (event_as (shown l)) narrow_run plain_run k link × StaysOpen linked.hidden plain o e begins m (link.at k)
+    opens k d =
+        selection_opens r copies bodies reaches plain linked.price linked.sure linked.selected linked.hidden linked.lent linked.clear o (bytes_in o is) e begins m entries begun k d (λ i below. linked.leads o i)
+
+    leaner : (k : ℕ) → Goes narrow_run k → (link : runs.Follows (event_as (shown l)) narrow_run bare_run k) × IsSlow (event_as (shown l)) narrow_run bare_run k link
+    leaner k d = through (event_as (shown l)) (λ event. event) narrow_run plain_run bare_run k (StaysOpen linked.hidden plain o e begins m) (opens k d) (λ j goes open_there. linked.leaner o e begins m j goes open_there)
 
     led_bare : IsLed show (above o) (steps_by (sources.setting_of p o)) (nodes_of p) bare_run
     led_bare =
-        led_on show (λ event. event) (above o) plain_run bare_run (steps_by (sources.setting_of p o)) (nodes_of p) plain_free led_plain
-        (λ k d. linked.leaner o e begins m k d)
+        led_on (event_as (held_as p copies)) (event_as (shown l)) (above o) narrow_run bare_run (steps_by (sources.setting_of p o)) (nodes_of p) narrow_free led_narrow
+        (λ n d. leaner ((led_narrow.followed n d).at n) (led_narrow.followed n d).goes)
 
     led : IsLed show (above o) (steps_by (sources.setting_of p o)) (nodes_of p) full_run
     led =
         led_on show (λ event. event) (above o) bare_run full_run (steps_by (sources.setting_of p o)) (nodes_of p) bare_free led_bare
-        (λ k d. flows_keep lean made handler placed at linked.facts bare full linked.selects o e begins m entries arrived.1 k d)
+        (λ n d. flows_keep lean made handler placed at linked.facts bare full linked.selects o e begins m entries arrived.1 ((led_bare.followed n d).at n) (led_bare.followed n d).goes)
 
   pub headline : Follows source content c
   headline = record {

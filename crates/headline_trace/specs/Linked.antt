@@ -9,7 +9,7 @@ use Rattle.pic_chip.specs.Run.{IsStart}
 use Rattle.pic_chip.specs.declared.Start.{Start}
 use Rattle.pic_map.specs.MapContent.{MapContent, range_of, watch_of}
 use Rattle.pic_map.specs.declared.Placed.{Placed}
-use Rattle.pic_world.specs.World.{Outside}
+use Rattle.pic_world.specs.World.{Outside, is_due}
 use Rattle.pic_world.specs.declared.Arrival.{Arrival}
 use Rattle.run_links.specs.Runs as runs
 use Rattle.run_links.specs.Runs.{Goes, IsSlow}
@@ -21,7 +21,7 @@ use Rattle.core_code.specs.declared.code.Body.{Body}
 use Rattle.core_code.specs.declared.code.FirstByte.{FirstByte}
 use Rattle.sym_code.specs.Effect.{Setting, Memory}
 use Rattle.sym_code.specs.Layout.{DataLayout, frame}
-use Rattle.sym_code.specs.Machine.{Entry, sym_start}
+use Rattle.sym_code.specs.Machine.{Entry, running, settled, sym_run, sym_start}
 use Rattle.sym_code.specs.Programs.{block_in}
 use Rattle.sym_code.specs.Registers.{Registers}
 use Rattle.sym_code.specs.Runs.{run_of, weighed_of}
@@ -38,6 +38,9 @@ use Rattle.select_wide.specs.Blocks.{body_at}
 use Rattle.select_wide.specs.Links.{IsSelected}
 use Rattle.bank_page.specs.Links.{price_in}
 use Rattle.flow_facts.specs.Facts.{Facts}
+use Rattle.lean_code.specs.Clear.{IsClear}
+use Rattle.lean_code.specs.Links.{is_open}
+use Rattle.narrow_code.specs.Links.{reaches_lent}
 use Rattle.flow_facts.specs.Links.{HasFlow}
 use Rattle.chip_trace.specs.Arriving.{IsAssembled}
 use Rattle.start_trace.specs.Starting.{IsBeginning, held_in}
@@ -67,6 +70,10 @@ CodeFollows q r =
     → (link : runs.Follows (λ event. event) (byte_runs.run_of (record { program = q; outside = o })) (byte_runs.run_of (record { program = r; outside = o })) n)
     × IsSlow (λ event. event) (byte_runs.run_of (record { program = q; outside = o })) (byte_runs.run_of (record { program = r; outside = o })) n link
 
+-- At no moment the program accesses a frame by a pointer but those that are lent.
+abbrev pub LeadsTo : (ℕ → Bool) → byte_code.Program → Type 0
+LeadsTo lent q = (o : Outside) (i : ℕ) → reaches_lent lent (byte_code.core_moment (record { program = q; outside = o }) i).code ≡ true
+
 -- ---- symbolic code
 -- symbolic code as it was selected, or leaner, without selects, on the pages of what is made of it; and with them
 abbrev pub bare_setting : List SymBlock → List SymBlock → Option ℕ → Placed → List ℕ → (Bool → ℕ) → Setting
@@ -75,10 +82,16 @@ bare_setting given made handler placed at limit = record { program = program_of 
 abbrev pub full_setting : List SymBlock → Option ℕ → Placed → List ℕ → (Bool → ℕ) → Setting
 full_setting made handler placed at limit = record { program = program_of made handler placed; banked = true; page_of = page_of made at; limit = limit }
 
--- The code of one setting is followed by that of another: at most at these prices, and at least by what surely stays of it.
-abbrev pub LeanFollows : Setting → Setting → (BlockName → ℕ → ℕ) → (BlockName → ℕ → ℕ) → (BlockName → ℕ → ℕ) → Type 0
-LeanFollows g h price sure new =
-    (o : Outside) (e : Entry) (r : Registers) (m : Memory) (n : ℕ) → Goes (weighed_of g price sure e o (sym_start g.program r m)) n
+-- At each of its first n steps that carries out an instruction the code accesses no hidden byte through FSR.
+abbrev pub StaysOpen : (ℕ → Bool) → Setting → Outside → Entry → Registers → Memory → ℕ → Type 0
+StaysOpen hidden g o e r m n =
+    (i : ℕ) → i < n → is_due (settled o (sym_run g e o i (sym_start g.program r m))).world ≡ false → is_open hidden g.program (running (settled o (sym_run g e o i (sym_start g.program r m)))) ≡ true
+
+-- As long as it accesses no hidden byte through FSR, the code of one setting is followed by that of another: at most at these prices, and at
+-- least by what surely stays of it.
+abbrev pub LeanFollows : (ℕ → Bool) → Setting → Setting → (BlockName → ℕ → ℕ) → (BlockName → ℕ → ℕ) → (BlockName → ℕ → ℕ) → Type 0
+LeanFollows hidden g h price sure new =
+    (o : Outside) (e : Entry) (r : Registers) (m : Memory) (n : ℕ) → Goes (weighed_of g price sure e o (sym_start g.program r m)) n → StaysOpen hidden g o e r m n
     → (link : runs.Follows (λ event. event) (weighed_of g price sure e o (sym_start g.program r m)) (run_of h new e o (sym_start h.program r m)) n)
     × IsSlow (λ event. event) (weighed_of g price sure e o (sym_start g.program r m)) (run_of h new e o (sym_start h.program r m)) n link
 
@@ -93,7 +106,12 @@ pub record IsLinked (p : Program) (copies : List FnCopy) (bodies : List Body) (s
   -- of byte code as it is lowered, or that follows it
   pub narrowed : CodeFollows (core_of p copies) (program_with p copies bodies)
   pub selected : IsSelected (program_with p copies bodies) copies bodies reaches (bare_setting given made handler placed at limit) price sure
-  pub leaner : LeanFollows (bare_setting given made handler placed at limit) (bare_setting lean made handler placed at limit) price sure (price_in (block_in made))
+  -- the frames to which pointers may lead, and the bytes that the leaner code takes for hidden from accesses through FSR
+  pub lent : ℕ → Bool
+  pub leads : LeadsTo lent (program_with p copies bodies)
+  pub hidden : ℕ → Bool
+  pub clear : IsClear hidden (layout_of placed) lent
+  pub leaner : LeanFollows hidden (bare_setting given made handler placed at limit) (bare_setting lean made handler placed at limit) price sure (price_in (block_in made))
   -- what is known of the selected bits
   pub facts : Facts
   pub selects : HasFlow lean made handler placed at facts (bare_setting lean made handler placed at limit) (full_setting made handler placed at limit)

@@ -22,10 +22,12 @@ use Rattle.math_helpers.specs.Wanted.{byte_at, Holds, with_flags, right_operand,
 use Rattle.sym_code.specs.Effect.{Setting, root_of}
 use Rattle.sym_code.specs.Layout.{address_of, general_at}
 use Rattle.sym_code.specs.Programs.{Position}
-use Rattle.sym_code.specs.Quiet.{Scene, quiet_run, quiet_cost}
+use Rattle.sym_code.specs.Quiet.{Scene, quiet_cost}
 use Rattle.sym_code.specs.declared.code.BlockName.{BlockName}
 use Rattle.sym_code.specs.declared.code.BlockName.TheVariants.{Copy}
 use Rattle.sym_code.specs.declared.code.Sym as code
+use Rattle.select_wide.specs.Direct.{direct_run}
+use Rattle.select_wide.proofs.Direct.{run_quiet}
 use Rattle.helper_trace.specs.Helpers.{Layout, Value, Left, Right, Remainder, Spare, Answer}
 use Rattle.helper_trace.specs.Ints.{IsValue}
 use Rattle.helper_trace.specs.Links.{Fine}
@@ -355,13 +357,16 @@ module _ (h : Helper) (copy : ℕ) (g : Setting) (price : BlockName → ℕ → 
       let c : quiet_cost g price inside run.count s ≡ gone.cost + price (Copy copy) result.at = ap (quiet_cost g price inside run.count) from ∙ run.cost in
       omega arith
 
-  pub answered : (end : wanted.Answers h copy g price inside next stack left right s) × (end.end.thread.rest ≡ None)
+  went : direct_run g inside run.count s ≡ Some (returned g inside (IsOwnOne inside copy (frame_size h)) quiet price (Copy copy) all s.thread idle next stack (place result.at result.out))
+  went = ap (direct_run g inside run.count) from ∙ run.run
+
+  pub answered : (end : wanted.Answers h copy g price inside next stack left right s) × (end.end.thread.rest ≡ None) × (direct_run g inside end.count s ≡ Some end.end)
   answered = (
     record {
       count = run.count;
       end = returned g inside (IsOwnOne inside copy (frame_size h)) quiet price (Copy copy) all s.thread idle next stack (place result.at result.out);
       answer = number_of (lay 512) result.out Answer;
-      run = ap (quiet_run g inside run.count) from ∙ run.run;
+      run = run_quiet g inside run.count s (returned g inside (IsOwnOne inside copy (frame_size h)) quiet price (Copy copy) all s.thread idle next stack (place result.at result.out)) went;
       at = refl;
       returns = refl;
       fits = kept.fits;
@@ -373,6 +378,7 @@ module _ (h : Helper) (copy : ℕ) (g : Setting) (price : BlockName → ℕ → 
       cost = λ op ty e. where_valued h op ty left right (quiet_cost g price inside run.count s ≤ 2048) (wanted_of op ty h e) cheap;
     },
     idle,
+    went,
   )
 
 -- each routine answers

@@ -4,10 +4,11 @@ use Rattle.core_code.specs.declared.code.Byte.{Byte}
 use Rattle.math_helpers.specs.Shape.{sum_from}
 use Rattle.sym_code.specs.Effect.{Setting, Memory}
 use Rattle.sym_code.specs.Programs.{Position, position, stand, labels_in_front}
-use Rattle.sym_code.specs.Quiet.{Scene, quiet_run}
+use Rattle.sym_code.specs.Quiet.{Scene}
 use Rattle.sym_code.specs.Registers.{Registers, Fits}
 use Rattle.sym_code.specs.declared.code.BlockName.{BlockName}
 use Rattle.sym_code.specs.declared.code.Sym as code
+use Rattle.select_wide.specs.Direct.{direct_run}
 use Rattle.helper_trace.specs.Links.{AreBytes}
 use Rattle.helper_trace.specs.Operators.{StraightRuns}
 use Rattle.helper_trace.specs.Run as run
@@ -43,7 +44,7 @@ pub record Along (g : Setting) (price : BlockName → ℕ → ℕ) (inside : Boo
 pub along : (g : Setting) (price : BlockName → ℕ → ℕ) (inside : Bool) (P : Byte → Type 0) (block : BlockName) (i : ℕ) (list : List code.Sym) (s : Scene) →
     AreQuiet g inside P → AreStraight P list → Begins g block i list s → (run.run (plain_code (number_at g.program.layout) list) (going s.thread.registers s.memory)).mode ≡ Going →
     Along g price inside block i list s (run.run (plain_code (number_at g.program.layout) list) (going s.thread.registers s.memory))
-unfolding quiet_run stand
+unfolding direct_run stand
 along g price inside P block i list s quiet all b goes =
     let u : Machine = run.run (plain_code (number_at g.program.layout) list) (going s.thread.registers s.memory) in
     let c : Comes g price inside block s (i + length list) u (length list) (sum_from (price block) i list) = walk g inside P quiet price block b.behind list i Going s b.there all tt b.rest b.at goes b.lands in
@@ -73,7 +74,7 @@ along g price inside P block i list s quiet all b goes =
     same_at : {x y : Position} → Some x ≡ Some y → x ≡ y
     same_at e = cc
 
-    some : (xs : List code.Sym) (n : ℕ) → AreStraight P xs → drop i (g.program.block block) ≡ xs ++ b.behind → 0 < length xs → (u : Machine) → quiet_run g inside n s ≡ Some (scene s.thread (stand g.program (position block (i + length xs))) u) → 0 < n
+    some : (xs : List code.Sym) (n : ℕ) → AreStraight P xs → drop i (g.program.block block) ≡ xs ++ b.behind → 0 < length xs → (u : Machine) → direct_run g inside n s ≡ Some (scene s.thread (stand g.program (position block (i + length xs))) u) → 0 < n
     some [] n all there lt u e = absurd (omega arith)
     some (x ∷ xs) (suc n) all there lt u e = omega arith
     some (x ∷ xs) zero all there lt u e =

@@ -6,7 +6,7 @@ use Rattle.pic_world.specs.Bits.{bit}
 use Rattle.math_helpers.specs.Shape.{sum_from}
 use Rattle.sym_code.specs.Effect.{Setting, Memory}
 use Rattle.sym_code.specs.Programs.{Program, Position, position, stand, behind, lands, is_word, labels_in_front}
-use Rattle.sym_code.specs.Quiet.{Scene, quiet_step, quiet_run, quiet_cost, price_at}
+use Rattle.sym_code.specs.Quiet.{Scene, quiet_cost, price_at}
 use Rattle.sym_code.specs.Registers.{Registers}
 use Rattle.sym_code.specs.declared.code.BitOperation.TheVariants.{Bcf, Bsf, Btfsc, Btfss}
 use Rattle.sym_code.specs.declared.code.BlockName.{BlockName}
@@ -18,6 +18,7 @@ use Rattle.sym_code.specs.declared.code.PlainOperation.TheVariants as plains
 use Rattle.sym_code.specs.declared.code.Register.TheVariants.{Status}
 use Rattle.sym_code.specs.declared.code.Sym.{Sym}
 use Rattle.sym_code.specs.declared.code.Sym.TheVariants as sym
+use Rattle.select_wide.specs.Direct.{is_indirect, direct_step, direct_run}
 use Rattle.helper_trace.specs.Rows.{skips_with, status_bit}
 use Rattle.helper_trace.specs.Run as run
 use Rattle.helper_trace.specs.Run.{Mode, Going, Skipping, Seeking, Returned, Machine, execute, skipping_if, skipped, step_in}
@@ -79,6 +80,18 @@ word_of P (sym.Goto target) h = refl
 word_of P (sym.SelectBank which to) h = refl
 word_of P (sym.SelectPage which target) h = refl
 
+-- it doesn't go through FSR
+pub direct_of : (P : Byte → Type 0) (x : Sym) → IsStraight P x → is_indirect (Some x) ≡ false
+direct_of P (sym.File op (operands.Byte byte) into) h = refl
+direct_of P (sym.Movwf (operands.Byte byte)) h = refl
+direct_of P (sym.Clrf (operands.Byte byte)) h = refl
+direct_of P (sym.Bit op (operands.Register Status) n) h = refl
+direct_of P (sym.Bit Btfsc (operands.Byte byte) n) h = refl
+direct_of P (sym.Bit Btfss (operands.Byte byte) n) h = refl
+direct_of P (sym.Literal op value) h = refl
+direct_of P (sym.Plain op) h = refl
+direct_of P x h = absurd h
+
 -- a skip goes past it
 pub passed : (P : Byte → Type 0) (at : Byte → ℕ) (x : Sym) → IsStraight P x → skipped (plain at x) ≡ Going
 passed P at (sym.File op (operands.Byte byte) into) h = refl
@@ -106,7 +119,7 @@ in_mode k s = record { mode = k; registers = s.thread.registers; memory = s.memo
 pub record Comes (g : Setting) (price : BlockName → ℕ → ℕ) (inside : Bool) (block : BlockName) (s : Scene) (n : ℕ) (u : Machine) (long most : ℕ) : Type 0 where
   pub count : ℕ
   pub few : count ≤ long
-  pub run : quiet_run g inside count s ≡ Some (scene s.thread (stand g.program (position block n)) u)
+  pub run : direct_run g inside count s ≡ Some (scene s.thread (stand g.program (position block n)) u)
   pub cost : quiet_cost g price inside count s ≤ most
 
 module _ (g : Setting) (inside : Bool) (P : Byte → Type 0) (quiet : AreQuiet g inside P) (price : BlockName → ℕ → ℕ) (block : BlockName) (post : List Sym) where
@@ -153,8 +166,8 @@ module _ (g : Setting) (inside : Bool) (P : Byte → Type 0) (quiet : AreQuiet g
       let v : Machine = execute (plain at x) s.thread.registers s.memory in
       let s1 : Scene = scene s.thread (stands g.program block (i + 1) v.mode) v in
       let here : s.thread.at ≡ Some p = stood ∙ ap (λ (k : Position). Some k) (at_word i x (xs ++ post) e h) in
-      let one : quiet_step g inside s ≡ Some s1 =
-      step_is g inside s p x idle here (head_of code i x (xs ++ post) e).0
+      let one : direct_step g inside s ≡ Some s1 =
+      step_is g inside s p x idle here (head_of code i x (xs ++ post) e).0 (direct_of P x h)
       ∙ does g inside P quiet p s.thread s.memory x h
       ∙ ap (λ (k : Position). goes_if g.program (scene s.thread k v)) (next_is i v.mode (on P at s.thread.registers s.memory x h))
       ∙ ap (λ b. if b then Some s1 else None) end in
@@ -171,7 +184,7 @@ module _ (g : Setting) (inside : Bool) (P : Byte → Type 0) (quiet : AreQuiet g
   pub walk : (xs : List Sym) (i : ℕ) (k : Mode) (s : Scene) → drop i code ≡ xs ++ post → AreStraight P xs → IsOn k → s.thread.rest ≡ None → s.thread.at ≡ Some (stands g.program block i k) →
       (run.run (plain_code at xs) (in_mode k s)).mode ≡ Going → lands g.program (stand g.program (position block (i + length xs))) ≡ true →
       Comes g price inside block s (i + length xs) (run.run (plain_code at xs) (in_mode k s)) (length xs) (sum_from (price block) i xs)
-  unfolding quiet_run quiet_cost
+  unfolding direct_run quiet_cost
   walk [] i Going s e all o idle stood goes end = record {
     count = 0;
     few = omega arith;

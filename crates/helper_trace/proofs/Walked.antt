@@ -1,5 +1,5 @@
 -- A path over bytes by number is a run of the symbolic machine, in a block all of whose instructions name own bytes.
-use Rattle.std.proofs.Common.{◌≡◌, ℕ, zero, suc, ◌+◌, Bool, true, List, [], ◌∷◌, Option, Some, None, refl, ap, sym, ◌∙◌, subst, arith, drop, slice_get, option_map, get_or}
+use Rattle.std.proofs.Common.{◌≡◌, ℕ, zero, suc, ◌+◌, Bool, true, false, List, [], ◌∷◌, Option, Some, None, refl, ap, sym, ◌∙◌, subst, arith, drop, slice_get, option_map, get_or}
 use Rattle.std.specs.Prelude.{not, ◌||◌, nat_eq, if◌then◌else◌}
 use Rattle.std.proofs.lemmas.List.{drop-map}
 use Rattle.std.proofs.lemmas.Option.{slice_get-map, slice_get_within, slice_get-get_or}
@@ -9,7 +9,7 @@ use Rattle.sym_code.specs.Effect.{Setting, Thread, Memory, Effect, effect_of, ju
 use Rattle.sym_code.specs.Effect as effect
 use Rattle.sym_code.specs.Programs as real
 use Rattle.sym_code.specs.Programs.{Program, Position, position, stand, behind, fetched, lands, is_word, labels_in_front}
-use Rattle.sym_code.specs.Quiet.{Scene, quiet_by, quiet_step, quiet_run, quiet_cost, price_at}
+use Rattle.sym_code.specs.Quiet.{Scene, quiet_by, quiet_run, quiet_cost, price_at}
 use Rattle.sym_code.specs.Registers as registers
 use Rattle.sym_code.specs.Registers.{Registers}
 use Rattle.sym_code.specs.declared.code.BlockName.{BlockName}
@@ -18,6 +18,7 @@ use Rattle.sym_code.specs.declared.code.PlainOperation.TheVariants as plains
 use Rattle.sym_code.specs.declared.code.Sym.{Sym}
 use Rattle.sym_code.specs.declared.code.Sym.TheVariants as sym
 use Rattle.sym_code.specs.declared.code.Target.TheVariants as targets
+use Rattle.select_wide.specs.Direct.{is_indirect, direct_step, direct_run}
 use Rattle.helper_trace.specs.Run as run
 use Rattle.helper_trace.specs.Run.{Mode, Going, Skipping, Seeking, Returned, Machine, execute}
 use Rattle.helper_trace.specs.Positions.{Place, Goes, Back, Stuck, past_word, label_from, place, goes_if, leads, acts, step_at, due, Path}
@@ -160,7 +161,7 @@ at_place q block th p = record { thread = record th { at = Some (stand q (positi
 -- from a place to another one, for so much
 pub record Moves (g : Setting) (price : BlockName → ℕ → ℕ) (inside : Bool) (block : BlockName) (th : Thread) (p s : Place) (paid : ℕ) : Type 0 where
   pub count : ℕ
-  pub run : quiet_run g inside count (at_place g.program block th p) ≡ Some (at_place g.program block th s)
+  pub run : direct_run g inside count (at_place g.program block th p) ≡ Some (at_place g.program block th s)
   pub cost : quiet_cost g price inside count (at_place g.program block th p) ≡ paid
 
 goes_same : {p s : Place} → Goes p ≡ Goes s → p ≡ s
@@ -230,17 +231,17 @@ module _ (g : Setting) (inside : Bool) (P : Byte → Type 0) (quiet : AreQuiet g
   at_word i x e f = stand_at g.program block i (ap labels_in_front (heads_at code i x e) ∙ f)
 
   one_step : (p s : Place) (x : Sym) → slice_get code p.at ≡ Some x → labels_in_front (x ∷ drop (p.at + 1) code) ≡ 0 → due (price block) p.at (Some (plain at x)) ≡ price block p.at →
-      quiet_step g inside (here p) ≡ Some (here s) → Moves g price inside block th p s (due (price block) p.at (Some (plain at x)))
-  unfolding quiet_run quiet_cost
+      direct_step g inside (here p) ≡ Some (here s) → Moves g price inside block th p s (due (price block) p.at (Some (plain at x)))
+  unfolding direct_run quiet_run quiet_cost
   one_step p s x e f d h = record {
     count = 1;
     run = h;
     cost = let k : price_at price (here p).thread.at ≡ price block p.at = ap (λ (y : Position). price y.block y.index) (at_word p.at x e f) in omega arith;
   }
 
-  stands_at : (p : Place) (x : Sym) → slice_get code p.at ≡ Some x → labels_in_front (x ∷ drop (p.at + 1) code) ≡ 0 →
-      quiet_step g inside (here p) ≡ quiet_by g.program p.memory (effect_of g inside (position block p.at) (here p).thread p.memory x)
-  stands_at p x e f = step_is g inside (here p) (position block p.at) x idle (ap (λ (k : Position). Some k) (at_word p.at x e f)) e
+  stands_at : (p : Place) (x : Sym) → slice_get code p.at ≡ Some x → labels_in_front (x ∷ drop (p.at + 1) code) ≡ 0 → is_indirect (Some x) ≡ false →
+      direct_step g inside (here p) ≡ quiet_by g.program p.memory (effect_of g inside (position block p.at) (here p).thread p.memory x)
+  stands_at p x e f direct = step_is g inside (here p) (position block p.at) x idle (ap (λ (k : Position). Some k) (at_word p.at x e f)) e direct
 
   straight : (p : Place) (x : Sym) → slice_get code p.at ≡ Some x → IsStraight P x → (n : ℕ) →
       next g.program (position block p.at) (execute (plain at x) p.registers p.memory).mode ≡ stand g.program (position block n) → lands g.program (stand g.program (position block n)) ≡ true →
@@ -249,7 +250,7 @@ module _ (g : Setting) (inside : Bool) (P : Byte → Type 0) (quiet : AreQuiet g
       let u : Machine = execute (plain at x) p.registers p.memory in
       let f = front_of P x (drop (p.at + 1) code) h in
       one_step p (place n u) x e f (due_word (price block) p.at (plain at x) (straights.passed P at x h))
-      (stands_at p x e f
+      (stands_at p x e f (straights.direct_of P x h)
       ∙ does g inside P quiet (position block p.at) (here p).thread p.memory x h
       ∙ ap (λ (k : Position). effects.goes_if g.program (scene (here p).thread k u)) to
       ∙ ap (λ b. if b then Some (here (place n u)) else None) there)
@@ -264,7 +265,7 @@ module _ (g : Setting) (inside : Bool) (P : Byte → Type 0) (quiet : AreQuiet g
 
   -- a step over bytes by number
   move : (p s : Place) → step_at plains_of p ≡ Goes s → lands g.program (stand g.program (position block s.at)) ≡ true → Moves g price inside block th p s (due (price block) p.at (slice_get plains_of p.at))
-  unfolding quiet_run quiet_cost
+  unfolding direct_run quiet_run quiet_cost
   move p s e there = by (slice_get code p.at) refl
     where
       fetch : slice_get plains_of p.at ≡ option_map (plain at) (slice_get code p.at)
@@ -307,7 +308,7 @@ module _ (g : Setting) (inside : Bool) (P : Byte → Type 0) (quiet : AreQuiet g
           let a = if_some (label_from plains_of l 0) (execute (run.Goto l) p.registers p.memory) s e2 in
           subst (λ (y : Sym). Moves g price inside block th p s (due (price block) p.at (Some (plain at y)))) (sym is)
           (moved a.0 (execute (run.Goto l) p.registers p.memory) _ a.2
-          (λ l'. one_step p (place a.0 (execute (run.Goto l) p.registers p.memory)) (sym.Goto (targets.Label (Inner l))) e1 refl refl (stands_at p (sym.Goto (targets.Label (Inner l))) e1 refl ∙ jump_lands p l a.0 a.1 l')))
+          (λ l'. one_step p (place a.0 (execute (run.Goto l) p.registers p.memory)) (sym.Goto (targets.Label (Inner l))) e1 refl refl (stands_at p (sym.Goto (targets.Label (Inner l))) e1 refl refl ∙ jump_lands p l a.0 a.1 l')))
 
       by : (o : Option Sym) → slice_get code p.at ≡ o → Moves g price inside block th p s (due (price block) p.at (slice_get plains_of p.at))
       by None f = let h : Stuck ≡ Goes s = ap (acts plains_of p) (sym (fetch ∙ ap (option_map (plain at)) f)) ∙ e in absurd (cc)
@@ -370,7 +371,7 @@ module _ (g : Setting) (inside : Bool) (P : Byte → Type 0) (quiet : AreQuiet g
 
   -- a path to a return
   pub path_runs : (n c : ℕ) (p q : Place) → Path (price block) plains_of n c p q → step_at plains_of q ≡ Back → Moves g price inside block th p q c
-  unfolding quiet_run quiet_cost
+  unfolding direct_run quiet_run quiet_cost
   path_runs zero c p q h e = record { count = 0; run = ap (λ (y : Place). Some (here y)) h.1; cost = sym h.0 }
   path_runs (suc n) c p q h e =
       let one : Moves g price inside block th p h.0 (due (price block) p.at (slice_get plains_of p.at)) = move p h.0 h.2 (path_lands n h.1 h.0 q h.4 e) in
@@ -388,25 +389,25 @@ module _ (g : Setting) (inside : Bool) (P : Byte → Type 0) (quiet : AreQuiet g
   abbrev pub returned : Position → List Position → Place → Scene
   returned to stack q = record { thread = record th { at = Some to; stack = stack; registers = q.registers }; memory = q.memory }
 
-  returns : (q : Place) (to : Position) (stack : List Position) → step_at plains_of q ≡ Back → th.stack ≡ to ∷ stack → lands g.program to ≡ true → quiet_step g inside (here q) ≡ Some (returned to stack q)
+  returns : (q : Place) (to : Position) (stack : List Position) → step_at plains_of q ≡ Back → th.stack ≡ to ∷ stack → lands g.program to ≡ true → direct_step g inside (here q) ≡ Some (returned to stack q)
   unfolding effect_of
   returns q to stack e waits there =
       let r : slice_get code q.at ≡ Some (sym.Plain plains.Return) = turns q e in
-      stands_at q (sym.Plain plains.Return) r refl
+      stands_at q (sym.Plain plains.Return) r refl refl
       ∙ ap (λ (s : List Position). quiet_by g.program q.memory (back (here q).thread s)) waits
       ∙ ap (λ b. if b then Some (returned to stack q) else None) there
 
   -- all of it
   pub record Through (p q : Place) (c : ℕ) (to : Position) (stack : List Position) : Type 0 where
     pub count : ℕ
-    pub run : quiet_run g inside count (here p) ≡ Some (returned to stack q)
+    pub run : direct_run g inside count (here p) ≡ Some (returned to stack q)
     pub cost : quiet_cost g price inside count (here p) ≡ c + price block q.at
 
   pub through : (n c : ℕ) (p q : Place) (to : Position) (stack : List Position) → Path (price block) plains_of n c p q → step_at plains_of q ≡ Back → th.stack ≡ to ∷ stack → lands g.program to ≡ true → Through p q c to stack
-  unfolding quiet_run quiet_cost
+  unfolding direct_run quiet_run quiet_cost
   through n c p q to stack h e waits there =
       let m : Moves g price inside block th p q c = path_runs n c p q h e in
-      let one : quiet_run g inside 1 (here q) ≡ Some (returned to stack q) = returns q to stack e waits there in
+      let one : direct_run g inside 1 (here q) ≡ Some (returned to stack q) = returns q to stack e waits there in
       let k : price_at price (here q).thread.at ≡ price block q.at = ap (λ (y : Position). price y.block y.index) (at_word q.at (sym.Plain plains.Return) (turns q e) refl) in
       let d : quiet_cost g price inside (m.count + 1) (here p) ≡ quiet_cost g price inside m.count (here p) + quiet_cost g price inside 1 (here q) = costs_then g price inside m.count 1 (here p) (here q) m.run in
       let f : quiet_cost g price inside m.count (here p) ≡ c = m.cost in

@@ -1,5 +1,5 @@
 -- What is kept of the calls of routines.
-use Rattle.std.specs.Prelude.{◌≡◌, ℕ, ◌^◌, ◌<◌, Bool, List, None}
+use Rattle.std.specs.Prelude.{◌≡◌, ℕ, ◌^◌, ◌<◌, Bool, List, Some, None}
 use Rattle.c_typed.specs.declared.calls.Helper.{Helper}
 use Rattle.math_helpers.specs.Layouts.{bytes_of}
 use Rattle.math_helpers.specs.Routines.{width_of, helper_code}
@@ -10,15 +10,16 @@ use Rattle.sym_code.specs.Programs.{Position}
 use Rattle.sym_code.specs.Quiet.{Scene}
 use Rattle.sym_code.specs.declared.code.BlockName.{BlockName}
 use Rattle.sym_code.specs.declared.code.BlockName.TheVariants.{Copy}
+use Rattle.select_wide.specs.Direct.{direct_run}
 
 -- A thread that has nothing left to write of an instruction before calls the routine: it is answered, for all prices that leave
--- room for the routine's selects, and again nothing is left to write.
+-- room for the routine's selects, again nothing is left to write, and no step goes through FSR.
 abbrev pub IsAnswered : Helper → Type 0
 IsAnswered h =
     (copy : ℕ) (g : Setting) (price : BlockName → ℕ → ℕ) (inside : Bool) (next : Position) (stack : List Position) (left right : ℕ) (s : Scene) →
     left < 256 ^ bytes_of (width_of h) → right < 256 ^ right_bytes h → s.thread.rest ≡ None →
     IsCalled h copy g inside next stack left right s → ArePriced (price (Copy copy)) (helper_code h (root_of inside) copy) →
-    (done : Answers h copy g price inside next stack left right s) × (done.end.thread.rest ≡ None)
+    (done : Answers h copy g price inside next stack left right s) × (done.end.thread.rest ≡ None) × (direct_run g inside done.count s ≡ Some done.end)
 
 -- each routine
 abbrev pub HelpersAnswer : Type 0

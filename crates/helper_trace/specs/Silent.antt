@@ -9,7 +9,7 @@ use Rattle.math_helpers.specs.Wanted.{with_flags}
 use Rattle.sym_code.specs.Effect.{Setting, root_of}
 use Rattle.sym_code.specs.Layout.{DataLayout, frame, address_of, general_at, is_whole, owner, Of}
 use Rattle.sym_code.specs.Programs.{position, stand, lands}
-use Rattle.sym_code.specs.Quiet.{Scene, quiet_run, quiet_cost}
+use Rattle.sym_code.specs.Quiet.{Scene, quiet_cost}
 use Rattle.sym_code.specs.Registers.{Fits}
 use Rattle.sym_code.specs.declared.code.BitOperation.TheVariants.{Btfsc, Btfss}
 use Rattle.sym_code.specs.declared.code.BlockName.{BlockName}
@@ -22,6 +22,7 @@ use Rattle.sym_code.specs.declared.code.Register.TheVariants.{Status}
 use Rattle.sym_code.specs.declared.code.Sym.{Sym}
 use Rattle.sym_code.specs.declared.code.Sym.TheVariants as sym
 use Rattle.sym_code.specs.declared.code.Target.TheVariants as targets
+use Rattle.select_wide.specs.Direct.{direct_run}
 use Rattle.helper_trace.specs.Run as run
 
 -- ---- bytes
@@ -110,11 +111,11 @@ pub record Begins (g : Setting) (block : BlockName) (i : ℕ) (code : List Sym) 
   pub registers : Fits s.thread.registers
   pub bytes : (k : ℕ) → s.memory k < 256
 
--- Without an event it comes behind the code, each instruction of which runs once at most.
+-- Without an event and without an access through FSR it comes behind the code, each instruction of which runs once at most.
 pub record Passes (g : Setting) (price : BlockName → ℕ → ℕ) (inside : Bool) (block : BlockName) (i : ℕ) (code : List Sym) (s : Scene) : Type 0 where
   pub count : ℕ
   pub end : Scene
-  pub run : quiet_run g inside count s ≡ Some end
+  pub run : direct_run g inside count s ≡ Some end
   pub at : end.thread.at ≡ Some (stand g.program (position block (i + length code)))
   pub stack : end.thread.stack ≡ s.thread.stack
   pub rest : end.thread.rest ≡ None

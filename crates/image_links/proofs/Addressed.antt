@@ -293,5 +293,5 @@ pub made_have_operands : MadeHaveOperands
 made_have_operands typed copies core given lean whole made placed at blocks thinned has placing statics few =
     let kept = thinning_keeps placed (handler_at copies) at whole made thinned blocks.apart blocks.reaches in
     let all = operands_have_addresses typed copies blocks.lowered core given placed blocks.sound blocks.roots blocks.numbers blocks.bodies blocks.code blocks.joined has placing statics few in
-    let leaner = blocks_are_leaner (layout_of placed) (handler_at copies) (core_of (program_of typed) copies).variable_bytes given lean blocks.leaner in
+    let leaner = blocks_are_leaner (layout_of placed) (handler_at copies) (core_of (program_of typed) copies).variable_bytes blocks.lent given lean blocks.leaner in
     selects_keep_operands placed lean made (kept.lists ∙ blocks.bare) (lean_keeps_operands placed given lean leaner all.0)

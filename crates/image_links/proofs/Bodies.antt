@@ -8,8 +8,8 @@ use Rattle.c_typed.specs.declared.calls.Helper.{Helper}
 use Rattle.c_typed.specs.declared.calls.Helper.TheVariants.{Mul2, Mul4, Divu2, Divs2, Remu2, Rems2, Divu4, Divs4, Remu4, Rems4, Shl2, Shru2, Shrs2, Shl4, Shru4, Shrs4}
 use Rattle.math_helpers.specs.Routines.{helper_code}
 use Rattle.pic_world.specs.declared.Root.{Root}
-use Rattle.select_code.specs.Pieces.{first_label, second_label, label_code, goto_code, jump_code, test_code}
-use Rattle.select_code.specs.Selected.{Given, IfForm, Jumps, Half, Whole, leave_code, goes_to, jump_target, if_form, if_code, turned, loop_code, short_turn, code_of, first_code, parts_code, body_code}
+use Rattle.select_code.specs.Pieces.{first_label, second_label, label_code, goto_code, jump_code, unless_code, test_code}
+use Rattle.select_code.specs.Selected.{Given, IfForm, Jumps, Leaps, Half, Other, Whole, leave_code, goes_to, jump_target, if_form, if_code, turned, loop_code, short_turn, code_of, first_code, parts_code, body_code}
 use Rattle.select_code.specs.Sized.{is_cut}
 use Rattle.select_code.specs.declared.control.Ending.{Ending}
 use Rattle.select_code.specs.declared.control.Ending.TheVariants as endings
@@ -28,6 +28,9 @@ goto_plain label = refl
 jump_plain : (label : Label) → Plain (jump_code label)
 jump_plain label = refl
 
+unless_plain : (label : Label) → Plain (unless_code label)
+unless_plain label = refl
+
 leave_plain : (end : Ending) → Plain (leave_code end)
 leave_plain endings.Halt = refl
 leave_plain endings.Restore = refl
@@ -39,9 +42,13 @@ goes_plain (Some label) = refl
 
 if_plain : (form : IfForm) (at : ℕ) (test : List Sym) (holds fails : ℕ → List Sym) → Plain test → ((n : ℕ) → Plain (holds n)) → ((n : ℕ) → Plain (fails n)) → Plain (if_code form at test holds fails)
 if_plain (Jumps to) at test holds fails t h f = joined test (jump_code to) t (jump_plain to)
+if_plain (Leaps to) at test holds fails t h f = joined test (unless_code to) t (unless_plain to)
 if_plain Half at test holds fails t h f =
     let head = test ++ jump_code (second_label at) in
     joined (head ++ holds (at + length head)) (label_code (second_label at)) (joined head (holds (at + length head)) (joined test (jump_code (second_label at)) t refl) (h (at + length head))) refl
+if_plain Other at test holds fails t h f =
+    let head = test ++ unless_code (second_label at) in
+    joined (head ++ fails (at + length head)) (label_code (second_label at)) (joined head (fails (at + length head)) (joined test (unless_code (second_label at)) t refl) (f (at + length head))) refl
 if_plain Whole at test holds fails t h f =
     let head = test ++ jump_code (first_label at) in
     let middle = head ++ holds (at + length head) ++ goto_code (second_label at) ++ label_code (first_label at) in

@@ -24,6 +24,7 @@ pub mod Priced
 pub mod Chains
 pub mod Depths
 pub mod Narrowed
+pub mod Lent
 pub mod Selecting
 pub mod Named
 pub mod Ended

@@ -15,6 +15,7 @@ use Rattle.image_links.proofs.Assembling.{assembly_had, ranges_are}
 use Rattle.image_links.proofs.Selects.{selects_had}
 use Rattle.image_links.proofs.Beginning.{beginning_had}
 use Rattle.image_links.proofs.Framed.{frames_named}
+use Rattle.image_links.proofs.Lent.{leads_to}
 use Rattle.image_links.proofs.Lowerable.{first_at, lowerable}
 use Rattle.image_links.proofs.Narrowed.{bodies_follow}
 use Rattle.image_links.proofs.Priced.{lean_had}
@@ -41,6 +42,10 @@ translations_linked p copies core given made placed at image map_content t =
           bodies_follow p copies t.passed.blocks.sound t.passed.blocks.numbers t.calls (sound_runs p t.passed.blocks.sound t.passed.blocks.roots t.passed.blocks.numbers) t.passed.blocks.lowered core t.passed.blocks.bodies
           t.passed.blocks.code;
       selected = selection_had p copies core given made placed at t.passed t.calls t.spread lean;
+      lent = t.passed.blocks.lent;
+      leads = leads_to p copies t.passed.blocks.sound t.passed.blocks.numbers t.passed.blocks.lent core.bodies.items t.passed.blocks.lends;
+      hidden = lean.hidden;
+      clear = lean.clear;
       leaner = lean.keeps;
       facts = t.passed.thinned.facts;
       selects = selects_had p copies core given made placed at (limit_of copies) t.passed;

@@ -88,7 +88,7 @@ module _ (lent : ℕ → Bool) where
   IsRight c plan = (front : Marks) × (after : Marks) × Below c front (λ byte. Same) × AllFit lent c [] front plan after
 
   none_right : (c : ℕ) → IsRight c NoPlan
-  none_right c = ((λ byte. Same), (λ byte. Same), (λ copy offset e. tt), (λ copy offset e. tt))
+  none_right c = ((λ byte. Same), (λ byte. Same), (λ copy offset e. refl), (λ copy offset e. refl))
 
   body_right : (g m : Body) (is : IsNarrowedBody lent g m) → IsRight g.copy (all_planned (trees_for g) is.drafts)
   body_right g m is = let fits = checked.test_is_right lent g.copy is.size (trees_for g) is.drafts is.after is.passes in (_, _, fits.0, fits.1)
@@ -173,7 +173,7 @@ module _ (lent : ℕ → Bool) (objects : List (List Held)) where
   at_object None all offset = refl
   at_object (Some list) all offset = at_list list (all list refl) offset
 
-  at_first : All (All (IsFirst objects)) objects → (n offset : ℕ) → leads_lent lent (static_byte (slice_get objects n) offset) ≡ true
+  pub at_first : All (All (IsFirst objects)) objects → (n offset : ℕ) → leads_lent lent (static_byte (slice_get objects n) offset) ≡ true
   at_first all n offset = at_object (slice_get objects n) there offset where
     there : (list : List Held) → slice_get objects n ≡ Some list → All (IsFirst objects) list
     there list is = subst (λ (l : List Held). All (IsFirst objects) l) (get_or_from_slice_get objects n list [] is) (all n [] (slice_get_within objects n list is))

@@ -1,6 +1,7 @@
 -- Byte code with operators on low bytes has what byte code had that was lowered: it sets bytes, its bodies end by leaving, and it names no
 -- other bytes.
 use Rattle.std.proofs.Common.{◌≡◌, ℕ, zero, suc, ◌+◌, ◌≤◌, inl, inr, Bool, true, ◌&&◌, List, [], ◌∷◌, ◌++◌, map, Option, Some, refl, sym, ap, ◌∙◌, subst, arith}
+use Rattle.std.proofs.Math.Bool.{and_comm}
 use Rattle.std.specs.Prelude.{slice_get}
 use Rattle.c_ints.specs.Range.{bytes_of}
 use Rattle.c_ints.specs.declared.operators.BinOp.{BinOp}
@@ -18,7 +19,7 @@ use Rattle.core_code.specs.declared.code.CoreProgram.{CoreProgram}
 use Rattle.headline_trace.specs.Linked.{code_at, program_with}
 use Rattle.lower_stmt.specs.Bodies.{body_of, bodies_of}
 use Rattle.lower_stmt.specs.Programs.{core_of}
-use Rattle.narrow_code.specs.Plans.{Plan, Stays, Narrowed, Several, Choice, Repeat, Plans, NoPlan, AndPlan, given, made}
+use Rattle.narrow_code.specs.Plans.{Whole, Low, Turned, low_op, Plan, Stays, Narrowed, Several, Choice, Repeat, Plans, NoPlan, AndPlan, given, made}
 use Rattle.narrow_code.specs.Plans as plans
 use Rattle.program_code.specs.Passed.{IsByteCode}
 use Rattle.program_code.proofs.Bodies.{is_from, becomes}
@@ -37,7 +38,9 @@ mutual
   given_alike (Stays t) = refl
   given_alike (Narrowed op ty to left right) = refl
   given_alike (Several ts) = all_alike ts
-  given_alike (Choice test size first second) = ap (λ (b : Bool). b && is_given (made second)) (given_alike first) ∙ ap (λ (b : Bool). is_given (given first) && b) (given_alike second)
+  given_alike (Choice test size Whole first second) = ap (λ (b : Bool). b && is_given (made second)) (given_alike first) ∙ ap (λ (b : Bool). is_given (given first) && b) (given_alike second)
+  given_alike (Choice test size Low first second) = ap (λ (b : Bool). b && is_given (made second)) (given_alike first) ∙ ap (λ (b : Bool). is_given (given first) && b) (given_alike second)
+  given_alike (Choice test size Turned first second) = and_comm (is_given (made second)) (is_given (made first)) ∙ ap (λ (b : Bool). b && is_given (made second)) (given_alike first) ∙ ap (λ (b : Bool). is_given (given first) && b) (given_alike second)
   given_alike (Repeat front behind body) = given_alike body
 
   all_alike : (ts : Plans) → all_given (plans.all_made ts) ≡ all_given (plans.all_given ts)
@@ -60,7 +63,7 @@ leave_alike : (t : Plan) → given t ≡ core_tree.Leave → made t ≡ core_tre
 leave_alike (Stays t) e = e
 leave_alike (Narrowed op ty to left right) e = absurd (cc)
 leave_alike (Several ts) e = absurd (cc)
-leave_alike (Choice test size first second) e = absurd (cc)
+leave_alike (Choice test size way first second) e = absurd (cc)
 leave_alike (Repeat front behind body) e = absurd (cc)
 
 none_alike : (ts : Plans) → list_of (plans.all_given ts) ≡ [] → list_of (plans.all_made ts) ≡ []
@@ -95,7 +98,7 @@ one_most UInt = omega arith
 one_most Long = omega arith
 one_most ULong = omega arith
 
-answers_less : (op : BinOp) (w : ℕ) → 1 ≤ w → answer_bytes op 1 ≤ answer_bytes op w
+answers_less : (op : BinOp) (w : ℕ) → 1 ≤ w → answer_bytes (low_op op) 1 ≤ answer_bytes op w
 answers_less ops.Eq w l = omega arith
 answers_less ops.Ne w l = omega arith
 answers_less ops.Lt w l = omega arith
@@ -113,7 +116,7 @@ answers_less ops.And w l = l
 answers_less ops.Xor w l = l
 answers_less ops.Or w l = l
 
-counts_less : (op : BinOp) (w : ℕ) → 1 ≤ w → count_bytes op 1 ≤ count_bytes op w
+counts_less : (op : BinOp) (w : ℕ) → 1 ≤ w → count_bytes (low_op op) 1 ≤ count_bytes op w
 counts_less ops.Shl w l = omega arith
 counts_less ops.Shr w l = omega arith
 counts_less ops.Eq w l = l
@@ -137,12 +140,16 @@ module _ (memory : Memory) where
     lies_alike (Stays t) h = h
     lies_alike (Narrowed op ty to left right) h =
         let one = one_most ty in (
-          lies_less memory (answer_bytes op (bytes_of ty)) (answer_bytes op 1) to (answers_less op (bytes_of ty) one) h.0,
+          lies_less memory (answer_bytes op (bytes_of ty)) (answer_bytes (low_op op) 1) to (answers_less op (bytes_of ty) one) h.0,
           lies_less memory (bytes_of ty) 1 left one h.1,
-          lies_less memory (count_bytes op (bytes_of ty)) (count_bytes op 1) right (counts_less op (bytes_of ty) one) h.2,
+          lies_less memory (count_bytes op (bytes_of ty)) (count_bytes (low_op op) 1) right (counts_less op (bytes_of ty) one) h.2,
         )
     lies_alike (Several ts) h = all_lie_alike ts h
-    lies_alike (Choice test size first second) h = (h.0, lies_alike first h.1, lies_alike second h.2)
+    lies_alike (Choice test size Whole first second) h = (h.0, lies_alike first h.1, lies_alike second h.2)
+    lies_alike (Choice test zero Low first second) h = (h.0, lies_alike first h.1, lies_alike second h.2)
+    lies_alike (Choice test (suc k) Low first second) h = (lies_less memory (suc k) 1 test (omega arith) h.0, lies_alike first h.1, lies_alike second h.2)
+    lies_alike (Choice test zero Turned first second) h = (h.0, lies_alike second h.2, lies_alike first h.1)
+    lies_alike (Choice test (suc k) Turned first second) h = (lies_less memory (suc k) 1 test (omega arith) h.0, lies_alike second h.2, lies_alike first h.1)
     lies_alike (Repeat front behind body) h = lies_alike body h
 
     pub all_lie_alike : (ts : Plans) → TreesLie memory (plans.all_given ts) → TreesLie memory (plans.all_made ts)

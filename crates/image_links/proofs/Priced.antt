@@ -31,8 +31,8 @@ module _ (p : Program) (copies : List FnCopy) (core : CoreProgram) (given made :
   are_selected = record { each = passed.blocks.exact; same = whole_same p copies core given made placed at passed }
 
   -- by the prices with all selects
-  pub followed : AreFollowed (layout_of placed) (handler_at copies) (core_of p copies).variable_bytes given passed.lean (price_in (block_in passed.whole))
-  followed = lean_blocks_follow (layout_of placed) (handler_at copies) (core_of p copies).variable_bytes given passed.lean passed.blocks.leaner (price_in (block_in passed.whole))
+  pub followed : AreFollowed (layout_of placed) (handler_at copies) (core_of p copies).variable_bytes passed.blocks.lent given passed.lean (price_in (block_in passed.whole))
+  followed = lean_blocks_follow (layout_of placed) (handler_at copies) (core_of p copies).variable_bytes passed.blocks.lent given passed.lean passed.blocks.leaner (price_in (block_in passed.whole))
 
 pub lean_had : LeanIsHad
 lean_had p copies core given made placed at passed placing =
@@ -41,11 +41,13 @@ lean_had p copies core given made placed at passed placing =
     record {
       price = f.price;
       sure = f.sure;
-      keeps = λ o e r m n goes.
+      hidden = f.hidden;
+      clear = f.clear;
+      keeps = λ o e r m n goes stays.
           let g = bare_setting given made (handler_at copies) placed at (limit_of copies) in
           let h = bare_setting passed.lean made (handler_at copies) placed at (limit_of copies) in
           led_cheaper h (price_in (block_in made)) (price_in (block_in passed.whole)) (λ name. (kept p copies core given made placed at passed).prices name) e o (sym_start h.program r m)
-          (weighed_of g f.price f.sure e o (sym_start g.program r m)) n (f.keeps (page_of made at) (limit_of copies) o e r m n goes);
+          (weighed_of g f.price f.sure e o (sym_start g.program r m)) n (f.keeps (page_of made at) (limit_of copies) o e r m n goes stays);
       prices = λ c copy is user. f.dear placed passed.whole refl selected (frames_whole p copies placed placing) (Copy c);
       routine_prices = λ c copy h is routine.
           let lt = slice_get_within copies c copy is in

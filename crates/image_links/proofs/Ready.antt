@@ -213,7 +213,7 @@ pub ready : (p : Program) (copies : List FnCopy) (core : CoreProgram) (given lea
 ready p copies core given lean made placed blocks =
     let first = given_ready p copies core given lean made placed blocks in
     of_zip core copies given first lean
-    (subst (λ (l : List SymBlock). AllZip IsLeaner l lean) first.whole (blocks_are_leaner (layout_of placed) (handler_at copies) (core_of p copies).variable_bytes given lean blocks.leaner))
+    (subst (λ (l : List SymBlock). AllZip IsLeaner l lean) first.whole (blocks_are_leaner (layout_of placed) (handler_at copies) (core_of p copies).variable_bytes blocks.lent given lean blocks.leaner))
 
 -- without selects the start block is what sets each object to its first bytes
 pub start_is : (copies : List FnCopy) (core : CoreProgram) (given blocks : List SymBlock) (is : IsReady core copies given blocks) → block_in blocks Start ≡ start_code (handler_at copies) core.statics.items

@@ -28,6 +28,7 @@ use Rattle.sym_code.specs.declared.code.BlockName.TheVariants.{Copy}
 use Rattle.sym_code.specs.declared.code.Sym.{Sym}
 use Rattle.sym_code.specs.declared.code.SymBlock.{SymBlock}
 use Rattle.bank_page.specs.Links.{price_in}
+use Rattle.lean_code.specs.Clear.{IsClear}
 use Rattle.chip_trace.specs.Arriving.{depth_for}
 use Rattle.code_place.specs.Layouts.{layout_of}
 use Rattle.program_code.specs.Passed.{IsPassed}
@@ -74,10 +75,13 @@ limit_of copies inside = highest inside copies
 -- ---- what follows
 -- The leaner code follows the code that was selected, whose instructions cost what the link of selection allows for those of functions
 -- and of helpers' routines, and of which those that no pass leaves out surely stay.
-pub record IsLeanLink (p : Program) (copies : List FnCopy) (given lean made : List SymBlock) (placed : Placed) (at : List ℕ) : Type 0 where
+pub record IsLeanLink (p : Program) (copies : List FnCopy) (lent : ℕ → Bool) (given lean made : List SymBlock) (placed : Placed) (at : List ℕ) : Type 0 where
   pub price : BlockName → ℕ → ℕ
   pub sure : BlockName → ℕ → ℕ
-  pub keeps : LeanFollows (bare_setting given made (handler_at copies) placed at (limit_of copies)) (bare_setting lean made (handler_at copies) placed at (limit_of copies)) price sure (price_in (block_in made))
+  -- the bytes that no access through FSR may reach: none of an object or of a frame that is lent
+  pub hidden : ℕ → Bool
+  pub clear : IsClear hidden (layout_of placed) lent
+  pub keeps : LeanFollows hidden (bare_setting given made (handler_at copies) placed at (limit_of copies)) (bare_setting lean made (handler_at copies) placed at (limit_of copies)) price sure (price_in (block_in made))
   pub prices : (c : ℕ) (copy : FnCopy) → slice_get copies c ≡ Some copy → is_user copy.function ≡ true → AreDear (layout_of placed) (price (Copy c)) (block_in given (Copy c))
   pub routine_prices : (c : ℕ) (copy : FnCopy) (h : Helper) → slice_get copies c ≡ Some copy → copy.function ≡ callees.Helper h → ArePriced (price (Copy c)) (helper_code h copy.root c)
   pub sures : (c : ℕ) (copy : FnCopy) → slice_get copies c ≡ Some copy → is_user copy.function ≡ true → (n : ℕ) (s : Sym) → slice_get (block_in given (Copy c)) n ≡ Some s
@@ -86,7 +90,7 @@ pub record IsLeanLink (p : Program) (copies : List FnCopy) (given lean made : Li
 abbrev pub LeanIsHad : Type 0
 LeanIsHad =
     (p : Program) (copies : List FnCopy) (core : CoreProgram) (given made : List SymBlock) (placed : Placed) (at : List ℕ) (passed : IsPassed p copies core given made placed at)
-    → IsPlacing p copies (map object_of placed.objects.items) (map frame_of placed.frames.items) → IsLeanLink p copies given passed.lean made placed at
+    → IsPlacing p copies (map object_of placed.objects.items) (map frame_of placed.frames.items) → IsLeanLink p copies passed.blocks.lent given passed.lean made placed at
 
 -- Chains of calls between copies go on, and each call of a function or of a helper's routine is one.
 pub record IsReaching (p : Program) (copies : List FnCopy) : Type 0 where
@@ -109,5 +113,5 @@ DepthIsHad = (p : Program) (copies : List FnCopy) → HasCalls p copies → dept
 abbrev pub SelectionIsHad : Type 0
 SelectionIsHad =
     (p : Program) (copies : List FnCopy) (core : CoreProgram) (given made : List SymBlock) (placed : Placed) (at : List ℕ)
-    (passed : IsPassed p copies core given made placed at) → HasCalls p copies → IsSpread p copies placed → (link : IsLeanLink p copies given passed.lean made placed at)
+    (passed : IsPassed p copies core given made placed at) → HasCalls p copies → IsSpread p copies placed → (link : IsLeanLink p copies passed.blocks.lent given passed.lean made placed at)
     → IsSelected (program_with p copies core.bodies.items) copies core.bodies.items (reaches_in p copies) (bare_setting given made (handler_at copies) placed at (limit_of copies)) link.price link.sure

@@ -51,7 +51,7 @@ all_as_given (g ∷ given) [] z = z
 all_as_given (g ∷ given) (b ∷ lean) z = (as_given g b z.0, all_as_given given lean z.1)
 
 -- ---- those of a certificate
-module _ (variables : ℕ → ℕ) (k : Sketch) (admissible : IsAdmissible variables k) where
+module _ (variables : ℕ → ℕ) (lent : ℕ → Bool) (k : Sketch) (admissible : IsAdmissible variables lent k) where
   by_rows : (given block : SymBlock) → IsBlockOf k given block → IsLeaner given block
   by_rows given block is = record {
     name = is.name;
@@ -70,5 +70,5 @@ module _ (variables : ℕ → ℕ) (k : Sketch) (admissible : IsAdmissible varia
   all_by_rows (g ∷ given) (b ∷ lean) z = (by_rows g b z.0, all_by_rows given lean z.1)
 
 pub blocks_are_leaner : BlocksAreLeaner
-blocks_are_leaner l handler variables given lean (Kept as_was) = all_as_given given lean as_was
-blocks_are_leaner l handler variables given lean (Made k layout same made steady admissible rows) = all_by_rows variables k admissible given lean made.blocks
+blocks_are_leaner l handler variables lent given lean (Kept as_was) = all_as_given given lean as_was
+blocks_are_leaner l handler variables lent given lean (Made k layout same made steady admissible rows) = all_by_rows variables lent k admissible given lean made.blocks

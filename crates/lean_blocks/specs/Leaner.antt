@@ -20,4 +20,4 @@ pub record IsLeaner (given block : SymBlock) : Type 0 where
   pub ends : ends_by_word true given.list.items ≡ true → ends_by_word true block.list.items ≡ true
 
 abbrev pub BlocksAreLeaner : Type 0
-BlocksAreLeaner = (l : DataLayout) (handler : Option ℕ) (variables : ℕ → ℕ) (given lean : List SymBlock) → IsLean l handler variables given lean → AllZip IsLeaner given lean
+BlocksAreLeaner = (l : DataLayout) (handler : Option ℕ) (variables : ℕ → ℕ) (lent : ℕ → Bool) (given lean : List SymBlock) → IsLean l handler variables lent given lean → AllZip IsLeaner given lean

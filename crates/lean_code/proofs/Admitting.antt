@@ -90,7 +90,7 @@ start_by variables b (inl none) = subst (λ (c : ListedBlock). keeps_all (rows_i
 start_by variables b (inr h) = admissible_whole variables (same_name b.name names.Start) (rows_in b.rows) h.1 (admissible_rows variables names.Start b h.0)
 
 pub tested_is_admissible : TestedIsAdmissible
-tested_is_admissible variables k e hidden = record {
+tested_is_admissible variables lent k e hidden = record {
   marks = λ name. marks_by variables name (block_in k.blocks name) (named variables k.blocks name e);
   numbers = λ name. bytes_by variables name (block_in k.blocks name) (named variables k.blocks name e);
   start = start_by variables (block_in k.blocks names.Start) (named variables k.blocks names.Start e);

@@ -494,11 +494,11 @@ module _ (x : Lean) where
             (subst (λ (p : Thread). ActsAt c th p) (sym (running_is c tv b n k w is))
             (acts (subst (λ (p : Thread). is_open x.hidden (old_program x) p ≡ true) (running_is c th a n m w is) open_at))))
 
-        by_due : (i : Bool) → is_due w ≡ i → is_open x.hidden (old_program x) (running um) ≡ true → StepsAt i
+        by_due : (i : Bool) → is_due w ≡ i → (is_due w ≡ false → is_open x.hidden (old_program x) (running um) ≡ true) → StepsAt i
         by_due true due open_at = Joint refl (enter_by x.handler sound.handler (sym is ∙ due_outside w due))
-        by_due false due open_at = acts_running open_at
+        by_due false due open_at = acts_running (open_at due)
 
-        pub machines_step : is_open x.hidden (old_program x) (running um) ≡ true → StepsAt (is_due w)
+        pub machines_step : (is_due w ≡ false → is_open x.hidden (old_program x) (running um) ≡ true) → StepsAt (is_due w)
         machines_step open_at = by_due (is_due w) refl open_at
 
   -- ---- of any two machines
@@ -508,7 +508,7 @@ module _ (x : Lean) where
         Stepped v (sym_step_at (old_setting x) e o u) (sym_step_at (new_setting x) e o v) (pace_of u)
         (step_cost_at (old_setting x) (most_prices old) u) (step_cost_at (new_setting x) (most_prices new) v) (step_cost_at (old_setting x) (staying x) u) (step_cost_at (new_setting x) least_prices v)
 
-    pub both_step : (u v : Machine) → Together u v → is_open x.hidden (old_program x) (running u) ≡ true → StepOf u v
+    pub both_step : (u v : Machine) → Together u v → (is_due u.world ≡ false → is_open x.hidden (old_program x) (running u) ≡ true) → StepOf u v
     both_step u v t open_at =
         let c = t.inside in
         let u_is = machine_is c u in
@@ -517,4 +517,4 @@ module _ (x : Lean) where
         subst (λ (i : Machine). StepOf u i) v_is
         (subst (λ (i : Machine). StepOf i (machine c (runs c v) (waits_in c v) u.entries v.memory u.world)) u_is
         (machines_step sound o c (runs c u) (runs c v) (waits_in c u) (waits_in c v) u.entries u.memory v.memory u.world t.is t.rest t.other t.ready old new cheaper e
-        (subst (λ (i : Machine). is_open x.hidden (old_program x) (running i) ≡ true) (sym u_is) open_at)))
+        (subst (λ (i : Machine). is_due i.world ≡ false → is_open x.hidden (old_program x) (running i) ≡ true) (sym u_is) open_at)))

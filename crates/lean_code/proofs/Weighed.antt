@@ -1,26 +1,20 @@
 -- What follows where only what surely stays counts.
-use Rattle.std.proofs.Common.{◌≡◌, ℕ, zero, suc, ◌+◌, ◌<◌, ◌≤◌, Bool, true, false, not, if◌then◌else◌, List, [], ◌∷◌, drop, Option, Some, None, slice_get, refl, sym, ap, subst, arith}
+use Rattle.std.proofs.Common.{◌≡◌, ℕ, zero, suc, ◌+◌, ◌<◌, ◌≤◌, Bool, true, false, if◌then◌else◌, List, [], ◌∷◌, drop, Option, Some, None, slice_get, refl, sym, ap, subst, arith}
 use Rattle.std.proofs.lemmas.Option.{none-some}
 use Rattle.pic_world.specs.World.{Outside, Happening, is_due}
 use Rattle.run_links.specs.Runs.{Run, Goes, Follows, IsSlow}
 use Rattle.sym_code.specs.Cost.{sure_prices, instruction_cost, thread_cost, step_cost_at, cost_by}
 use Rattle.sym_code.specs.Effect.{Setting, Memory, Thread, Rest, Effect, Leaves, effect}
-use Rattle.sym_code.specs.Layout.{general_at}
 use Rattle.sym_code.specs.Machine.{Machine, Entry, running, settled, sym_run, sym_start}
-use Rattle.sym_code.specs.Programs.{Program, Position, fetched}
-use Rattle.sym_code.specs.Registers.{Registers, pointer}
+use Rattle.sym_code.specs.Programs.{Position}
+use Rattle.sym_code.specs.Registers.{Registers}
 use Rattle.sym_code.specs.Runs.{run_of}
-use Rattle.sym_code.specs.Touching.{touches}
 use Rattle.sym_code.specs.declared.code.BlockName.{BlockName}
-use Rattle.sym_code.specs.declared.code.Operand.{Operand}
-use Rattle.sym_code.specs.declared.code.Operand.TheVariants as operands
-use Rattle.sym_code.specs.declared.code.Register.TheVariants.{Indf}
-use Rattle.sym_code.specs.declared.code.Sym.{Sym}
 use Rattle.sym_code.specs.declared.code.Sym.TheVariants as syms
-use Rattle.lean_code.specs.Links.{is_clear, clears, clears_if, clears_at, IsOpen, counts, staying, stays_of, IsCheaper}
+use Rattle.lean_code.specs.Links.{IsOpen, counts, staying, stays_of, IsCheaper}
 use Rattle.lean_code.specs.Right.{IsSound}
 use Rattle.lean_code.specs.Rows.{Note, Row, At, olds, has_note, is_reached, note_ahead, Lean, old_program, new_program, old_setting, new_setting}
-use Rattle.lean_code.specs.Weighed.{IsSure, LeanWeighed, AlwaysOpen}
+use Rattle.lean_code.specs.Weighed.{IsSure, LeanWeighed}
 use Rattle.lean_code.proofs.Lists.{settle}
 use Rattle.lean_code.proofs.Machines.{runs, Together}
 use Rattle.lean_code.proofs.Relation.{some_in, IsAt}
@@ -129,26 +123,3 @@ lean_weighed x sound old new sure cheaper is_sure o e r m n goes open_all =
     let least : ℕ → ℕ = λ i. cost_by (old_setting x) (sure_prices sure) e o i first in
     let there : (j : ℕ) → j < n → Stands x (running (settled o (sym_run (old_setting x) e o j first))).at = λ j l. stands_at_moment x sound old new cheaper o e r m n goes open_all j (omega arith) in
     let h = lean_keeps x sound old new cheaper o e r m n goes open_all in (light_follows a b least n h.0, light_slow a b least n h.0 (few_less x sure is_sure e o first n there) h.1)
-
--- ---- nothing is hidden
-module _ (hidden : ℕ → Bool) (none : (a : ℕ) → hidden a ≡ false) where
-  open_clear : (k : Option ℕ) → is_clear hidden k ≡ true
-  open_clear None = refl
-  open_clear (Some k) = ap not (none k)
-
-  open_operand : (r : Registers) (touched : Option (Operand × Bool)) → clears hidden r touched ≡ true
-  open_operand r None = refl
-  open_operand r (Some (operands.Register Indf, writes)) = open_clear (general_at (pointer r))
-  open_operand r (Some (operand, writes)) = refl
-
-  open_if : (r : Registers) (s : Option Sym) → clears_if hidden r s ≡ true
-  open_if r None = refl
-  open_if r (Some s) = open_operand r (touches s)
-
-  open_at : (q : Program) (r : Registers) (at : Option Position) → clears_at hidden q r at ≡ true
-  open_at q r None = refl
-  open_at q r (Some p) = open_if r (fetched q p)
-
-pub always_open : AlwaysOpen
-always_open x none e o t n i l =
-    let th = running (settled o (sym_run (old_setting x) e o i t)) in open_at x.hidden none (old_program x) th.registers th.at

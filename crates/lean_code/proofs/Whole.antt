@@ -2,7 +2,7 @@
 use Rattle.std.proofs.Common.{◌≡◌, ℕ, zero, suc, ◌+◌, ◌<◌, ◌≤◌, true, false, [], map, map-id, Option, Some, None, refl, sym, ap, ◌∙◌, subst, ⊎_elim, arith}
 use Rattle.std.proofs.lemmas.Bool.{cases_lt}
 use Rattle.std.proofs.lemmas.Option.{none-some}
-use Rattle.pic_world.specs.World.{Outside, World, Happening, arrived, world_at_start}
+use Rattle.pic_world.specs.World.{Outside, World, Happening, arrived, is_due, world_at_start}
 use Rattle.pic_world.proofs.WorldLaws.{arrived_again, arrived_trace, arrived_inside}
 use Rattle.run_links.specs.Runs.{Run, Goes, Follows, IsSlow}
 use Rattle.sym_code.specs.Cost.{Prices, least_prices, most_prices, step_cost_at, step_cost, cost_by}
@@ -181,7 +181,7 @@ module _ (x : Lean) (sound : IsSound x) (old new : BlockName → ℕ → ℕ) (c
         let same : k ≡ k + pace = omega arith in
         subst (Hop i k) same (hop_alone (subst (λ (h : Machine). Together x (settled o h) v) (sym (next_is (old_setting x) e o first i y f)) (settled_again x o y (other k) t)) none)
 
-    hop : a.goes i ≡ true → is_open x.hidden (old_program x) (running u) ≡ true → Hop i k (k + pace_of x u)
+    hop : a.goes i ≡ true → (is_due u.world ≡ false → is_open x.hidden (old_program x) (running u) ≡ true) → Hop i k (k + pace_of x u)
     hop goes open_at = by_step goes (pace_of x u) (both_step x sound o e old new cheaper u v sim open_at)
 
     -- where the given code rests, the other one does
@@ -214,7 +214,7 @@ module _ (x : Lean) (sound : IsSound x) (old new : BlockName → ℕ → ℕ) (c
         let u = settled o (one n) in
         let still : is_still (sym_step_at (old_setting x) e o u) ≡ true = sym (ap is_still (step_is (old_setting x) e o first n (sym_step_at (old_setting x) e o u) refl)) ∙ rests in
         rests_by n (place n) (sim_at n (omega arith)) rests (pace_of x u)
-        (both_step x sound o e old new cheaper u (settled o (other (place n))) (sim_at n (omega arith)) (open_at_rest x.hidden (old_setting x) e o u still))
+        (both_step x sound o e old new cheaper u (settled o (other (place n))) (sim_at n (omega arith)) (λ due. open_at_rest x.hidden (old_setting x) e o u still))
 
     pub follows : Follows (λ event. event) a b n
     follows = record {

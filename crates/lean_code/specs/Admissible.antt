@@ -11,6 +11,7 @@ use Rattle.sym_code.specs.declared.code.LiteralOperation.{LiteralOperation}
 use Rattle.sym_code.specs.declared.code.Sym.{Sym}
 use Rattle.sym_code.specs.declared.code.Sym.TheVariants as syms
 use Rattle.sym_code.specs.declared.code.SymBlock.{SymBlock}
+use Rattle.lean_code.specs.Clear.{IsClear}
 use Rattle.lean_code.specs.Checked as listed
 use Rattle.lean_code.specs.Checked.{ListedBlock, Sketch, rows_in}
 use Rattle.lean_code.specs.Rows.{Act, Keeps, Puts, FlagName, narrowed, cleared, reads_before, tests_flag, Row, At, old_of, is_reached, is_label, is_dropped, olds, puts}
@@ -77,13 +78,14 @@ are_admissible variables (b ∷ bs) = is_admissible_block variables b && are_adm
 abbrev pub rows_at : Sketch → BlockName → List Row
 rows_at k name = rows_in (listed.block_in k.blocks name).rows
 
--- A certificate that passes all these, and by which no byte is hidden from accesses through FSR.
-pub record IsAdmissible (variables : ℕ → ℕ) (k : Sketch) : Type 0 where
+-- A certificate that passes all these, and by which no byte of an object or of a frame that is lent is hidden from accesses through FSR. Given
+-- is, by copy, which frames are lent.
+pub record IsAdmissible (variables : ℕ → ℕ) (lent : ℕ → Bool) (k : Sketch) : Type 0 where
   pub marks : (name : BlockName) → keeps_marks variables (rows_at k name) ≡ true
   pub numbers : (name : BlockName) → puts_bytes (rows_at k name) ≡ true
   pub start : keeps_all (rows_at k names.Start) ≡ true
   pub ends : (name : BlockName) → ends_by_word true (puts (rows_at k name)) ≡ true
-  pub hidden : (a : ℕ) → k.hidden a ≡ false
+  pub hidden : IsClear k.hidden k.layout lent
 
 -- The blocks of two programs are those of a certificate, under every name.
 pub record AreByRows (k : Sketch) (given made : List SymBlock) : Type 0 where
@@ -92,7 +94,7 @@ pub record AreByRows (k : Sketch) (given made : List SymBlock) : Type 0 where
 
 -- ---- laws
 abbrev pub TestedIsAdmissible : Type 0
-TestedIsAdmissible = (variables : ℕ → ℕ) (k : Sketch) → are_admissible variables k.blocks ≡ true → ((a : ℕ) → k.hidden a ≡ false) → IsAdmissible variables k
+TestedIsAdmissible = (variables : ℕ → ℕ) (lent : ℕ → Bool) (k : Sketch) → are_admissible variables k.blocks ≡ true → IsClear k.hidden k.layout lent → IsAdmissible variables lent k
 
 -- what stays as it is
 abbrev pub KeptIsSame : Type 0

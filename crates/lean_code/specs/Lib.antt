@@ -3,6 +3,7 @@ pub mod Computed
 pub mod Changes
 pub mod Right
 pub mod Links
+pub mod Clear
 pub mod Checked
 pub mod Shrinks
 pub mod Sample

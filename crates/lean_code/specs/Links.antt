@@ -1,9 +1,9 @@
 -- What code that was made smaller keeps: it follows the given code.
 use Rattle.std.specs.Prelude.{◌≡◌, ℕ, ◌<◌, ◌≤◌, Bool, true, false, not, if◌then◌else◌, Option, Some, None, slice_get}
-use Rattle.pic_world.specs.World.{Outside, Happening}
+use Rattle.pic_world.specs.World.{Outside, Happening, is_due}
 use Rattle.run_links.specs.Runs.{Run, Goes, Follows, IsSlow}
 use Rattle.sym_code.specs.Cost.{Prices, cost_by}
-use Rattle.sym_code.specs.Effect.{Memory, Thread}
+use Rattle.sym_code.specs.Effect.{Memory, Thread, Rest}
 use Rattle.sym_code.specs.Layout.{general_at}
 use Rattle.sym_code.specs.Machine.{Machine, Entry, running, settled, sym_run, sym_start}
 use Rattle.sym_code.specs.Programs.{Program, Position, fetched}
@@ -40,13 +40,18 @@ abbrev pub clears_at : (ℕ → Bool) → Program → Registers → Option Posit
 clears_at hidden q r None = true
 clears_at hidden q r (Some p) = clears_if hidden r (fetched q p)
 
--- the next instruction accesses no hidden byte through FSR
-abbrev pub is_open : (ℕ → Bool) → Program → Thread → Bool
-is_open hidden q th = clears_at hidden q th.registers th.at
+-- what is left to write of an instruction goes to where the instruction has read
+abbrev pub clears_next : (ℕ → Bool) → Program → Registers → Option Position → Option Rest → Bool
+clears_next hidden q r at None = clears_at hidden q r at
+clears_next hidden q r at (Some rest) = true
 
--- so at each of the first n steps
+-- the next step accesses no hidden byte through FSR, where it carries out an instruction
+abbrev pub is_open : (ℕ → Bool) → Program → Thread → Bool
+is_open hidden q th = clears_next hidden q th.registers th.at th.rest
+
+-- so at each of the first n steps but those that enter the handler
 abbrev pub IsOpen : Lean → Entry → Outside → Machine → ℕ → Type 0
-IsOpen x e o t n = (i : ℕ) → i < n → is_open x.hidden (old_program x) (running (settled o (sym_run (old_setting x) e o i t))) ≡ true
+IsOpen x e o t n = (i : ℕ) → i < n → is_due (settled o (sym_run (old_setting x) e o i t)).world ≡ false → is_open x.hidden (old_program x) (running (settled o (sym_run (old_setting x) e o i t))) ≡ true
 
 -- ---- costs
 -- an instruction that stays counts, and one that is left out doesn't

@@ -1,9 +1,9 @@
 -- What code that was made smaller keeps, where of each instruction is given how much of it surely stays.
-use Rattle.std.specs.Prelude.{◌≡◌, ℕ, ◌≤◌, true, false, Some, slice_get}
+use Rattle.std.specs.Prelude.{◌≡◌, ℕ, ◌≤◌, true, Some, slice_get}
 use Rattle.pic_world.specs.World.{Outside}
 use Rattle.run_links.specs.Runs.{Goes, Follows, IsSlow}
 use Rattle.sym_code.specs.Effect.{Memory}
-use Rattle.sym_code.specs.Machine.{Machine, Entry, sym_start}
+use Rattle.sym_code.specs.Machine.{Entry, sym_start}
 use Rattle.sym_code.specs.Registers.{Registers}
 use Rattle.sym_code.specs.Runs.{run_of, weighed_of}
 use Rattle.sym_code.specs.declared.code.BlockName.{BlockName}
@@ -24,7 +24,3 @@ LeanWeighed =
     → IsOpen x e o (sym_start (old_program x) r m) n
     → (link : Follows (λ event. event) (weighed_of (old_setting x) old sure e o (sym_start (old_program x) r m)) (run_of (new_setting x) new e o (sym_start (new_program x) r m)) n)
     × IsSlow (λ event. event) (weighed_of (old_setting x) old sure e o (sym_start (old_program x) r m)) (run_of (new_setting x) new e o (sym_start (new_program x) r m)) n link
-
--- Where no byte is hidden from accesses through FSR, none accesses a hidden one.
-abbrev pub AlwaysOpen : Type 0
-AlwaysOpen = (x : Lean) → ((a : ℕ) → x.hidden a ≡ false) → (e : Entry) (o : Outside) (t : Machine) (n : ℕ) → IsOpen x e o t n

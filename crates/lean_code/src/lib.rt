@@ -12,7 +12,7 @@ ghost use Rattle.lean_code.specs.Admissible.{TestedIsAdmissible, KeptIsSame, Byt
 ghost use Rattle.lean_code.specs.Links.{CarriedIsCheaper, LeanKeeps};
 ghost use Rattle.lean_code.specs.Sample.{SamplePasses};
 ghost use Rattle.lean_code.specs.Shrinks.{RowsShrink, RowsKeep};
-ghost use Rattle.lean_code.specs.Weighed.{LeanWeighed, AlwaysOpen};
+ghost use Rattle.lean_code.specs.Weighed.{LeanWeighed};
 
 /// Code that is made by a certificate that is right follows the given code, at any prices by which no instruction that stays costs more
 /// than before; so at those that the made code's own prices carry back.
@@ -21,10 +21,9 @@ pub fn lean_keeps()
     ensures carried { CarriedIsCheaper }
 {}
 
-/// So it does where only what surely stays counts; and no access meets a hidden byte where there is none.
+/// So it does where only what surely stays counts.
 pub fn lean_weighed()
-    ensures follows { LeanWeighed }
-    ensures always { AlwaysOpen }
+    ensures { LeanWeighed }
 {}
 
 /// A certificate that passes the tests of what a pass needs besides is admissible, and what stays as it is is the given code.

@@ -1,6 +1,7 @@
 pub mod Entries
 pub mod Along
 pub mod Grounds
+pub mod Hiding
 pub mod Cuts
 mod Copying
 pub mod Whole

@@ -17,12 +17,12 @@ use Rattle.lean_code.specs.Rows as certified
 use Rattle.lean_code.specs.Rows.{olds, puts, is_label}
 use Rattle.lean_code.specs.Checked as listed
 use Rattle.lean_code.specs.Admissible.{are_admissible, AreByRows}
+use Rattle.lean_code.specs.Clear.{IsClear}
 use Rattle.lean_code.specs.Steady.{are_steady}
 use Rattle.lean_code.proofs.Admitting.{tested_is_admissible}
 use Rattle.lean_code.specs.Checked.{rows_in, row_in, ListedBlock}
 use Rattle.lean_pass.specs.Made.{IsSeen, put_of, is_named, are_distinct, Serves, IsAsGiven, IsLean, Kept, Made, HasName}
-use Rattle.lean_pass.specs.Tests.{has_none}
-use Rattle.lean_pass.specs.Views.{act_of, row_of, rows_of, block_of, blocks_of, sketch_of, trues}
+use Rattle.lean_pass.specs.Views.{act_of, row_of, rows_of, block_of, blocks_of, sketch_of, hidden_by}
 use Rattle.lean_pass.specs.declared.rows.Act.{Act}
 use Rattle.lean_pass.specs.declared.rows.Act.TheVariants as acts
 use Rattle.lean_pass.specs.declared.rows.FlagName.TheVariants as flags
@@ -302,22 +302,15 @@ by_rows l k given made seen distinct all = record {
   made_is = λ name. made_named (sketch_of l k) k.blocks.items refl name given made k.blocks.items seen all (found_at k.blocks.items distinct);
 }
 
-none_listed : (l : DataLayout) (k : Sketch) → has_none k.hidden.has.items ≡ true → (a : ℕ) → (sketch_of l k).hidden a ≡ false
-none_listed l k none a = by k.hidden.has.items none
-  where
-    by : (has : List Bool) → has_none has ≡ true → listed.among a (trues 0 has) ≡ false
-    by [] e = refl
-    by (b ∷ bs) e = never e
-
-pub is_made : (l : DataLayout) (k : Sketch) (variables : ℕ → ℕ) (given made : List SymBlock) → listed.is_lean (sketch_of l k) ≡ true → are_steady (blocks_of k.blocks.items) ≡ true → are_admissible variables (blocks_of k.blocks.items) ≡ true → has_none k.hidden.has.items ≡ true
-    → AllZip IsSeen given k.blocks.items → are_distinct k.blocks.items ≡ true → AllZip (listed.IsBlockOf (sketch_of l k)) given made → IsLean l k.handler variables given made
-is_made l k variables given made tested steady admissible none seen distinct all =
-    Made (sketch_of l k) refl refl (record { tested = tested; blocks = all }) steady (tested_is_admissible variables (sketch_of l k) admissible (none_listed l k none)) (by_rows l k given made seen distinct all)
+pub is_made : (l : DataLayout) (k : Sketch) (variables : ℕ → ℕ) (lent : ℕ → Bool) (given made : List SymBlock) → listed.is_lean (sketch_of l k) ≡ true → are_steady (blocks_of k.blocks.items) ≡ true → are_admissible variables (blocks_of k.blocks.items) ≡ true → IsClear (hidden_by k.hidden) l lent
+    → AllZip IsSeen given k.blocks.items → are_distinct k.blocks.items ≡ true → AllZip (listed.IsBlockOf (sketch_of l k)) given made → IsLean l k.handler variables lent given made
+is_made l k variables lent given made tested steady admissible clear seen distinct all =
+    Made (sketch_of l k) refl refl (record { tested = tested; blocks = all }) steady (tested_is_admissible variables lent (sketch_of l k) admissible clear) (by_rows l k given made seen distinct all)
 
 -- ---- names
 
-pub kept_is : (l : DataLayout) (handler : Option ℕ) (variables : ℕ → ℕ) (given made : List SymBlock) → AllZip IsAsGiven given made → IsLean l handler variables given made
-kept_is l handler variables given made all = Kept all
+pub kept_is : (l : DataLayout) (handler : Option ℕ) (variables : ℕ → ℕ) (lent : ℕ → Bool) (given made : List SymBlock) → AllZip IsAsGiven given made → IsLean l handler variables lent given made
+kept_is l handler variables lent given made all = Kept all
 
 kept_names : (given made : List SymBlock) → AllZip IsAsGiven given made → AllZip HasName given made
 kept_names [] [] all = tt
@@ -331,6 +324,6 @@ made_names k [] (m ∷ made) all = absurd all
 made_names k (g ∷ given) [] all = absurd all
 made_names k (g ∷ given) (m ∷ made) all = (record { name = all.0.name }, made_names k given made all.1)
 
-pub names_stay : (l : DataLayout) (handler : Option ℕ) (variables : ℕ → ℕ) (given made : List SymBlock) → IsLean l handler variables given made → AllZip HasName given made
-names_stay l handler variables given made (Kept all) = kept_names given made all
-names_stay l handler variables given made (Made k same handled by steady admissible rows) = made_names k given made by.blocks
+pub names_stay : (l : DataLayout) (handler : Option ℕ) (variables : ℕ → ℕ) (lent : ℕ → Bool) (given made : List SymBlock) → IsLean l handler variables lent given made → AllZip HasName given made
+names_stay l handler variables lent given made (Kept all) = kept_names given made all
+names_stay l handler variables lent given made (Made k same handled by steady admissible rows) = made_names k given made by.blocks

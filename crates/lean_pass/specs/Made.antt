@@ -43,10 +43,11 @@ pub record IsAsGiven (given made : SymBlock) : Type 0 where
   pub name : made.name ≡ given.name
   pub code : made.list.items ≡ given.list.items
 
--- The given blocks, or those that a certificate makes that passes the tests. Given is how many bytes the variables of each copy have.
-pub data IsLean (l : DataLayout) (handler : Option ℕ) (variables : ℕ → ℕ) (given made : List SymBlock) : Type 0 where
-  Kept : AllZip IsAsGiven given made → IsLean l handler variables given made
-  Made : (k : listed.Sketch) → k.layout ≡ l → k.handler ≡ handler → listed.IsLeanOf k given made → are_steady k.blocks ≡ true → IsAdmissible variables k → AreByRows k given made → IsLean l handler variables given made
+-- The given blocks, or those that a certificate makes that passes the tests. Given is of each copy how many bytes its variables have, and whether
+-- its frame is lent.
+pub data IsLean (l : DataLayout) (handler : Option ℕ) (variables : ℕ → ℕ) (lent : ℕ → Bool) (given made : List SymBlock) : Type 0 where
+  Kept : AllZip IsAsGiven given made → IsLean l handler variables lent given made
+  Made : (k : listed.Sketch) → k.layout ≡ l → k.handler ≡ handler → listed.IsLeanOf k given made → are_steady k.blocks ≡ true → IsAdmissible variables lent k → AreByRows k given made → IsLean l handler variables lent given made
 
 pub record HasName (given made : SymBlock) : Type 0 where
   pub name : made.name ≡ given.name

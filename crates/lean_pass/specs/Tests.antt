@@ -25,7 +25,3 @@ main_lands k = lands (old_program (lean_of k (λ i. 0) (λ i. 0) (λ i. 0))) (fr
 -- ---- what is made up to a row ends by a word
 abbrev pub ends_behind : Bool → ListedRow → Bool
 ends_behind last row = if is_dropped (row_in row) then last else not (is_label (old_of (row_in row)))
-
-abbrev pub has_none : List Bool → Bool
-has_none [] = true
-has_none (b ∷ bs) = false

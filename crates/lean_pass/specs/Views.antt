@@ -1,5 +1,5 @@
 -- A certificate as the code keeps it, seen as the lists of its definition.
-use Rattle.std.specs.Prelude.{ℕ, ◌+◌, Bool, true, false, List, [], ◌∷◌, slice_index_or, Option, Some, None, option_map}
+use Rattle.std.specs.Prelude.{ℕ, ◌+◌, Bool, true, false, List, [], ◌∷◌, slice_index_or, get_or, Option, Some, None, option_map}
 use Rattle.sym_code.specs.Layout.{DataLayout}
 use Rattle.lean_code.specs.Rows as certified
 use Rattle.lean_code.specs.Changes as changes
@@ -90,9 +90,16 @@ abbrev pub blocks_of : List LeanBlock → List listed.ListedBlock
 blocks_of [] = []
 blocks_of (b ∷ bs) = block_of b ∷ blocks_of bs
 
+abbrev pub hidden_by : ByteSet → ℕ → Bool
+hidden_by hidden a = listed.among a (set_of hidden)
+
 abbrev pub sketch_of : DataLayout → Sketch → listed.Sketch
 sketch_of l k = record { blocks = blocks_of k.blocks.items; handler = k.handler; layout = l; rest = set_of k.rest; hidden = λ a. listed.among a (set_of k.hidden) }
 
 -- how many bytes the variables of each copy have, by their list; none of a copy that isn't there
 abbrev pub variables_of : List ℕ → ℕ → ℕ
 variables_of list copy = slice_index_or list copy 0
+
+-- of each copy by its number, whether its frame is lent
+abbrev pub lent_by : List Bool → ℕ → Bool
+lent_by lent copy = get_or lent copy false

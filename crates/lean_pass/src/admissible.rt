@@ -10,7 +10,7 @@ ghost use Rattle.lean_pass.specs.Tests as tests;
 ghost use Rattle.lean_pass.specs.Views.{act_of, row_of, rows_of, block_of, blocks_of, variables_of};
 
 use crate::marks::is_marked;
-use crate::rows::{Act, ByteSet, LeanBlock, Row};
+use crate::rows::{Act, LeanBlock, Row};
 use crate::walk::{first_row, is_dropped, is_label, same_name};
 use sym_code::BlockName;
 
@@ -125,15 +125,5 @@ pub fn are_admissible(variables: &[u64], blocks: &[LeanBlock]) -> bool
                 false
             }
         }
-    }
-}
-
-/// Whether a set lists no byte.
-pub fn has_none(set: &ByteSet) -> bool
-    ensures { result ≡ tests.has_none set.now.has.items }
-{
-    match &*set.has {
-        [] => true,
-        [_, ..] => false,
     }
 }

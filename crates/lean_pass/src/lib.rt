@@ -14,6 +14,7 @@ mod clearing;
 mod computing;
 mod copies;
 mod dropping;
+mod hidden;
 mod keeping;
 mod making;
 mod marks;

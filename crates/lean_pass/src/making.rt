@@ -6,11 +6,11 @@ ghost use Rattle.sym_code.specs.WellFormed.{is_well_formed, are_well_formed};
 ghost use Rattle.lean_code.specs.Rows as certified;
 ghost use Rattle.lean_code.specs.Checked as listed;
 ghost use Rattle.lean_code.specs.Admissible.{are_admissible};
+ghost use Rattle.lean_code.specs.Clear.{IsClear};
 ghost use Rattle.lean_code.specs.Steady.{are_steady};
 ghost use Rattle.code_place.specs.Layouts.{layout_of};
 ghost use Rattle.lean_pass.specs.Made as stated;
-ghost use Rattle.lean_pass.specs.Tests.{has_none};
-ghost use Rattle.lean_pass.specs.Views.{act_of, name_of, row_of, rows_of, block_of, blocks_of, sketch_of, variables_of};
+ghost use Rattle.lean_pass.specs.Views.{act_of, name_of, row_of, rows_of, block_of, blocks_of, sketch_of, hidden_by, lent_by, variables_of};
 
 use crate::copies::operand_before;
 use crate::owners::no_block;
@@ -296,6 +296,7 @@ pub fn made_by(
     sketch: &Sketch,
     placed: &Placed,
     variables: &[u64],
+    lent: &[bool],
     given: &[SymBlock],
 ) -> Result<Vec<SymBlock>, AllocError>
     requires seen { AllZip stated.IsSeen given.now sketch.now.blocks.items }
@@ -303,8 +304,8 @@ pub fn made_by(
     requires tested { listed.is_lean (sketch_of (layout_of placed.now) sketch.now) ≡ true }
     requires steady { are_steady (blocks_of sketch.now.blocks.items) ≡ true }
     requires admissible { are_admissible (variables_of variables.now) (blocks_of sketch.now.blocks.items) ≡ true }
-    requires open_bytes { has_none sketch.now.hidden.has.items ≡ true }
-    ensures { IfOk result (λ made. stated.IsLean (layout_of placed.now) sketch.now.handler (variables_of variables.now) given.now made.items) }
+    requires clear { IsClear (hidden_by sketch.now.hidden) (layout_of placed.now) (lent_by lent.now) }
+    ensures { IfOk result (λ made. stated.IsLean (layout_of placed.now) sketch.now.handler (variables_of variables.now) (lent_by lent.now) given.now made.items) }
 {
     let none = no_block(alloc);
     let made = made_blocks(alloc, sketch, &none, placed, given)?;

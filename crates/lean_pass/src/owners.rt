@@ -243,8 +243,9 @@ fn first_general(bank: u32) -> u32
     if bank < 2 { 0x20 } else { 0x10 }
 }
 
+/// The number of the general byte at an address.
 #[tactic(auto, using(crate::proofs::Grounds::general_is))]
-fn general_at(address: u32) -> Option<usize>
+pub fn general_at(address: u32) -> Option<usize>
     ensures { result ≡ layouts.general_at address }
 {
     let bank = address / 128;

@@ -4,8 +4,8 @@ use Rattle.std.specs.Prelude.{cond, option_map, slice_get}
 use Rattle.core_code.specs.Tree as code
 use Rattle.core_code.specs.Tree.{Tree, Trees, list_of, trees_of}
 use Rattle.core_code.specs.declared.code.Byte.{Byte}
-use Rattle.select_code.specs.Pieces.{first_label, second_label, label_code, goto_code, jump_code, test_code, set_code, bit_write_code}
-use Rattle.select_code.specs.Selected.{Given, IfForm, Jumps, Half, Whole, leave_code, goes_to, jump_target, short_jump, is_nothing, form_by, if_form, if_code, turned, loop_code, short_turn, code_of, first_code, parts_code, body_code}
+use Rattle.select_code.specs.Pieces.{first_label, second_label, label_code, goto_code, jump_code, unless_code, test_code, set_code, bit_write_code}
+use Rattle.select_code.specs.Selected.{Given, IfForm, Jumps, Leaps, Half, Other, Whole, leave_code, goes_to, jump_target, short_jump, is_nothing, form_by, if_form, if_code, turned, loop_code, short_turn, code_of, first_code, parts_code, body_code}
 use Rattle.select_code.specs.Sized.{is_cut}
 use Rattle.select_code.specs.declared.control.Ending.{Ending}
 use Rattle.sym_code.specs.declared.code.BlockName.TheVariants as names
@@ -73,27 +73,37 @@ module _ (target : Target → Option ℕ) where
   -- ---- conditions
   abbrev FormFound : IfForm → Type 0
   FormFound (Jumps to) = Found to
+  FormFound (Leaps to) = Found to
   FormFound Half = Unit {0}
+  FormFound Other = Unit {0}
   FormFound Whole = Unit {0}
 
-  form_found : (o : Option Label) (nothing : Bool) → AnyFound o → FormFound (form_by o nothing)
-  form_found (Some to) nothing h = h
-  form_found None true h = tt
-  form_found None false h = tt
+  form_found : (o p : Option Label) (nothing bare : Bool) → AnyFound o → AnyFound p → FormFound (form_by o p nothing bare)
+  form_found (Some to) p nothing bare h k = h
+  form_found None (Some to) nothing bare h k = k
+  form_found None None true bare h k = tt
+  form_found None None false true h k = tt
+  form_found None None false false h k = tt
 
   short_found : (b : Bool) (o : Option Label) → AnyFound o → AnyFound (cond b o None)
   short_found true o h = h
   short_found false o h = tt
 
   if_found : (loops : List ℕ) (holds fails : Tree) → LoopsFound loops → FormFound (if_form loops holds fails)
-  if_found loops holds fails h = form_found (short_jump loops holds fails) (is_nothing fails) (short_found (is_nothing holds) (jump_target loops fails) (jump_found loops fails h))
+  if_found loops holds fails h =
+      form_found (short_jump loops holds fails) (short_jump loops fails holds) (is_nothing fails) (is_nothing holds)
+      (short_found (is_nothing holds) (jump_target loops fails) (jump_found loops fails h)) (short_found (is_nothing fails) (jump_target loops holds) (jump_found loops holds h))
 
   jump_have : (label : Label) → Found label → Have (jump_code label)
   jump_have label h = (tt, (h, tt))
 
+  unless_have : (label : Label) → Found label → Have (unless_code label)
+  unless_have label h = (tt, (h, tt))
+
   if_have : (form : IfForm) (at : ℕ) (test : List Sym) (holds fails : ℕ → List Sym) → FormFound form → Have test → ((n : ℕ) → Stand (holds n) → Have (holds n)) → ((n : ℕ) → Stand (fails n) → Have (fails n))
       → Stand (if_code form at test holds fails) → Have (if_code form at test holds fails)
   if_have (Jumps to) at test holds fails f t h e s = both_targets target test (jump_code to) t (jump_have to f)
+  if_have (Leaps to) at test holds fails f t h e s = both_targets target test (unless_code to) t (unless_have to f)
   if_have Half at test holds fails f t h e s =
       let head = test ++ jump_code (second_label at) in
       let body = holds (at + length head) in
@@ -101,6 +111,14 @@ module _ (target : Target → Option ℕ) where
       let front = left_found target (head ++ body) (label_code (second_label at)) s in
       both_targets target (head ++ body) (label_code (second_label at))
       (both_targets target head body (both_targets target test (jump_code (second_label at)) t (jump_have (second_label at) last)) (h (at + length head) (right_found target head body front)))
+      (tt, tt)
+  if_have Other at test holds fails f t h e s =
+      let head = test ++ unless_code (second_label at) in
+      let body = fails (at + length head) in
+      let last : Found (second_label at) = (right_found target (head ++ body) (label_code (second_label at)) s).0 in
+      let front = left_found target (head ++ body) (label_code (second_label at)) s in
+      both_targets target (head ++ body) (label_code (second_label at))
+      (both_targets target head body (both_targets target test (unless_code (second_label at)) t (unless_have (second_label at) last)) (e (at + length head) (right_found target head body front)))
       (tt, tt)
   if_have Whole at test holds fails f t h e s =
       let head = test ++ jump_code (first_label at) in

@@ -1,10 +1,11 @@
 -- Byte code with operators on low bytes calls the copies that it called before.
 use Rattle.std.proofs.Common.{◌≡◌, ℕ, Bool, true, ◌&&◌, Some, refl, ap, ◌∙◌}
+use Rattle.std.proofs.Math.Bool.{and_comm}
 use Rattle.core_code.specs.Tree.{trees_of}
 use Rattle.core_code.specs.View.{trees_in}
 use Rattle.core_code.specs.declared.code.Body.{Body}
 use Rattle.core_code.specs.declared.code.CoreProgram.{CoreProgram}
-use Rattle.narrow_code.specs.Plans.{Plan, Stays, Narrowed, Several, Choice, Repeat, Plans, NoPlan, AndPlan, given, made, all_given, all_made}
+use Rattle.narrow_code.specs.Plans.{Whole, Low, Turned, Plan, Stays, Narrowed, Several, Choice, Repeat, Plans, NoPlan, AndPlan, given, made, all_given, all_made}
 use Rattle.program_code.specs.Passed.{IsByteCode}
 use Rattle.program_code.proofs.Bodies.{is_from}
 use Rattle.select_wide.specs.Blocks.{body_at}
@@ -16,8 +17,9 @@ module _ (limit : ℕ) where
     calls_alike (Stays t) = refl
     calls_alike (Narrowed op ty to left right) = refl
     calls_alike (Several ts) = all_alike ts
-    calls_alike (Choice test size first second) =
-        ap (λ (b : Bool). b && calls_below limit (made second)) (calls_alike first) ∙ ap (λ (b : Bool). calls_below limit (given first) && b) (calls_alike second)
+    calls_alike (Choice test size Whole first second) = ap (λ (b : Bool). b && calls_below limit (made second)) (calls_alike first) ∙ ap (λ (b : Bool). calls_below limit (given first) && b) (calls_alike second)
+    calls_alike (Choice test size Low first second) = ap (λ (b : Bool). b && calls_below limit (made second)) (calls_alike first) ∙ ap (λ (b : Bool). calls_below limit (given first) && b) (calls_alike second)
+    calls_alike (Choice test size Turned first second) = and_comm (calls_below limit (made second)) (calls_below limit (made first)) ∙ ap (λ (b : Bool). b && calls_below limit (made second)) (calls_alike first) ∙ ap (λ (b : Bool). calls_below limit (given first) && b) (calls_alike second)
     calls_alike (Repeat front behind body) = calls_alike body
 
     all_alike : (ts : Plans) → all_below limit (all_made ts) ≡ all_below limit (all_given ts)

@@ -117,7 +117,7 @@ zip_left R (a ∷ xs) (b ∷ ys) z (suc k) y is = let r = zip_left R xs ys z.1 k
 
 module _ (p : Program) (copies : List FnCopy) (core : CoreProgram) (given lean whole made : List SymBlock) (placed : Placed) (at : List ℕ) (blocks : AreBlocks p copies core given lean whole placed) (thinned : IsThinned (handler_at copies) at whole made) (calls : HasCalls p copies) (fit : Fit made at) where
   leaner : AllZip IsLeaner given lean
-  leaner = blocks_are_leaner (layout_of placed) (handler_at copies) (core_of p copies).variable_bytes given lean blocks.leaner
+  leaner = blocks_are_leaner (layout_of placed) (handler_at copies) (core_of p copies).variable_bytes blocks.lent given lean blocks.leaner
 
   -- ---- what becomes of a given block
   record Becomes (k : ℕ) (given_block : SymBlock) : Type 0 where

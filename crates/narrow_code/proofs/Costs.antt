@@ -1,6 +1,5 @@
 -- What a step of each program costs.
-use Rattle.std.proofs.Common.{◌≡◌, ℕ, ◌+◌, ◌≤◌, Bool, true, false, ◌&&◌, ◌||◌, nat_lt, if◌then◌else◌, List, [], ◌∷◌, Option, refl, sym, ap, arith}
-use Rattle.std.proofs.lemmas.Bool.{and_parts, ltb-true}
+use Rattle.std.proofs.Common.{◌≡◌, ℕ, zero, suc, ◌+◌, ◌≤◌, Bool, true, false, ◌&&◌, ◌||◌, if◌then◌else◌, List, [], ◌∷◌, Option, refl, sym, ap, arith}
 use Rattle.c_ints.specs.Operators.{compares}
 use Rattle.c_ints.specs.Range.{bytes_of}
 use Rattle.c_ints.specs.declared.operators.BinOp.{BinOp}
@@ -113,8 +112,10 @@ module _ (x : Narrowing) where
       let less = narrow_less op (number_left before b) (number_left with b) (bytes_of ty) (are_low_alone x.lent p here ty a b) fits.able (width_positive ty) in omega (arith, less)
   plan_most p loops here after before with (plans.Several ts) s same fits = omega arith
   plan_most p loops here after before with (plans.Choice test size plans.Whole first second) s same fits = omega arith
-  plan_most p loops here after before with (plans.Choice test size plans.Low first second) s same fits = let positive = ltb-true 0 size (and_parts (nat_lt 0 size) _ fits.0).0 in omega arith
-  plan_most p loops here after before with (plans.Choice test size plans.Turned first second) s same fits = let positive = ltb-true 0 size (and_parts (nat_lt 0 size) _ fits.0).0 in omega arith
+  plan_most p loops here after before with (plans.Choice test zero plans.Low first second) s same fits = omega arith
+  plan_most p loops here after before with (plans.Choice test (suc k) plans.Low first second) s same fits = omega arith
+  plan_most p loops here after before with (plans.Choice test zero plans.Turned first second) s same fits = omega arith
+  plan_most p loops here after before with (plans.Choice test (suc k) plans.Turned first second) s same fits = omega arith
   plan_most p loops here after before with (plans.Repeat front behind body) s same fits = omega arith
   plan_most p loops here after before with (plans.Stays t) s same fits = stays_most before with t s same
 

@@ -14,17 +14,18 @@ use Rattle.c_ints.specs.declared.types.IntTy.TheVariants.{Int, UInt}
 use Rattle.pic_world.specs.Bits.{bit}
 use Rattle.pic_world.specs.World.{World, arrived, is_due, entered, left, noted, Ended, device_value}
 use Rattle.pic_world.specs.declared.Root.{Root}
+use Rattle.core_code.proofs.Views.{list_again}
 use Rattle.core_code.specs.Bytes.{Held, Unset, Part, Object, Fixed, FrameOf, Place, Memory, same_byte, same_object, behind, byte_in, is_private, place_of, with_byte, with_bytes, is_in_frame, is_result_of, without_frame, without_results}
 use Rattle.core_code.specs.Bytes as bytes
 use Rattle.core_code.specs.Machine as task
 use Rattle.core_code.specs.Machine.{Program, Setting, Machine, Task, Waiting, Next, Goes, Stuck, Still, goes, when, tasks, held_at, after_read, after_write, memory_with, may_hold, written, may_call, opened, pass, is_others, passed, is_valid, put, copy, writes, address_of, and_then, operated, unary, convert, after_helper, binary, binary_at, loading, storing, load, store, load_from, store_to, with_bit, has_bit, bit_read, bit_write, begins, call, chosen, exit, again, leave, at_end, operate, act, may_interrupt, enter, core_step, gone, core_run, first_memory, static_byte, core_start, core_moment, extent, is_own, is_reached}
 use Rattle.core_code.specs.Operands.{number_left, is_helped}
 use Rattle.core_code.specs.Tree as tree
-use Rattle.core_code.specs.Tree.{Tree, Trees, NoTree, AndTree, list_of}
+use Rattle.core_code.specs.Tree.{Tree, Trees, NoTree, AndTree, list_of, trees_of}
 use Rattle.core_code.specs.Values.{Value, Number, Pointer, Extent, byte_count, byte_of, joined, number_in, pointer_in, pointer_if, or_number, value_in, truth_in, truth_value, converted, unary_value, moved, equal_pointers, on_pointers, pointer_number, number_pointer, binary_value, right_type}
 use Rattle.core_code.specs.declared.code.Byte.{Byte}
 use Rattle.core_code.specs.declared.code.Byte.TheVariants.{Static, Frame, Result, Device}
-use Rattle.narrow_code.specs.Lending.{leads_lent, takes_lent, lends, all_lend, AlwaysOpen}
+use Rattle.narrow_code.specs.Lending.{leads_lent, takes_lent, lends, all_lend, AlwaysOpen, LeadsOnly}
 use Rattle.narrow_code.specs.Links.{is_lent, reaches_lent}
 use Rattle.narrow_code.specs.Plans.{all_given, given_program, given_setting}
 
@@ -418,6 +419,23 @@ always_open x lending o n i l =
   where
     first_fine : (b : Byte) → leads_lent x.lent (first_memory (given_program x) b) ≡ true
     first_fine (Static k offset) = lending.first k offset
+    first_fine (Frame c offset) = refl
+    first_fine (Result r k) = refl
+    first_fine (Device d) = refl
+
+-- ---- a program by itself
+pub leads_only : LeadsOnly
+leads_only lent q takes o i =
+    let start : MachineFine lent (core_start (record { program = q; outside = o })) = record {
+      code = subst (λ (ts : List Tree). TasksFine lent (tasks [] ts [])) (list_again (q.body 0)) (tasks_fine lent [] (trees_of (q.body 0)) [] (takes.bodies 0) tt);
+      stack = tt;
+      memory = first_fine;
+    } in
+    let fine = moment_fine lent (record { program = q; outside = o }) (λ c. trees_of (q.body c)) takes.bodies (λ c. sym (list_again (q.body c))) start i in
+    reaches_fine lent (core_moment (record { program = q; outside = o }) i).code fine.code
+  where
+    first_fine : (b : Byte) → leads_lent lent (first_memory q b) ≡ true
+    first_fine (Static k offset) = takes.first k offset
     first_fine (Frame c offset) = refl
     first_fine (Result r k) = refl
     first_fine (Device d) = refl

@@ -1,5 +1,5 @@
 -- One step of both machines.
-use Rattle.std.proofs.Common.{◌≡◌, true, List, [], ◌∷◌, refl}
+use Rattle.std.proofs.Common.{◌≡◌, zero, suc, true, List, [], ◌∷◌, refl}
 use Rattle.pic_world.specs.World.{Outside, arrived, is_due}
 use Rattle.core_code.specs.Bytes.{Held}
 use Rattle.core_code.specs.Bytes as bytes
@@ -12,7 +12,7 @@ use Rattle.narrow_code.specs.Plans as plans
 use Rattle.narrow_code.specs.Plans.{Plan, given, made, Narrowing, given_program, made_program, given_setting, made_setting}
 use Rattle.narrow_code.specs.Right.{Fits, FitsLeaf, set_mark, IsSound}
 use Rattle.narrow_code.specs.Links.{reaches_lent}
-use Rattle.narrow_code.proofs.Memory.{lower, lower_refl}
+use Rattle.narrow_code.proofs.Memory.{never, lower, lower_refl}
 use Rattle.narrow_code.proofs.Relation.{Job, ToDo, ToPut, ToPutBit, ToPutBack, ToJoin, ToLoad, ToStore, ToEnd, ones, others, one_stack, other_stack, SameCounts, Runs, Weak, State, first_machine, second_machine, Stays, Outcome, Rests, if_both}
 use Rattle.narrow_code.proofs.Steps.{Scene, loops, go_same, set_holds, put_step}
 use Rattle.narrow_code.proofs.Control.{leave_step, exit_step, again_step, end_step, loop_step, several_step, choice_step, low_choice_step, turned_choice_step, call_step, enter_step}
@@ -52,8 +52,10 @@ module _ (x : Narrowing) (sound : IsSound x) (o : Outside) (sc : Scene x) where
     plan_step (plans.Narrowed op ty to a b) fits = narrow_step x sound sc after js runs op ty to a b fits before with
     plan_step (plans.Several ts) fits = several_step x sound sc after js runs ts fits
     plan_step (plans.Choice test size plans.Whole first second) fits = choice_step x sound sc after js runs first second fits.1 fits.2 test size fits.0
-    plan_step (plans.Choice test size plans.Low first second) fits = low_choice_step x sound sc after js runs first second fits.1 fits.2 test size fits.0
-    plan_step (plans.Choice test size plans.Turned first second) fits = turned_choice_step x sound sc after js runs first second fits.1 fits.2 test size fits.0
+    plan_step (plans.Choice test zero plans.Low first second) fits = never fits.0
+    plan_step (plans.Choice test (suc k) plans.Low first second) fits = low_choice_step x sound sc after js runs first second fits.1 fits.2 test (suc k) fits.0
+    plan_step (plans.Choice test zero plans.Turned first second) fits = never fits.0
+    plan_step (plans.Choice test (suc k) plans.Turned first second) fits = turned_choice_step x sound sc after js runs first second fits.1 fits.2 test (suc k) fits.0
     plan_step (plans.Repeat front behind body) fits = loop_step x sound sc.p sc.a sc.here sc.known sc.m sc.l sc.w sc.alike sc.link sc.passes front behind after body js sc.s fits runs sc.stands
 
   pub act_step : (js : List Job) → Runs x.lent sc.p (loops x sound sc) sc.here js → reaches_lent x.lent (ones js) ≡ true

@@ -2,12 +2,12 @@
 use Rattle.std.specs.Prelude.{◌≡◌, ℕ, Bool, true, ◌&&◌, slice_get}
 use Rattle.pic_world.specs.World.{Outside}
 use Rattle.core_code.specs.Bytes.{Held, Unset, Number, Part}
-use Rattle.core_code.specs.Machine.{static_byte}
+use Rattle.core_code.specs.Machine.{Program, static_byte, core_moment}
 use Rattle.core_code.specs.Tree as tree
-use Rattle.core_code.specs.Tree.{Tree, Trees, NoTree, AndTree}
+use Rattle.core_code.specs.Tree.{Tree, Trees, NoTree, AndTree, trees_of}
 use Rattle.core_code.specs.declared.code.Byte.{Byte}
 use Rattle.core_code.specs.declared.code.Byte.TheVariants.{Static, Frame, Result, Device}
-use Rattle.narrow_code.specs.Links.{is_lent, IsOpen}
+use Rattle.narrow_code.specs.Links.{is_lent, reaches_lent, IsOpen}
 use Rattle.narrow_code.specs.Plans.{all_given, Narrowing}
 
 -- a byte of a pointer leads to a frame that is lent
@@ -42,3 +42,12 @@ pub record IsLending (x : Narrowing) : Type 0 where
 -- Where addresses are taken of such frames alone, no pointer ever leads to another one.
 abbrev pub AlwaysOpen : Type 0
 AlwaysOpen = (x : Narrowing) → IsLending x → (o : Outside) (n : ℕ) → IsOpen x o n
+
+-- A program that takes addresses of frames that are lent alone, and whose objects begin with no address of another one.
+pub record TakesOnly (lent : ℕ → Bool) (q : Program) : Type 0 where
+  pub bodies : (c : ℕ) → all_lend lent (trees_of (q.body c)) ≡ true
+  pub first : (n offset : ℕ) → leads_lent lent (static_byte (slice_get q.first n) offset) ≡ true
+
+-- So at no moment it accesses another frame by a pointer.
+abbrev pub LeadsOnly : Type 0
+LeadsOnly = (lent : ℕ → Bool) (q : Program) → TakesOnly lent q → (o : Outside) (i : ℕ) → reaches_lent lent (core_moment (record { program = q; outside = o }) i).code ≡ true

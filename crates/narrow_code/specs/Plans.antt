@@ -1,6 +1,6 @@
 -- Byte code together with what becomes of it: the given code and the code that is made are both read off a plan, so that they have
 -- the same operations at the same places but for the types of those that are narrowed, and the ways of conditions that are turned.
-use Rattle.std.specs.Prelude.{ℕ, Bool}
+use Rattle.std.specs.Prelude.{ℕ, zero, suc, Bool}
 use Rattle.c_ints.specs.declared.operators.BinOp.{BinOp}
 use Rattle.c_ints.specs.declared.operators.BinOp.TheVariants as ops
 use Rattle.c_ints.specs.declared.types.IntTy.{IntTy}
@@ -39,10 +39,15 @@ low_op ops.Eq = ops.Xor
 low_op ops.Ne = ops.Xor
 low_op op = op
 
+-- the lowest of so many bytes
+abbrev pub low_size : ℕ → ℕ
+low_size zero = 0
+low_size (suc k) = 1
+
 abbrev pub choice_by : Byte → ℕ → Way → Tree → Tree → Tree
 choice_by test size Whole first second = tree.If test size first second
-choice_by test size Low first second = tree.If test 1 first second
-choice_by test size Turned first second = tree.If test 1 second first
+choice_by test size Low first second = tree.If test (low_size size) first second
+choice_by test size Turned first second = tree.If test (low_size size) second first
 
 abbrev mutual
   pub given : Plan → Tree

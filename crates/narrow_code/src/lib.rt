@@ -7,7 +7,7 @@
 
 ghost use Rattle.narrow_code.specs.Checked.{TestIsRight};
 ghost use Rattle.narrow_code.specs.Drafts.{PlansAreOfCode};
-ghost use Rattle.narrow_code.specs.Lending.{AlwaysOpen};
+ghost use Rattle.narrow_code.specs.Lending.{AlwaysOpen, LeadsOnly};
 ghost use Rattle.narrow_code.specs.Links.{NarrowingKeeps};
 
 /// Code that is made by a plan that is right follows the given code; its premise on pointers holds where addresses are taken only of
@@ -15,6 +15,11 @@ ghost use Rattle.narrow_code.specs.Links.{NarrowingKeeps};
 pub fn narrowing_keeps()
     ensures follows { NarrowingKeeps }
     ensures lending { AlwaysOpen }
+{}
+
+/// A program that takes addresses of frames that are lent alone accesses no other ones by pointers.
+pub fn leads_only()
+    ensures { LeadsOnly }
 {}
 
 /// A draft that passes the test makes a plan that is right, and whatever the draft, the plan is one of the given code.

@@ -4,3 +4,4 @@ mod Loops
 mod Making
 mod Bodies
 pub mod Trees
+pub mod Taken

@@ -7,6 +7,7 @@
 #![tactic(auto)]
 
 mod hints;
+mod lending;
 mod marks;
 mod operations;
 mod pass;
@@ -14,4 +15,5 @@ mod search;
 mod turns;
 mod walk;
 
+pub use lending::lent_in;
 pub use pass::narrow;

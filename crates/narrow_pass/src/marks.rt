@@ -60,12 +60,8 @@ fn is_zero(mark: Mark) -> bool
 {
     match mark {
         Mark::Zero => true,
-        Mark::Numbers
-        | Mark::Same
-        | Mark::Tells
-        | Mark::Denies
-        | Mark::Cleared
-        | Mark::Differs => false,
+        Mark::Numbers | Mark::Same | Mark::Tells | Mark::Denies | Mark::Cleared | Mark::Differs =>
+            false,
     }
 }
 
@@ -94,12 +90,8 @@ pub fn denies(mark: Mark) -> bool
 {
     match mark {
         Mark::Denies => true,
-        Mark::Zero
-        | Mark::Numbers
-        | Mark::Same
-        | Mark::Tells
-        | Mark::Cleared
-        | Mark::Differs => false,
+        Mark::Zero | Mark::Numbers | Mark::Same | Mark::Tells | Mark::Cleared | Mark::Differs =>
+            false,
     }
 }
 
@@ -336,14 +328,7 @@ pub fn put_on(copy: u16, here: &mut Vec<Mark>, byte: Byte, count: u16)
 
 /// The same, where of the lowest one something else is known than of the others.
 #[tactic(auto, using(crate::proofs::Runs::bytes_own, crate::proofs::Runs::bytes_off))]
-pub fn put_stacked(
-    copy: u16,
-    here: &mut Vec<Mark>,
-    byte: Byte,
-    count: u16,
-    low: Mark,
-    high: Mark,
-)
+pub fn put_stacked(copy: u16, here: &mut Vec<Mark>, byte: Byte, count: u16, low: Mark, high: Mark)
     ensures { marks_of here.new.items ≡ tested.put_bytes copy (marks_of here.old.items) byte count (stated.stacked (mark_of low) (mark_of high)) }
 {
     match own_place(copy, byte) {

@@ -16,8 +16,8 @@ ghost use Rattle.narrow_pass.specs.Ways as stated;
 ghost use Rattle.narrow_pass.specs.Ways.{mark_of, marks_of, turns_of};
 
 use crate::marks::{
-    Mark, Run, both, denies, is_lent, is_low_alone, is_number, mark_at, may_differ, put_all, put_nowhere,
-    put_on, put_one, put_stacked, same_from, tells,
+    Mark, Run, both, denies, is_lent, is_low_alone, is_number, mark_at, may_differ, put_all,
+    put_nowhere, put_on, put_one, put_stacked, same_from, tells,
 };
 use crate::turns::Turns;
 use c_ints::{BinOp, IntTy, UnOp, promote, size};
@@ -369,7 +369,11 @@ fn result_mark(left: bool, right: bool) -> Mark
 fn set_mark(value: u8) -> Mark
     ensures { mark_of result ≡ rules.set_mark value }
 {
-    if value == 0 { Mark::Zero } else { Mark::Numbers }
+    if value == 0 {
+        Mark::Zero
+    } else {
+        Mark::Numbers
+    }
 }
 
 // Of the bytes above the lowest one.
@@ -405,7 +409,10 @@ fn is_thin(
         number_at(lent, copy, here, left),
         number_at(lent, copy, here, right),
     );
-    both(numbers, is_small(op, are_low_alone(lent, copy, here, ty, left, right)))
+    both(
+        numbers,
+        is_small(op, are_low_alone(lent, copy, here, ty, left, right)),
+    )
 }
 
 fn converted_mark(from: IntTy, number: bool) -> Mark
@@ -544,13 +551,8 @@ fn upper_mark(op: BinOp, small: bool) -> Mark
         BinOp::Eq | BinOp::Ne => Mark::Cleared,
         BinOp::Lt | BinOp::Gt | BinOp::Le | BinOp::Ge => Mark::Zero,
         BinOp::And | BinOp::Xor | BinOp::Or => small_mark(small),
-        BinOp::Mul
-        | BinOp::Div
-        | BinOp::Rem
-        | BinOp::Add
-        | BinOp::Sub
-        | BinOp::Shl
-        | BinOp::Shr => Mark::Differs,
+        BinOp::Mul | BinOp::Div | BinOp::Rem | BinOp::Add | BinOp::Sub | BinOp::Shl | BinOp::Shr =>
+            Mark::Differs,
     }
 }
 
@@ -569,7 +571,14 @@ pub fn put_cut(
 {
     let small = are_low_alone(lent, copy, here, ty, left, right);
     let count = bytes_in(type_of(op, ty));
-    put_stacked(copy, here, to, count, lowest_mark(op), upper_mark(op, small));
+    put_stacked(
+        copy,
+        here,
+        to,
+        count,
+        lowest_mark(op),
+        upper_mark(op, small),
+    );
 }
 
 // ---- conditions

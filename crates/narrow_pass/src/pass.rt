@@ -7,8 +7,9 @@ ghost use Rattle.narrow_pass.specs.Narrowed.{IsNarrowed, IsNarrowedBody, items_o
 ghost use Rattle.narrow_pass.specs.Ways.{IsTried};
 
 use crate::hints::Hints;
+use crate::lending::marked_in;
 use crate::marks::all_equal;
-use crate::search::{flat_of, is_small, mark_lent, search, size_of};
+use crate::search::{flat_of, is_small, search, size_of};
 use crate::turns::Turns;
 use crate::walk::narrow_parts;
 use core_code::{Body, Core, CoreProgram, FirstByte};
@@ -120,16 +121,6 @@ fn narrow_bodies(
 
 // ---- proposals
 
-// Of which copies' frames addresses are taken.
-fn lent_in(alloc: Global, given: &[Body]) -> Result<Vec<bool>, AllocError> {
-    let mut lent = Vec::new(alloc);
-    for body in given {
-        let flat = flat_of(alloc, &body.code)?;
-        mark_lent(&mut lent, &flat)?;
-    }
-    Ok(lent)
-}
-
 fn proposal_for(alloc: Global, given: &Body, lent: &[bool]) -> Result<Proposal, AllocError> {
     let flat = flat_of(alloc, &given.code)?;
     let size = size_of(given.copy, &flat);
@@ -206,7 +197,7 @@ pub fn narrow(alloc: Global, program: &CoreProgram) -> Result<Option<CoreProgram
     // Each body is made by the plan of a draft that passes the test of narrow_code.
     ensures narrowed { IfOk result (λ found. IfSome found (λ made. IsNarrowed program.now made)) }
 {
-    let lent = lent_in(alloc, &program.bodies)?;
+    let lent = marked_in(alloc, &program.bodies)?;
     let Some(proposals) = proposals_for(alloc, &program.bodies, &lent)? else {
         return Ok(None);
     };

@@ -3,7 +3,7 @@
 ghost use Rattle.std.specs.Prelude.{◌≡◌, true, [], length, take, IfOk, IfSome};
 ghost use Rattle.core_code.specs.Tree.{Many, If, Loop, trees_of};
 ghost use Rattle.core_code.specs.View.{tree_of, trees_in};
-ghost use Rattle.narrow_code.specs.Plans.{choice_by};
+ghost use Rattle.narrow_code.specs.Plans.{choice_by, low_size};
 ghost use Rattle.narrow_pass.specs.Narrowed.{lent_by};
 ghost use Rattle.narrow_pass.specs.Ways.{IsMade, AreMade, marks_of, turns_of, way_in};
 
@@ -110,6 +110,13 @@ fn condition(alloc: Global, test: Byte, size: u8, yes: Core, no: Core) -> Result
     })
 }
 
+// The lowest of so many bytes.
+fn low_size(size: u8) -> u8
+    ensures { result ≡ low_size size }
+{
+    if size == 0 { 0 } else { 1 }
+}
+
 fn made_choice(
     alloc: Global,
     test: Byte,
@@ -122,8 +129,8 @@ fn made_choice(
 {
     match way {
         Way::Whole => condition(alloc, test, size, yes, no),
-        Way::Low => condition(alloc, test, 1, yes, no),
-        Way::Turned => condition(alloc, test, 1, no, yes),
+        Way::Low => condition(alloc, test, low_size(size), yes, no),
+        Way::Turned => condition(alloc, test, low_size(size), no, yes),
     }
 }
 

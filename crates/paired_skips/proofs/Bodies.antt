@@ -7,8 +7,8 @@ use Rattle.c_typed.specs.declared.calls.Helper.{Helper}
 use Rattle.c_typed.specs.declared.calls.Helper.TheVariants.{Mul2, Mul4, Divu2, Divs2, Remu2, Rems2, Divu4, Divs4, Remu4, Rems4, Shl2, Shru2, Shrs2, Shl4, Shru4, Shrs4}
 use Rattle.math_helpers.specs.Routines.{helper_code}
 use Rattle.pic_world.specs.declared.Root.{Root}
-use Rattle.select_code.specs.Pieces.{first_label, second_label, label_code, goto_code, jump_code, test_code}
-use Rattle.select_code.specs.Selected.{Given, IfForm, Jumps, Half, Whole, leave_code, goes_to, jump_target, if_form, if_code, turned, loop_code, short_turn, code_of, first_code, parts_code, body_code}
+use Rattle.select_code.specs.Pieces.{first_label, second_label, label_code, goto_code, jump_code, unless_code, test_code}
+use Rattle.select_code.specs.Selected.{Given, IfForm, Jumps, Leaps, Half, Other, Whole, leave_code, goes_to, jump_target, if_form, if_code, turned, loop_code, short_turn, code_of, first_code, parts_code, body_code}
 use Rattle.select_code.specs.Sized.{is_cut}
 use Rattle.select_code.specs.declared.control.Ending.{Ending}
 use Rattle.select_code.specs.declared.control.Ending.TheVariants as endings
@@ -25,6 +25,9 @@ goto_fine c label = refl
 jump_fine : (c : ℕ) (label : Label) → Fine c (jump_code label)
 jump_fine c label = refl
 
+unless_fine : (c : ℕ) (label : Label) → Fine c (unless_code label)
+unless_fine c label = refl
+
 leave_fine : (c : ℕ) (end : Ending) → Fine c (leave_code end)
 leave_fine c endings.Halt = refl
 leave_fine c endings.Restore = refl
@@ -36,9 +39,13 @@ goes_fine c (Some label) = refl
 
 if_fine : (c : ℕ) (form : IfForm) (at : ℕ) (test : List Sym) (holds fails : ℕ → List Sym) → Fine c test → ((n : ℕ) → Fine c (holds n)) → ((n : ℕ) → Fine c (fails n)) → Fine c (if_code form at test holds fails)
 if_fine c (Jumps to) at test holds fails t h f = joined c test (jump_code to) t (jump_fine c to)
+if_fine c (Leaps to) at test holds fails t h f = joined c test (unless_code to) t (unless_fine c to)
 if_fine c Half at test holds fails t h f =
     let head = test ++ jump_code (second_label at) in
     joined c (head ++ holds (at + length head)) (label_code (second_label at)) (joined c head (holds (at + length head)) (joined c test (jump_code (second_label at)) t refl) (h (at + length head))) refl
+if_fine c Other at test holds fails t h f =
+    let head = test ++ unless_code (second_label at) in
+    joined c (head ++ fails (at + length head)) (label_code (second_label at)) (joined c head (fails (at + length head)) (joined c test (unless_code (second_label at)) t refl) (f (at + length head))) refl
 if_fine c Whole at test holds fails t h f =
     let head = test ++ jump_code (first_label at) in
     let middle = head ++ holds (at + length head) ++ goto_code (second_label at) ++ label_code (first_label at) in

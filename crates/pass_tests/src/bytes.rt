@@ -56,6 +56,12 @@ const IF_ZERO: Sym = Sym::Bit {
     bit: 2,
 };
 
+const UNLESS_ZERO: Sym = Sym::Bit {
+    op: BitOperation::Btfss,
+    file: Operand::Register(Register::Status),
+    bit: 2,
+};
+
 // Whether the code of an operation, at the front of the block of copy 3, is this one.
 fn has_code(alloc: Global, c: &Core, wanted: &[Sym]) -> Result<bool, AllocError> {
     let mut out = SymBlock::new(alloc, BlockName::Copy(3));
@@ -159,5 +165,61 @@ fn a_loop_has_its_labels(rt: HostRuntime) -> Result<(), Fail> {
     assert!(rt; has_code(alloc, &a_loop(alloc)?, &wanted)?);
     let outside = Core::Exit(0);
     assert!(rt; !has_code(alloc, &outside, &[])?);
+    Ok(())
+}
+
+fn nothing(alloc: Global) -> Core {
+    Core::Many(Vec::new(alloc))
+}
+
+// A condition on one byte.
+fn condition(alloc: Global, test: Byte, yes: Core, no: Core) -> Result<Core, AllocError> {
+    Ok(Core::If {
+        test,
+        size: 1,
+        yes: Box::new(alloc, yes)?,
+        no: Box::new(alloc, no)?,
+    })
+}
+
+// `while (1) { if (first) continue; if (!second) port = 3; if (second) port = 4; if (first) break; }`
+fn one_sided_conditions(alloc: Global) -> Result<Core, AllocError> {
+    let three = Core::Set { to: PORT, value: 3 };
+    let four = Core::Set { to: PORT, value: 4 };
+    let mut parts = Vec::new(alloc);
+    parts.push(condition(alloc, FIRST, Core::Again(0), nothing(alloc))?)?;
+    parts.push(condition(alloc, SECOND, nothing(alloc), three)?)?;
+    parts.push(condition(alloc, SECOND, four, nothing(alloc))?)?;
+    parts.push(condition(alloc, FIRST, Core::Exit(0), nothing(alloc))?)?;
+    Ok(Core::Loop(Box::new(alloc, Core::Many(parts))?))
+}
+
+#[test]
+fn a_condition_with_an_empty_part_has_one_skip(rt: HostRuntime) -> Result<(), Fail> {
+    let alloc = rt.alloc();
+    let wanted = [
+        mark(0),
+        file(FileOperation::Movf, FIRST),
+        UNLESS_ZERO,
+        goto(0),
+        file(FileOperation::Movf, SECOND),
+        UNLESS_ZERO,
+        goto(9),
+        number(3),
+        store(PORT),
+        mark(9),
+        file(FileOperation::Movf, SECOND),
+        IF_ZERO,
+        goto(21),
+        number(4),
+        store(PORT),
+        mark(21),
+        file(FileOperation::Movf, FIRST),
+        UNLESS_ZERO,
+        goto(1),
+        goto(0),
+        mark(1),
+    ];
+    assert!(rt; has_code(alloc, &one_sided_conditions(alloc)?, &wanted)?);
     Ok(())
 }

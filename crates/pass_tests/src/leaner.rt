@@ -111,7 +111,7 @@ fn main_with(alloc: Global, variables: u64, list: &[Sym]) -> Result<Vec<SymBlock
     put_list(&mut main, list)?;
     let mut blocks = Vec::new(alloc);
     blocks.push(main)?;
-    lean(alloc, &blocks, None, &placed(alloc)?, &[variables])
+    lean(alloc, &blocks, None, &placed(alloc)?, &[variables], &[])
 }
 
 // What main becomes.
@@ -260,7 +260,7 @@ fn a_handler_stores_no_constant(rt: HostRuntime) -> Result<(), AllocError> {
     let mut blocks = Vec::new(alloc);
     blocks.push(main)?;
     blocks.push(handler)?;
-    let made = lean(alloc, &blocks, Some(1), &placed(alloc)?, &[])?;
+    let made = lean(alloc, &blocks, Some(1), &placed(alloc)?, &[], &[])?;
     let wanted = [load(5), Sym::Movwf(ticks()), goto(Label::Restore)];
     assert_eq!(rt; code_of(made.get(0)), &[goto(Label::Halt)][..]);
     assert_eq!(rt; code_of(made.get(1)), &wanted[..]);
@@ -291,7 +291,7 @@ fn a_result_is_in_w_behind_a_call(rt: HostRuntime) -> Result<(), AllocError> {
     let mut blocks = Vec::new(alloc);
     blocks.push(main)?;
     blocks.push(called)?;
-    let made = lean(alloc, &blocks, None, &placed, &[])?;
+    let made = lean(alloc, &blocks, None, &placed, &[], &[])?;
     let wanted = [call, Sym::Movwf(ticks()), goto(Label::Halt)];
     assert_eq!(rt; code_of(made.get(0)), &wanted[..]);
     assert_eq!(rt; code_of(made.get(1)), &[get, leave][..]);

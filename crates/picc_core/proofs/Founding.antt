@@ -112,6 +112,8 @@ module _ (typed : Typed) (copies : List FnCopy) (placed : Placed) (at : List ℕ
         bodies = bodies;
         code = symbolic.code;
         joined = symbolic.joined;
+        lent = symbolic.lent;
+        lends = symbolic.lends;
         leaner = symbolic.leaner;
         names = symbolic.selects.names;
         bare = symbolic.selects.bare;
@@ -141,7 +143,7 @@ module _ (typed : Typed) (copies : List FnCopy) (placed : Placed) (at : List ℕ
       lists_kept = (thinning_keeps placed (handler_at copies) at symbolic.selects.whole made symbolic.selects.thinned symbolic.selects.apart symbolic.selects.reaches).lists ∙ symbolic.selects.bare
 
       leaner : AllZip IsLeaner symbolic.given symbolic.lean
-      leaner = blocks_are_leaner (layout_of placed) (handler_at copies) (core_of (program_of typed) copies).variable_bytes symbolic.given symbolic.lean symbolic.leaner
+      leaner = blocks_are_leaner (layout_of placed) (handler_at copies) (core_of (program_of typed) copies).variable_bytes symbolic.lent symbolic.given symbolic.lean symbolic.leaner
 
       pub named : BlocksHaveAddresses placed made at
       named =

@@ -1,5 +1,5 @@
 -- The numbers of variables' bytes that the pass is given are those of byte code.
-use Rattle.std.proofs.Common.{◌≡◌, ℕ, zero, suc, ◌+◌, ◌≤◌, List, [], ◌∷◌, map, Option, Some, None, refl, ap, ◌∙◌, length, subst, arith}
+use Rattle.std.proofs.Common.{◌≡◌, ℕ, zero, suc, ◌+◌, ◌≤◌, Bool, true, List, [], ◌∷◌, map, Option, Some, None, refl, ap, ◌∙◌, length, subst, arith}
 use Rattle.std.specs.Prelude.{IfSome, slice_get, slice_index_or}
 use Rattle.std.proofs.Math.Nat.{min-eq_left}
 use mathlib.Core.Path.{fun_ext}
@@ -26,7 +26,9 @@ use Rattle.isr_save.specs.Start.{HasNumberedBytes}
 use Rattle.std.specs.List.{All, AllZip}
 use Rattle.sym_code.specs.declared.code.SymBlock.{SymBlock}
 use Rattle.sym_code.specs.declared.code.SymProgram.{SymProgram}
-use Rattle.narrow_pass.specs.Narrowed.{IsNarrowed}
+use Rattle.narrow_pass.proofs.Taken.{all_lent}
+use Rattle.narrow_pass.specs.Lent.{LendsOnly}
+use Rattle.narrow_pass.specs.Narrowed.{IsNarrowed, lent_by}
 use Rattle.program_code.proofs.Bodies.{few_kept, short_kept}
 use Rattle.program_code.specs.Passed.{IsByteCode, AsLowered, Narrower}
 use Rattle.picc_core.specs.Coded.{HasSelects, IsLeanTo, IsLeanOf, AsGiven, Seen, IsSymbolic}
@@ -84,32 +86,36 @@ module _ (typed : Typed) (copies : List FnCopy) (placed : Placed) (at : List ℕ
   variables_are list is = fun_ext (λ c. ap (λ (l : List ℕ). slice_index_or l c 0) is ∙ map_or bytes copies c ∙ of_copy c (slice_get copies c) refl)
 
   -- what the pass gives, with its selects
-  pub lean_to : (list : List ℕ) (handler : Option ℕ) (given lean made : List SymBlock) → list ≡ map bytes copies → handler ≡ handler_at copies → IsLean (layout_of placed) handler (variables_of list) given lean
-      → HasSelects placed handler at lean made → Fit made at → IsLeanTo p copies placed at given made
-  lean_to list handler given lean made is same leaner selects fit = record {
+  pub lean_to : (core : CoreProgram) (lent : List Bool) (list : List ℕ) (handler : Option ℕ) (given lean made : List SymBlock) → All (LendsOnly (lent_by lent)) core.bodies.items → list ≡ map bytes copies → handler ≡ handler_at copies
+      → IsLean (layout_of placed) handler (variables_of list) (lent_by lent) given lean → HasSelects placed handler at lean made → Fit made at → IsLeanTo p core copies placed at given made
+  lean_to core lent list handler given lean made lends is same leaner selects fit = record {
+    lent = lent_by lent;
+    lends = lends;
     lean = lean;
-    leaner = subst (λ (v : ℕ → ℕ). IsLean (layout_of placed) (handler_at copies) v given lean) (variables_are list is) (subst (λ (h : Option ℕ). IsLean (layout_of placed) h (variables_of list) given lean) same leaner);
+    leaner = subst (λ (v : ℕ → ℕ). IsLean (layout_of placed) (handler_at copies) v (lent_by lent) given lean) (variables_are list is) (subst (λ (h : Option ℕ). IsLean (layout_of placed) h (variables_of list) (lent_by lent) given lean) same leaner);
     selects = subst (λ (h : Option ℕ). HasSelects placed h at lean made) same selects;
     fit = fit;
   }
 
   -- the same, of lists that were lent
-  pub lean_lent : (lent_copies : List FnCopy) (list lent_list : List ℕ) (handler : Option ℕ) (given lent_given lean made lent_made : List SymBlock) → lent_copies ≡ copies → list ≡ map bytes lent_copies → lent_list ≡ list
-      → lent_given ≡ given → lent_made ≡ made → handler ≡ handler_at copies → IsLean (layout_of placed) handler (variables_of lent_list) lent_given lean → HasSelects placed handler at lean made → Fit lent_made at
-      → IsLeanTo p copies placed at given made
-  lean_lent lent_copies list lent_list handler given lent_given lean made lent_made of_copies is of_list of_given of_made same leaner selects fit =
-      lean_to list handler given lean made (is ∙ ap (map bytes) of_copies) same
-      (subst (λ (g : List SymBlock). IsLean (layout_of placed) handler (variables_of list) g lean) of_given (subst (λ (l : List ℕ). IsLean (layout_of placed) handler (variables_of l) lent_given lean) of_list leaner)) selects
+  pub lean_lent : (core : CoreProgram) (frames lent_frames : List Bool) (lent_copies : List FnCopy) (list lent_list : List ℕ) (handler : Option ℕ) (given lent_given lean made lent_made : List SymBlock) → All (LendsOnly (lent_by frames)) core.bodies.items → lent_frames ≡ frames → lent_copies ≡ copies → list ≡ map bytes lent_copies → lent_list ≡ list
+      → lent_given ≡ given → lent_made ≡ made → handler ≡ handler_at copies → IsLean (layout_of placed) handler (variables_of lent_list) (lent_by lent_frames) lent_given lean → HasSelects placed handler at lean made → Fit lent_made at
+      → IsLeanTo p core copies placed at given made
+  lean_lent core frames lent_frames lent_copies list lent_list handler given lent_given lean made lent_made lends of_frames of_copies is of_list of_given of_made same leaner selects fit =
+      lean_to core frames list handler given lean made lends (is ∙ ap (map bytes) of_copies) same
+      (subst (λ (b : List Bool). IsLean (layout_of placed) handler (variables_of list) (lent_by b) given lean) of_frames
+      (subst (λ (g : List SymBlock). IsLean (layout_of placed) handler (variables_of list) (lent_by lent_frames) g lean) of_given
+      (subst (λ (l : List ℕ). IsLean (layout_of placed) handler (variables_of l) (lent_by lent_frames) lent_given lean) of_list leaner))) selects
       (subst (λ (m : List SymBlock). Fit m at) of_made fit)
 
   -- ---- all that is known of the code
   -- leaner blocks of some byte code
-  pub lean_of : (core : CoreProgram) (given : List SymBlock) (found : Option SymProgram) → IsJoined core copies given → IfSome found (λ m. IsLeanTo p copies placed at given m.blocks.items) → IfSome found (λ m. IsLeanOf p core copies placed at m.blocks.items)
+  pub lean_of : (core : CoreProgram) (given : List SymBlock) (found : Option SymProgram) → IsJoined core copies given → IfSome found (λ m. IsLeanTo p core copies placed at given m.blocks.items) → IfSome found (λ m. IsLeanOf p core copies placed at m.blocks.items)
   lean_of core given None joined all = tt
   lean_of core given (Some made) joined is = record { given = given; joined = joined; is = is }
 
   symbolic_of : (lowered core : CoreProgram) (made : List SymBlock) → IsByteCode lowered core → IsLeanOf p core copies placed at made → IsSymbolic p lowered copies placed at made
-  symbolic_of lowered core made code of = record { core = core; code = code; given = of.given; joined = of.joined; lean = of.is.lean; leaner = of.is.leaner; selects = of.is.selects; room = Seen of.is.fit }
+  symbolic_of lowered core made code of = record { core = core; code = code; given = of.given; joined = of.joined; lent = of.is.lent; lends = of.is.lends; lean = of.is.lean; leaner = of.is.leaner; selects = of.is.selects; room = Seen of.is.fit }
 
   -- of byte code with operators on low bytes,
   from_narrower : (lowered core : CoreProgram) (found : Option SymProgram) → IsByteCode lowered core → IfSome found (λ m. IsLeanOf p core copies placed at m.blocks.items) → IfSome found (λ m. IsSymbolic p lowered copies placed at m.blocks.items)
@@ -140,6 +146,8 @@ module _ (typed : Typed) (copies : List FnCopy) (placed : Placed) (at : List ℕ
     code = AsLowered refl;
     given = given;
     joined = joined;
+    lent = λ c. true;
+    lends = all_lent core.bodies.items;
     lean = given;
     leaner = Kept (all_as_given given);
     selects = subst (λ (h : Option ℕ). HasSelects placed h at given made) same selects;

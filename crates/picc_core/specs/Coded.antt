@@ -1,5 +1,5 @@
 -- What is known of the code of a compiled program, from byte code on: what each pass promises of its part.
-use Rattle.std.specs.Prelude.{ℕ, ◌≡◌, List, map, Option, Some}
+use Rattle.std.specs.Prelude.{ℕ, ◌≡◌, Bool, List, map, Option, Some}
 use Rattle.std.specs.List.{All, AllZip}
 use Rattle.c_typed.specs.Trees.{Program}
 use Rattle.call_graph.specs.Numbers.{handler_at}
@@ -18,6 +18,7 @@ use Rattle.code_place.specs.Places.{block_place, label_place, BlocksHaveAddresse
 use Rattle.code_place.specs.Sizes.{Fit}
 use Rattle.flow_facts.specs.Thin.{IsThinned}
 use Rattle.lean_pass.specs.Made.{IsLean}
+use Rattle.narrow_pass.specs.Lent.{LendsOnly}
 use Rattle.program_code.specs.Joined.{IsJoined}
 use Rattle.program_code.specs.Passed.{IsByteCode}
 
@@ -37,10 +38,13 @@ pub data IsRoomy (lowered core : CoreProgram) (given lean made : List SymBlock) 
   AsGiven : core ≡ lowered → lean ≡ given → IsRoomy lowered core given lean made at
   Seen : Fit made at → IsRoomy lowered core given lean made at
 
--- Leaner blocks with selects, which were seen to have room.
-pub record IsLeanTo (p : Program) (copies : List FnCopy) (placed : Placed) (at : List ℕ) (given made : List SymBlock) : Type 0 where
+-- Leaner blocks with selects, which were seen to have room. The blocks that they are made of are those of byte code that takes addresses of
+-- frames that are lent, and of no others.
+pub record IsLeanTo (p : Program) (core : CoreProgram) (copies : List FnCopy) (placed : Placed) (at : List ℕ) (given made : List SymBlock) : Type 0 where
+  pub lent : ℕ → Bool
+  pub lends : All (LendsOnly lent) core.bodies.items
   pub lean : List SymBlock
-  pub leaner : IsLean (layout_of placed) (handler_at copies) (core_of p copies).variable_bytes given lean
+  pub leaner : IsLean (layout_of placed) (handler_at copies) (core_of p copies).variable_bytes lent given lean
   pub selects : HasSelects placed (handler_at copies) at lean made
   pub fit : Fit made at
 
@@ -48,7 +52,7 @@ pub record IsLeanTo (p : Program) (copies : List FnCopy) (placed : Placed) (at :
 pub record IsLeanOf (p : Program) (core : CoreProgram) (copies : List FnCopy) (placed : Placed) (at : List ℕ) (made : List SymBlock) : Type 0 where
   pub given : List SymBlock
   pub joined : IsJoined core copies given
-  pub is : IsLeanTo p copies placed at given made
+  pub is : IsLeanTo p core copies placed at given made
 
 -- The blocks are those that are joined from byte code as it is lowered or with operators on low bytes, without instructions on temporary
 -- bytes that nothing needs, and with selects.
@@ -57,8 +61,11 @@ pub record IsSymbolic (p : Program) (lowered : CoreProgram) (copies : List FnCop
   pub code : IsByteCode lowered core
   pub given : List SymBlock
   pub joined : IsJoined core copies given
+  -- the frames, by copy, of which that byte code takes addresses
+  pub lent : ℕ → Bool
+  pub lends : All (LendsOnly lent) core.bodies.items
   pub lean : List SymBlock
-  pub leaner : IsLean (layout_of placed) (handler_at copies) (core_of p copies).variable_bytes given lean
+  pub leaner : IsLean (layout_of placed) (handler_at copies) (core_of p copies).variable_bytes lent given lean
   pub selects : HasSelects placed (handler_at copies) at lean made
   pub room : IsRoomy lowered core given lean made at
 

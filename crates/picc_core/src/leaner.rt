@@ -22,7 +22,7 @@ use code_place::fits;
 use core_code::CoreProgram;
 use flow_facts::{thinned, thinned_plainly};
 use lean_pass::lean;
-use narrow_pass::narrow;
+use narrow_pass::{lent_in, narrow};
 use pic_map::Placed;
 use ram_place::variable_bytes;
 use std::alloc::{AllocError, Global};
@@ -85,17 +85,21 @@ fn variables_of(alloc: Global, typed: &Typed, copies: &[FnCopy]) -> Result<Vec<u
 fn leaner(
     alloc: Global,
     given: &SymProgram,
+    core: &CoreProgram,
     typed: &Typed,
     copies: &Copies,
     placed: &Placed,
     at: &[u16],
 ) -> Result<Option<SymProgram>, AllocError>
     requires founded { IsFounded typed.now copies.now.list.items placed.now at.now }
-    ensures { IfOk result (λ found. IfSome found (λ made. IsLeanTo (program_of typed.now) copies.now.list.items placed.now at.now given.now.blocks.items made.blocks.items)) }
+    ensures { IfOk result (λ found. IfSome found (λ made. IsLeanTo (program_of typed.now) core.now copies.now.list.items placed.now at.now given.now.blocks.items made.blocks.items)) }
 {
     let variables = variables_of(alloc, typed, &copies.list)?;
     let handler = handler_of(copies);
-    let blocks = lean(alloc, &given.blocks, handler, placed, &variables)?;
+    let Some(lent) = lent_in(alloc, &core.bodies)? else {
+        return Ok(None);
+    };
+    let blocks = lean(alloc, &given.blocks, handler, placed, &variables, &lent)?;
     if !can_select(placed, &blocks) {
         return Ok(None);
     }
@@ -123,7 +127,7 @@ fn leaner_of(
     ensures { IfOk result (λ found. IfSome found (λ made. IsLeanOf (program_of typed.now) core.now copies.now.list.items placed.now at.now made.blocks.items)) }
 {
     let given = joined(alloc, core, copies)?;
-    let found = leaner(alloc, &given, typed, copies, placed, at)?;
+    let found = leaner(alloc, &given, core, typed, copies, placed, at)?;
     Ok(found)
 }
 

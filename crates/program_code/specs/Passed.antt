@@ -1,5 +1,5 @@
 -- What the passes answer for one program, one behind the other, from its typed tree on to the blocks and their addresses.
-use Rattle.std.specs.Prelude.{ℕ, ◌≡◌, true, List, map, None}
+use Rattle.std.specs.Prelude.{ℕ, ◌≡◌, Bool, true, List, map, None}
 use Rattle.std.specs.List.{All, AllZip}
 use Rattle.c_typed.specs.Roots.{broken_root}
 use Rattle.c_typed.specs.Sound.{is_sound}
@@ -19,6 +19,7 @@ use Rattle.code_place.specs.Layouts.{layout_of}
 use Rattle.code_place.specs.Places.{BlocksHaveAddresses}
 use Rattle.code_place.specs.Sizes.{Fit}
 use Rattle.lean_pass.specs.Made.{IsLean}
+use Rattle.narrow_pass.specs.Lent.{LendsOnly}
 use Rattle.narrow_pass.specs.Narrowed.{IsNarrowed}
 use Rattle.program_code.specs.Joined.{IsJoined}
 
@@ -38,8 +39,11 @@ pub record AreBlocks (p : Program) (copies : List FnCopy) (core : CoreProgram) (
   pub bodies : map body_of lowered.bodies.items ≡ bodies_of p copies
   pub code : IsByteCode lowered core
   pub joined : IsJoined core copies given
+  -- the frames, by copy, of which that takes addresses
+  pub lent : ℕ → Bool
+  pub lends : All (LendsOnly lent) core.bodies.items
   -- what is left of them where instructions on temporary bytes are left out that nothing needs
-  pub leaner : IsLean (layout_of placed) (handler_at copies) (core_of p copies).variable_bytes given lean
+  pub leaner : IsLean (layout_of placed) (handler_at copies) (core_of p copies).variable_bytes lent given lean
   -- the blocks with selects
   pub names : names_of made ≡ names_of lean
   pub bare : bare_lists made ≡ bare_lists lean

@@ -1,5 +1,5 @@
 -- What is appended one behind the other.
-use Rattle.std.proofs.Common.{◌≡◌, ℕ, zero, suc, ◌+◌, ◌<◌, List, [], ◌∷◌, ◌++◌, true, false, Option, Some, None, option_map, cond, ◌⊎◌, inl, inr, Vec, Box, Global, length, get_or, take, reverse, refl, sym, ap, ◌∙◌, append_assoc, length-append, add-one, arith}
+use Rattle.std.proofs.Common.{◌≡◌, ℕ, zero, suc, ◌+◌, ◌<◌, List, [], ◌∷◌, ◌++◌, Bool, true, false, Option, Some, None, option_map, cond, ◌⊎◌, inl, inr, Vec, Box, Global, length, get_or, take, reverse, refl, sym, ap, ◌∙◌, append_assoc, length-append, add-one, arith}
 use Rattle.std.proofs.lemmas.List.{append-nil, length-map}
 use Rattle.core_code.specs.declared.code.Byte.{Byte}
 use Rattle.core_code.specs.declared.code.Core.{Core}
@@ -8,8 +8,8 @@ use Rattle.core_code.specs.View.{tree_of, trees_in}
 use Rattle.sym_code.specs.declared.code.Label.{Label}
 use Rattle.sym_code.specs.declared.code.Sym.{Sym}
 use Rattle.select_code.specs.declared.control.Ending.{Ending}
-use Rattle.select_code.specs.Pieces.{test_code, label_code, goto_code, jump_code, first_label, second_label}
-use Rattle.select_code.specs.Selected.{Given, code_of, parts_code, first_code, single_code, form_by, if_code, short_jump, is_nothing, short_turn, short_list, turned, turn_code}
+use Rattle.select_code.specs.Pieces.{test_code, label_code, goto_code, jump_code, unless_code, first_label, second_label}
+use Rattle.select_code.specs.Selected.{Given, code_of, parts_code, first_code, single_code, IfForm, Jumps, Leaps, Half, Other, Whole, part_form, form_by, if_form, if_code, short_jump, is_nothing, short_turn, short_list, turned, turn_code}
 use Rattle.select_code.specs.Sized.{is_cut}
 use Rattle.c_ints.specs.declared.types.IntTy.{IntTy}
 use Rattle.core_code.specs.declared.code.Core.TheVariants as Core
@@ -64,39 +64,81 @@ lists_back xs = list_back (trees_in xs)
 pub parts_length : (xs : List Core) → length (list_of (trees_of (trees_in xs))) ≡ length xs
 parts_length xs = ap length (lists_back xs) ∙ length-map xs tree_of
 
+-- What a condition comes to, by what the code finds.
+pub form_jumps : (loops : List ℕ) (holds fails : Tree) (to : Label) → short_jump loops holds fails ≡ Some to → if_form loops holds fails ≡ Jumps to
+form_jumps loops holds fails to short = ap (λ s. form_by s (short_jump loops fails holds) (is_nothing fails) (is_nothing holds)) short
+
+pub form_leaps : (loops : List ℕ) (holds fails : Tree) (to : Label) → short_jump loops holds fails ≡ None → short_jump loops fails holds ≡ Some to → if_form loops holds fails ≡ Leaps to
+form_leaps loops holds fails to short leap =
+    ap (λ s. form_by s (short_jump loops fails holds) (is_nothing fails) (is_nothing holds)) short
+    ∙ ap (λ s. form_by None s (is_nothing fails) (is_nothing holds)) leap
+
+form_parts : (loops : List ℕ) (holds fails : Tree) → short_jump loops holds fails ≡ None → short_jump loops fails holds ≡ None → if_form loops holds fails ≡ part_form (is_nothing fails) (is_nothing holds)
+form_parts loops holds fails short leap =
+    ap (λ s. form_by s (short_jump loops fails holds) (is_nothing fails) (is_nothing holds)) short
+    ∙ ap (λ s. form_by None s (is_nothing fails) (is_nothing holds)) leap
+
+pub form_half : (loops : List ℕ) (holds fails : Tree) → short_jump loops holds fails ≡ None → short_jump loops fails holds ≡ None → is_nothing fails ≡ true → if_form loops holds fails ≡ Half
+form_half loops holds fails short leap nothing = form_parts loops holds fails short leap ∙ ap (λ n. part_form n (is_nothing holds)) nothing
+
+pub form_other : (loops : List ℕ) (holds fails : Tree) → short_jump loops holds fails ≡ None → short_jump loops fails holds ≡ None → is_nothing fails ≡ false → is_nothing holds ≡ true → if_form loops holds fails ≡ Other
+form_other loops holds fails short leap nothing bare =
+    form_parts loops holds fails short leap ∙ ap (λ n. part_form n (is_nothing holds)) nothing ∙ ap (λ n. part_form false n) bare
+
+pub form_whole : (loops : List ℕ) (holds fails : Tree) → short_jump loops holds fails ≡ None → short_jump loops fails holds ≡ None → is_nothing fails ≡ false → is_nothing holds ≡ false → if_form loops holds fails ≡ Whole
+form_whole loops holds fails short leap nothing bare =
+    form_parts loops holds fails short leap ∙ ap (λ n. part_form n (is_nothing holds)) nothing ∙ ap (λ n. part_form false n) bare
+
 -- A condition whose parts were put one behind the other.
-pub if_jump : (w : Given) (e : Ending) (loops : List ℕ) (before : List Tree) (tree holds fails : Tree) (test : Byte) (size : ℕ) (o p q : List Sym) (to : Label) → tree ≡ If test size holds fails
-    → short_jump loops holds fails ≡ Some to → p ≡ o ++ test_code test size → q ≡ p ++ jump_code to → q ≡ o ++ code_of w e loops (length o) before tree
-if_jump w e loops before tree holds fails test size o p q to is short a b =
-    then_put o p q (test_code test size) (jump_code to) a b
-    ∙ ap (λ s. o ++ if_code (form_by s (is_nothing fails)) (length o) (test_code test size) (λ n. code_of w e loops n [] holds) (λ n. code_of w e loops n [] fails)) (sym short)
+by_form : (w : Given) (e : Ending) (loops : List ℕ) (before : List Tree) (tree holds fails : Tree) (test : Byte) (size : ℕ) (o s : List Sym) (form : IfForm) → tree ≡ If test size holds fails → if_form loops holds fails ≡ form
+    → s ≡ o ++ if_code form (length o) (test_code test size) (λ n. code_of w e loops n [] holds) (λ n. code_of w e loops n [] fails) → s ≡ o ++ code_of w e loops (length o) before tree
+by_form w e loops before tree holds fails test size o s form is formed made =
+    made
+    ∙ ap (λ f. o ++ if_code f (length o) (test_code test size) (λ n. code_of w e loops n [] holds) (λ n. code_of w e loops n [] fails)) (sym formed)
     ∙ ap (λ t. o ++ code_of w e loops (length o) before t) (sym is)
 
+pub if_jump : (w : Given) (e : Ending) (loops : List ℕ) (before : List Tree) (tree holds fails : Tree) (test : Byte) (size : ℕ) (o p q : List Sym) (to : Label) → tree ≡ If test size holds fails
+    → if_form loops holds fails ≡ Jumps to → p ≡ o ++ test_code test size → q ≡ p ++ jump_code to → q ≡ o ++ code_of w e loops (length o) before tree
+if_jump w e loops before tree holds fails test size o p q to is form a b =
+    by_form w e loops before tree holds fails test size o q (Jumps to) is form (then_put o p q (test_code test size) (jump_code to) a b)
+
+pub if_leap : (w : Given) (e : Ending) (loops : List ℕ) (before : List Tree) (tree holds fails : Tree) (test : Byte) (size : ℕ) (o p q : List Sym) (to : Label) → tree ≡ If test size holds fails
+    → if_form loops holds fails ≡ Leaps to → p ≡ o ++ test_code test size → q ≡ p ++ unless_code to → q ≡ o ++ code_of w e loops (length o) before tree
+if_leap w e loops before tree holds fails test size o p q to is form a b =
+    by_form w e loops before tree holds fails test size o q (Leaps to) is form (then_put o p q (test_code test size) (unless_code to) a b)
+
 pub if_one : (w : Given) (e : Ending) (loops : List ℕ) (before : List Tree) (tree holds fails : Tree) (test : Byte) (size : ℕ) (o p q r s : List Sym) (end : Label) → tree ≡ If test size holds fails
-    → short_jump loops holds fails ≡ None → is_nothing fails ≡ true → end ≡ second_label (length o)
+    → if_form loops holds fails ≡ Half → end ≡ second_label (length o)
     → p ≡ o ++ test_code test size → q ≡ p ++ jump_code end → r ≡ q ++ code_of w e loops (length q) [] holds → s ≡ r ++ label_code end
     → s ≡ o ++ code_of w e loops (length o) before tree
-if_one w e loops before tree holds fails test size o p q r s end is short nothing last a b c d =
+if_one w e loops before tree holds fails test size o p q r s end is form last a b c d =
     let t = test_code test size in
     let l = second_label (length o) in
     let f : ℕ → List Sym = λ n. code_of w e loops n [] holds in
-    let g : ℕ → List Sym = λ n. code_of w e loops n [] fails in
     let head = t ++ jump_code l in
-    let b' : q ≡ p ++ jump_code l = b ∙ ap (λ v. p ++ jump_code v) last in
-    let d' : s ≡ r ++ label_code l = d ∙ ap (λ v. r ++ label_code v) last in
-    let u = then_put o p q t (jump_code l) a b' in
-    let v = then_at o q r head f u c in
-    then_put o r s (head ++ f (length o + length head)) (label_code l) v d'
-    ∙ ap (λ n. o ++ if_code (form_by None n) (length o) t f g) (sym nothing)
-    ∙ ap (λ j. o ++ if_code (form_by j (is_nothing fails)) (length o) t f g) (sym short)
-    ∙ ap (λ z. o ++ code_of w e loops (length o) before z) (sym is)
+    let u = then_put o p q t (jump_code l) a (b ∙ ap (λ v. p ++ jump_code v) last) in
+    by_form w e loops before tree holds fails test size o s Half is form
+    (then_put o r s (head ++ f (length o + length head)) (label_code l) (then_at o q r head f u c) (d ∙ ap (λ v. r ++ label_code v) last))
+
+pub if_other : (w : Given) (e : Ending) (loops : List ℕ) (before : List Tree) (tree holds fails : Tree) (test : Byte) (size : ℕ) (o p q r s : List Sym) (end : Label) → tree ≡ If test size holds fails
+    → if_form loops holds fails ≡ Other → end ≡ second_label (length o)
+    → p ≡ o ++ test_code test size → q ≡ p ++ unless_code end → r ≡ q ++ code_of w e loops (length q) [] fails → s ≡ r ++ label_code end
+    → s ≡ o ++ code_of w e loops (length o) before tree
+if_other w e loops before tree holds fails test size o p q r s end is form last a b c d =
+    let t = test_code test size in
+    let l = second_label (length o) in
+    let f : ℕ → List Sym = λ n. code_of w e loops n [] fails in
+    let head = t ++ unless_code l in
+    let u = then_put o p q t (unless_code l) a (b ∙ ap (λ v. p ++ unless_code v) last) in
+    by_form w e loops before tree holds fails test size o s Other is form
+    (then_put o r s (head ++ f (length o + length head)) (label_code l) (then_at o q r head f u c) (d ∙ ap (λ v. r ++ label_code v) last))
 
 pub if_both : (w : Given) (e : Ending) (loops : List ℕ) (before : List Tree) (tree holds fails : Tree) (test : Byte) (size : ℕ) (o p q r s u v y : List Sym) (end other : Label) → tree ≡ If test size holds fails
-    → short_jump loops holds fails ≡ None → is_nothing fails ≡ false → end ≡ second_label (length o) → other ≡ first_label (length o)
+    → if_form loops holds fails ≡ Whole → end ≡ second_label (length o) → other ≡ first_label (length o)
     → p ≡ o ++ test_code test size → q ≡ p ++ jump_code other → r ≡ q ++ code_of w e loops (length q) [] holds → s ≡ r ++ goto_code end → u ≡ s ++ label_code other
     → v ≡ u ++ code_of w e loops (length u) [] fails → y ≡ v ++ label_code end
     → y ≡ o ++ code_of w e loops (length o) before tree
-if_both w e loops before tree holds fails test size o p q r s u v y end other is short nothing last front e1 e2 e3 e4 e5 e6 e7 =
+if_both w e loops before tree holds fails test size o p q r s u v y end other is form last front e1 e2 e3 e4 e5 e6 e7 =
     let t = test_code test size in
     let l = second_label (length o) in
     let m = first_label (length o) in
@@ -114,14 +156,14 @@ if_both w e loops before tree holds fails test size o p q r s u v y end other is
     let h4 = then_put o r s arm (goto_code l) h3 d4 in
     let h5 = then_put o s u (arm ++ goto_code l) (label_code m) h4 d5 in
     let h6 = then_at o u v middle g h5 e6 in
-    then_put o v y (middle ++ g (length o + length middle)) (label_code l) h6 d7
-    ∙ ap (λ n. o ++ if_code (form_by None n) (length o) t f g) (sym nothing)
-    ∙ ap (λ j. o ++ if_code (form_by j (is_nothing fails)) (length o) t f g) (sym short)
-    ∙ ap (λ z. o ++ code_of w e loops (length o) before z) (sym is)
+    by_form w e loops before tree holds fails test size o y Whole is form (then_put o v y (middle ++ g (length o + length middle)) (label_code l) h6 d7)
 
 pub jump_same : (loops : List ℕ) (y z n k : Core) (short : Option Label) → short ≡ short_jump (reverse loops) (tree_of y) (tree_of n) → y ≡ z → n ≡ k → short_jump (reverse loops) (tree_of z) (tree_of k) ≡ short
 jump_same loops y z n k short is a b =
     sym (is ∙ ap (λ v. short_jump (reverse loops) (tree_of v) (tree_of n)) a ∙ ap (λ v. short_jump (reverse loops) (tree_of z) (tree_of v)) b)
+
+pub nothing_same : (y z : Core) (b : Bool) → b ≡ is_nothing (tree_of y) → y ≡ z → is_nothing (tree_of z) ≡ b
+nothing_same y z b is a = sym (is ∙ ap (λ v. is_nothing (tree_of v)) a)
 
 -- A loop's turn.
 pub turn_short : (w : Given) (e : Ending) (loops : List ℕ) (o q : List Sym) (xs : List Core) (tree : Tree) (top : Label) (count : ℕ) → tree ≡ Many (trees_of (trees_in xs)) → Some count ≡ short_list (trees_in xs)

@@ -92,6 +92,10 @@ goto_code label = sym.Goto (target.Label label) ∷ []
 abbrev pub jump_code : Label → List Sym
 jump_code label = flag_code Btfsc Zero ++ goto_code label
 
+-- a jump where Z is 0
+abbrev pub unless_code : Label → List Sym
+unless_code label = flag_code Btfss Zero ++ goto_code label
+
 abbrev pub bit_read_code : Byte → ℕ → ℕ → List Sym
 bit_read_code to register bit = number_code 0 ++ bit_code Btfsc (Device register) (bit % 8) ++ number_code 1 ++ store_code to
 

@@ -11,7 +11,7 @@ use Rattle.sym_code.specs.declared.code.Sym.TheVariants as sym
 use Rattle.sym_code.specs.declared.code.Target.TheVariants as target
 use Rattle.select_code.specs.declared.control.Ending.{Ending}
 use Rattle.select_code.specs.declared.control.Ending.TheVariants as ending
-use Rattle.select_code.specs.Pieces.{set_code, copy_code, test_code, first_label, second_label, label_code, goto_code, jump_code, bit_read_code, bit_write_code}
+use Rattle.select_code.specs.Pieces.{set_code, copy_code, test_code, first_label, second_label, label_code, goto_code, jump_code, unless_code, bit_read_code, bit_write_code}
 use Rattle.select_code.specs.Sized.{is_cut}
 
 -- The code of what is neither byte-sized nor control: how many instructions stand before it, what stands before it in the
@@ -45,9 +45,9 @@ abbrev pub is_nothing : Tree → Bool
 is_nothing (Many parts) = is_none parts
 is_nothing _ = false
 
--- where a condition goes to that is but a jump
+-- where a condition goes to that is but a jump: the part with nothing to do, and the other one
 abbrev pub short_jump : List ℕ → Tree → Tree → Option Label
-short_jump loops holds fails = cond (is_nothing holds) (jump_target loops fails) None
+short_jump loops nothing other = cond (is_nothing nothing) (jump_target loops other) None
 
 -- leaves the innermost loop
 abbrev pub is_exit : Tree → Bool
@@ -64,27 +64,40 @@ abbrev pub short_turn : Tree → Option ℕ
 short_turn (Many parts) = short_list (list_of parts)
 short_turn _ = None
 
--- What a condition comes to: but a jump, where it fails; nothing to do where it fails; or the whole of it.
+-- What a condition comes to: but a jump, where it fails or where it holds; nothing to do where it fails, or where it holds; or
+-- the whole of it.
 pub data IfForm : Type 0 where
   Jumps : Label → IfForm
+  Leaps : Label → IfForm
   Half : IfForm
+  Other : IfForm
   Whole : IfForm
 
--- by the jump that it is, and whether there is nothing to do where it fails
-abbrev pub form_by : Option Label → Bool → IfForm
-form_by (Some to) nothing = Jumps to
-form_by None true = Half
-form_by None false = Whole
+-- by whether there is nothing to do where it fails, and where it holds
+abbrev pub part_form : Bool → Bool → IfForm
+part_form true bare = Half
+part_form false true = Other
+part_form false false = Whole
+
+-- by the jumps that it is, where it fails and where it holds, and then by its parts
+abbrev pub form_by : Option Label → Option Label → Bool → Bool → IfForm
+form_by (Some to) leap nothing bare = Jumps to
+form_by None (Some to) nothing bare = Leaps to
+form_by None None nothing bare = part_form nothing bare
 
 abbrev pub if_form : List ℕ → Tree → Tree → IfForm
-if_form loops holds fails = form_by (short_jump loops holds fails) (is_nothing fails)
+if_form loops holds fails = form_by (short_jump loops holds fails) (short_jump loops fails holds) (is_nothing fails) (is_nothing holds)
 
 -- a condition behind so many instructions: the code of the test, and the codes of both parts behind so many instructions
 abbrev pub if_code : IfForm → ℕ → List Sym → (ℕ → List Sym) → (ℕ → List Sym) → List Sym
 if_code (Jumps to) at test holds fails = test ++ jump_code to
+if_code (Leaps to) at test holds fails = test ++ unless_code to
 if_code Half at test holds fails =
     let head = test ++ jump_code (second_label at) in
     head ++ holds (at + length head) ++ label_code (second_label at)
+if_code Other at test holds fails =
+    let head = test ++ unless_code (second_label at) in
+    head ++ fails (at + length head) ++ label_code (second_label at)
 if_code Whole at test holds fails =
     let head = test ++ jump_code (first_label at) in
     let middle = head ++ holds (at + length head) ++ goto_code (second_label at) ++ label_code (first_label at) in

@@ -11,7 +11,7 @@ ghost use Rattle.select_code.specs.Sized.{is_byte_sized};
 use crate::loops::Loops;
 use crate::pieces::{
     make_first_label, make_second_label, put_bit_read, put_bit_write, put_copy, put_goto,
-    put_jump_if_zero, put_label, put_set, put_test,
+    put_jump_if_zero, put_jump_unless_zero, put_label, put_set, put_test,
 };
 use crate::sized::{is_byte_sized, is_cut};
 use core_code::Core;
@@ -125,12 +125,12 @@ fn short_list(parts: &[Core]) -> Option<usize>
     }
 }
 
-// The label of a condition's `no` part, where the condition is but a jump.
-fn short_jump(yes: &Core, no: &Core, loops: &Loops) -> Option<Label>
-    ensures { result ≡ short_jump (reverse loops.now.starts.items) (tree_of yes.now) (tree_of no.now) }
+// The label that a condition goes to, where one of its parts is empty and the other one but a jump.
+fn short_jump(empty: &Core, other: &Core, loops: &Loops) -> Option<Label>
+    ensures { result ≡ short_jump (reverse loops.now.starts.items) (tree_of empty.now) (tree_of other.now) }
 {
-    if is_empty(yes) {
-        jump_of(no, loops)
+    if is_empty(empty) {
+        jump_of(other, loops)
     } else {
         None
     }
@@ -216,10 +216,18 @@ pub fn select_with<W: Wide>(
             if let Some(label) = short_jump(yes, no, loops) {
                 return put_jump_if_zero(label, out);
             }
+            if let Some(label) = short_jump(no, yes, loops) {
+                return put_jump_unless_zero(label, out);
+            }
             let end = make_second_label(at);
             if is_empty(no) {
                 put_jump_if_zero(end, out)?;
                 select_with(yes, &[], wide, ending, loops, out)?;
+                return put_label(end, out);
+            }
+            if is_empty(yes) {
+                put_jump_unless_zero(end, out)?;
+                select_with(no, &[], wide, ending, loops, out)?;
                 return put_label(end, out);
             }
             let otherwise = make_first_label(at);

@@ -1,7 +1,7 @@
 //! Instructions by what they are for. Each call appends them and changes nothing else.
 
 ghost use Rattle.std.specs.Prelude.{◌≡◌, ◌++◌, ◌<◌, ◌%◌, ◌^◌, length, OnOk};
-ghost use Rattle.select_code.specs.Pieces.{byte_behind, clear_code, copy_code, file_code, flag_bit, flag_code, number_code, ors_code, set_code, store_code, test_code, is_clearable, label_code, goto_code, jump_code, bit_code, bit_read_code, bit_write_code, first_label, second_label};
+ghost use Rattle.select_code.specs.Pieces.{byte_behind, clear_code, copy_code, file_code, flag_bit, flag_code, number_code, ors_code, set_code, store_code, test_code, is_clearable, label_code, goto_code, jump_code, unless_code, bit_code, bit_read_code, bit_write_code, first_label, second_label};
 ghost use Rattle.core_code.specs.declared.code.Byte.TheVariants.{Device};
 
 use core_code::Byte;
@@ -202,6 +202,15 @@ pub(crate) fn put_jump_if_zero(label: Label, out: &mut SymBlock) -> Result<(), A
     ensures name { out.new.name ≡ out.old.name }
 {
     put_flag(BitOperation::Btfsc, Flag::Zero, out)?;
+    put_goto(label, out)
+}
+
+// A jump where Z is 0.
+pub(crate) fn put_jump_unless_zero(label: Label, out: &mut SymBlock) -> Result<(), AllocError>
+    ensures put { OnOk result (out.new.list.items ≡ out.old.list.items ++ unless_code label) }
+    ensures name { out.new.name ≡ out.old.name }
+{
+    put_flag(BitOperation::Btfss, Flag::Zero, out)?;
     put_goto(label, out)
 }
 

@@ -12,7 +12,8 @@ use Rattle.sym_code.specs.Effect.{Memory, write, Loud, Port, Shared, Event, Sile
 use Rattle.sym_code.specs.Layout.{Watched, Constant, Of, address_of, general_at, owner}
 use Rattle.sym_code.specs.Programs.{Position, position, onward}
 use Rattle.sym_code.specs.Registers.{Registers, Fits, result_with, flags_with, skips_with, after_row}
-use Rattle.sym_code.specs.declared.code.BitOperation.TheVariants.{Btfsc}
+use Rattle.sym_code.specs.declared.code.BitOperation.{BitOperation}
+use Rattle.sym_code.specs.declared.code.BitOperation.TheVariants.{Btfsc, Btfss}
 use Rattle.sym_code.specs.declared.code.BlockName.TheVariants as names
 use Rattle.sym_code.specs.declared.code.FileOperation.TheVariants.{Movf}
 use Rattle.sym_code.specs.declared.code.Into.TheVariants as into
@@ -29,6 +30,11 @@ use Rattle.select_trace.proofs.Placed.{slot, same_roots}
 use Rattle.select_trace.proofs.Sites.{Site, layout}
 use Rattle.select_trace.proofs.Live.{IsUser, user_below, passes, is_live, valid_on, There}
 use Rattle.select_trace.proofs.Steps.{thread}
+
+-- a skip by Z: where it is 1, or where it is 0
+abbrev pub skip_on : Bool → BitOperation
+skip_on true = Btfss
+skip_on false = Btfsc
 
 module _ (s : Site) where
   named_is : (i wr : Bool) (r : Registers) (a k : ℕ) → general_at a ≡ Some k → named_access s.g i wr r a ≡ access_by i wr k (owner (layout s) k)
@@ -162,8 +168,9 @@ module _ (s : Site) where
   unfolding effect_of after_row
   clrw_is i f n ps r m = refl
 
-  -- a flag is tested: bit 2 of STATUS is Z, bit 0 is C
-  pub zero_clear : (i : Bool) (f n : ℕ) (ps : List Position) (r : Registers) (m : Memory)
-      → effect_of s.g i (position (names.Copy f) n) (thread s f n ps r) m (syms.Bit Btfsc (operands.Register Status) 2) ≡ Quiet (record { rest = None; at = Some (onward s.g.program (position (names.Copy f) n) (nat_eq r.z 0)); stack = ps; registers = r }) None
+  -- Z is tested, which is bit 2 of STATUS
+  pub zero_tested : (on i : Bool) (f n : ℕ) (ps : List Position) (r : Registers) (m : Memory)
+      → effect_of s.g i (position (names.Copy f) n) (thread s f n ps r) m (syms.Bit (skip_on on) (operands.Register Status) 2) ≡ Quiet (record { rest = None; at = Some (onward s.g.program (position (names.Copy f) n) (nat_eq r.z (truth on))); stack = ps; registers = r }) None
   unfolding effect_of
-  zero_clear i f n ps r m = refl
+  zero_tested true i f n ps r m = refl
+  zero_tested false i f n ps r m = refl

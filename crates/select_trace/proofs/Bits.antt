@@ -33,7 +33,7 @@ use Rattle.select_trace.proofs.Live.{IsUser, below, chain_user}
 use Rattle.select_trace.proofs.Memory.{Shown, agrees_shown}
 use Rattle.select_trace.proofs.Blocks.{block, bounds, next_lands}
 use Rattle.select_trace.proofs.Relation.{place, store_to, Left, Here, least_at, most_at, stop, further, Went, weaken, After}
-use Rattle.select_trace.proofs.Steps.{thread, machine, Fit, stands_at, stays, dear, counted, of_byte, word, word_to, effect_word, jump, past, skip, onward_is, skip_lands}
+use Rattle.select_trace.proofs.Steps.{thread, machine, Fit, stands_at, stays, opens_at, dear, counted, of_byte, word, word_to, effect_word, jump, past, skip, onward_is, skip_lands}
 use Rattle.select_trace.proofs.Access.{own_valid, own_access, port_access, movlw_is}
 use Rattle.select_trace.proofs.Control.{left_to, here_left, when_after}
 use Rattle.select_trace.proofs.Stores.{device_small, read_bytes, write_bytes, fit_with}
@@ -111,8 +111,8 @@ module _ (s : Site) (t : Machine) (wc : World Held) (calm : Calm s wc) (f : ℕ)
       let la : lands s.g.program (onward s.g.program (position (names.Copy f) (suc n)) (nat_eq (bit v (number % 8)) 0)) ≡ true =
       ap (lands s.g.program) ob ∙ skip_lands s t wc calm f ps the_user (suc n) x y (nat_eq (bit v (number % 8)) 0) h.1.0 refl h.1.1.0 refl in
       weaken s (at s t (thread s f n ps r) m wc) d 1 (s.price (names.Copy f) n + (s.price (names.Copy f) (suc n) + 0)) 1 6 (omega arith) (omega (arith, dr))
-      (word s t wc calm f ps the_user n r m (syms.Literal Movlw (literals.Number 0)) r' None d 1 (s.price (names.Copy f) (suc n) + 0) h.0 refl refl (movlw_is s wc.inside f n ps r m 0)
-      (word_to s t wc calm f ps the_user (at s t (next v) m wd) (suc n) r' m x (Reads (Port a) next) d 0 0 h.1.0 refl ef (λ c p. refl)
+      (word s t wc calm f ps the_user n r m (syms.Literal Movlw (literals.Number 0)) r' None d 1 (s.price (names.Copy f) (suc n) + 0) h.0 refl refl refl (movlw_is s wc.inside f n ps r m 0)
+      (word_to s t wc calm f ps the_user (at s t (next v) m wd) (suc n) r' m x (Reads (Port a) next) d 0 0 h.1.0 refl refl ef (λ c p. refl)
       (read_port s t wc calm (thread s f (suc n) ps r') m a next (effect_word s wc.inside f (suc n) ps r' m x h.1.0 refl ∙ ef) la)
       (stays s (at s t (next v) m wd) d (stands_at s t wd f pr (PutBit to (bit v number) ∷ c) st loops cm m (next v) (fit_read a) (w_fits r 0 (omega arith) fits)
       (by_bit v r' h.1.1 nb ob (bit_of v number)))))))
@@ -145,7 +145,7 @@ module _ (s : Site) (t : Machine) (wc : World Held) (calm : Calm s wc) (f : ℕ)
       let dr = dear s f the_user n 1 (syms.Literal Movlw (literals.Number 1) ∷ []) (h.1.0, tt) refl (omega arith) in
       after_map s (of_byte s to) 3 0 4 (put s.q to (Number value) c f pr st cm wc) v' v (put_moves s.q to (Number value) c f pr st cm wc) (λ d w.
       weaken s v d (of_byte s to) (s.price (names.Copy f) n + 3) 0 4 (omega arith) (omega (arith, dr))
-      (word s t wc calm f ps the_user n r m (syms.Literal Movlw (literals.Number 1)) r' None d (of_byte s to) 3 h.1.0 refl refl (movlw_is s wc.inside f n ps r m 1) w))
+      (word s t wc calm f ps the_user n r m (syms.Literal Movlw (literals.Number 1)) r' None d (of_byte s to) 3 h.1.0 refl refl refl (movlw_is s wc.inside f n ps r m 1) w))
       (put_goes s t wc calm f pr st loops ps cm m fit to (Number value) (suc n) r' c (w_fits r 1 (omega arith) fits) (sym h.0) h.1.1 (soon_left s f loops r' (suc n + 1) c (left_to s f loops (n + 2) (suc n + 1) c (omega arith) h.2)))
 
   -- ---- a bit is written
@@ -183,7 +183,7 @@ module _ (s : Site) (t : Machine) (wc : World Held) (calm : Calm s wc) (f : ℕ)
       let one : counted s x ≡ 1 = change_counts op g a b oe in
       let hi = s.price (names.Copy f) n + 0 in
       weaken s (at s t (thread s f n ps r) m wc) d (counted s x + 0) hi 1 hi (omega (arith, one)) (omega arith)
-      (word_to s t wc calm f ps the_user (at s t (next v) m wd) n r m x (Reads (Port a) next) d 0 0 h refl ef (λ c p. refl)
+      (word_to s t wc calm f ps the_user (at s t (next v) m wd) n r m x (Reads (Port a) next) d 0 0 h refl refl ef (λ c p. refl)
       (read_port s t wc calm (thread s f n ps r) m a next (effect_word s wc.inside f n ps r m x h refl ∙ ef) la)
       (stays s (at s t (next v) m wd) d (stands_at s t wd f pr (PutBack a (g v) ∷ Join ∷ c) st loops cm m (next v) (fit_read a) fits (suc n, small, refl, refl, la, l))))
 
@@ -236,7 +236,7 @@ module _ (s : Site) (t : Machine) (wc : World Held) (calm : Calm s wc) (f : ℕ)
           let low : bit (m k) 0 ≡ x % 2 = ap (λ z. bit z 0) sh ∙ half x in
           let dr = dear s f the_user n 6 (syms.Bit Btfss (operands.Byte from) 0 ∷ syms.Goto (targets.Label (first_label n)) ∷ []) (h.0, (h.1.0, tt)) refl (let z = dear_three (syms.Bit Btfss (operands.Byte from) 0 ∷ syms.Goto (targets.Label (first_label n)) ∷ []) in omega (arith, z)) in
           weaken s (at s t (thread s f n ps r) m wc) d 1 (s.price (names.Copy f) n + (s.price (names.Copy f) (suc n) + 3)) 1 13 (omega arith) (omega (arith, dr))
-          (skip s t wc calm f ps the_user n r m (syms.Bit Btfss (operands.Byte from) 0) (syms.Goto (targets.Label (first_label n))) (nat_eq (bit (m k) 0) 1) r d 1 (s.price (names.Copy f) (suc n) + 3) h.0 refl refl h.1.0 refl refl
+          (skip s t wc calm f ps the_user n r m (syms.Bit Btfss (operands.Byte from) 0) (syms.Goto (targets.Label (first_label n))) (nat_eq (bit (m k) 0) 1) r d 1 (s.price (names.Copy f) (suc n) + 3) h.0 refl refl refl h.1.0 refl refl
           (low_is n r from k (own_access s wc.inside false r f the_user fit.root from o))
           (chosen (nat_eq (bit (m k) 0) 1) x va n8 nb (ap (λ z. nat_eq z 1) low))))
         where
@@ -293,6 +293,6 @@ module _ (s : Site) (t : Machine) (wc : World Held) (calm : Calm s wc) (f : ℕ)
       record {
         k = 1;
         u = u;
-        path = further v u u 0 0 0 0 3 (write_port s t wc calm th m a value th' refl (not_false (sets_gie a value wc) gi) la) (omega arith) (omega (arith, mo)) (stop u 0 0 (omega arith));
+        path = further v u u 0 0 0 0 3 (opens_at s t th m wc refl) (write_port s t wc calm th m a value th' refl (not_false (sets_gie a value wc) gi) la) (omega arith) (omega (arith, mo)) (stop u 0 0 (omega arith));
         stands = stands_at s t wd f pr c st loops cm m th' fit' fits (here_left s f loops n ps r c l);
       }))

@@ -6,8 +6,8 @@ use Rattle.sym_code.specs.declared.code.Label.{Label}
 use Rattle.sym_code.specs.declared.code.Sym.{Sym}
 use Rattle.select_code.specs.declared.control.Ending.{Ending}
 use Rattle.select_code.specs.declared.control.Ending.TheVariants as ending
-use Rattle.select_code.specs.Pieces.{is_clearable, set_code, clear_code, number_code, store_code, test_code, ors_code, first_label, second_label, label_code, goto_code, jump_code, bit_read_code}
-use Rattle.select_code.specs.Selected.{Given, leave_code, jump_target, goes_to, IfForm, Jumps, Half, Whole, if_form, if_code, turned, loop_code, short_turn, code_of, first_code, parts_code, turn_code}
+use Rattle.select_code.specs.Pieces.{is_clearable, set_code, clear_code, number_code, store_code, test_code, ors_code, first_label, second_label, label_code, goto_code, jump_code, unless_code, bit_read_code}
+use Rattle.select_code.specs.Selected.{Given, leave_code, jump_target, goes_to, IfForm, Jumps, Leaps, Half, Other, Whole, if_form, if_code, turned, loop_code, short_turn, code_of, first_code, parts_code, turn_code}
 use Rattle.select_code.specs.Sized.{is_cut}
 use Rattle.select_trace.proofs.Labels.{Bounds, lower, bounds_append, bounds_then, unlabelled, free_bounds, free_append, free_cond}
 
@@ -34,11 +34,18 @@ goes_free (Some l) = refl
 -- the code of a condition
 if_bounds : (f : IfForm) (n : ℕ) (test : List Sym) (holds fails : ℕ → List Sym) → unlabelled test ≡ true → ((k : ℕ) → Bounds (2 * k) k (holds k)) → ((k : ℕ) → Bounds (2 * k) k (fails k)) → Bounds (2 * n) n (if_code f n test holds fails)
 if_bounds (Jumps to) n test holds fails t h g = free_bounds (2 * n) n (test ++ jump_code to) (free_append test (jump_code to) t refl)
+if_bounds (Leaps to) n test holds fails t h g = free_bounds (2 * n) n (test ++ unless_code to) (free_append test (unless_code to) t refl)
 if_bounds Half n test holds fails t h g =
     let head = test ++ jump_code (second_label n) in
     let yes = head ++ holds (n + length head) in
     bounds_append (2 * n) n (n + length yes) yes (label_code (second_label n)) refl
     (bounds_then n n head (holds (n + length head)) (omega arith) (free_bounds (2 * n) n head (free_append test (jump_code (second_label n)) t refl)) (h (n + length head)))
+    ((omega arith, omega arith), tt)
+if_bounds Other n test holds fails t h g =
+    let head = test ++ unless_code (second_label n) in
+    let no = head ++ fails (n + length head) in
+    bounds_append (2 * n) n (n + length no) no (label_code (second_label n)) refl
+    (bounds_then n n head (fails (n + length head)) (omega arith) (free_bounds (2 * n) n head (free_append test (unless_code (second_label n)) t refl)) (g (n + length head)))
     ((omega arith, omega arith), tt)
 if_bounds Whole n test holds fails t h g =
     let head = test ++ jump_code (first_label n) in

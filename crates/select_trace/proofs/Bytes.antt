@@ -24,6 +24,7 @@ use Rattle.sym_code.specs.declared.code.Operand.{Operand}
 use Rattle.sym_code.specs.declared.code.Operand.TheVariants as operands
 use Rattle.sym_code.specs.declared.code.Sym.TheVariants as syms
 use Rattle.select_code.specs.Pieces.{is_clearable, set_code, copy_code, clear_code, number_code, store_code}
+use Rattle.select_wide.specs.Direct.{clears}
 use Rattle.select_trace.proofs.Truths.{and_left, and_right, lt_of, same_nat}
 use Rattle.select_trace.proofs.Standing.{Has}
 use Rattle.select_trace.proofs.Placed.{slot}
@@ -131,7 +132,7 @@ module _ (s : Site) (t : Machine) (wc : World Held) (calm : Calm s wc) (f : ℕ)
           let v = at s t (thread s f n ps r) m wc in
           put_private s t wc calm f pr st loops ps cm m fit to (Number value) (of_byte s to) 4 v c p (λ pr' cm' pa a va ac.
           weaken s v (machine f pr' c st (bytes.with_byte cm' to (Number value)) wc) (of_byte s to) (s.price (names.Copy f) n + 0) (of_byte s to) 4 (omega arith) dr
-          (private_goes s t wc calm f pr st loops ps cm m fit to (Number value) (syms.Clrf (operands.Byte to)) 0 n r (record r { z = 1 }) c pr' cm' (zero_fits r fits) (omega arith) (private_number to value p z) h.0 refl refl
+          (private_goes s t wc calm f pr st loops ps cm m fit to (Number value) (syms.Clrf (operands.Byte to)) 0 n r (record r { z = 1 }) c pr' cm' (zero_fits r fits) (omega arith) (private_number to value p z) h.0 refl refl refl
           (clrf_silent s wc.inside f n ps r m (operands.Byte to) (slot (layout s) to) (ac r)) (soon_left s f loops (record r { z = 1 }) (suc n) c (left_to s f loops (n + 1) (suc n) c (omega arith) l)) pa a va))
       by false q h l =
           let code = number_code value ++ store_code to in
@@ -142,7 +143,7 @@ module _ (s : Site) (t : Machine) (wc : World Held) (calm : Calm s wc) (f : ℕ)
           let v' = at s t (thread s f (suc n) ps r') m wc in
           after_map s (of_byte s to) (s.price (names.Copy f) (suc n) + 0) (of_byte s to) 4 (put s.q to (Number value) c f pr st cm wc) v' v (put_moves s.q to (Number value) c f pr st cm wc) (λ d w.
           weaken s v d (of_byte s to) (s.price (names.Copy f) n + (s.price (names.Copy f) (suc n) + 0)) (of_byte s to) 4 (omega arith) dr
-          (word s t wc calm f ps my_user n r m (syms.Literal Movlw (literals.Number value)) r' None d (of_byte s to) (s.price (names.Copy f) (suc n) + 0) h.0 refl refl (movlw_is s wc.inside f n ps r m value) w))
+          (word s t wc calm f ps my_user n r m (syms.Literal Movlw (literals.Number value)) r' None d (of_byte s to) (s.price (names.Copy f) (suc n) + 0) h.0 refl refl refl (movlw_is s wc.inside f n ps r m value) w))
           (store_goes s t wc calm f pr st loops ps cm m fit to (Number value) (suc n) r' c (w_fits r value lt fits) refl h.1.0 (soon_left s f loops r' (suc (suc n)) c (left_to s f loops (n + 2) (suc (suc n)) c (omega arith) l)))
 
   -- ---- copies
@@ -162,7 +163,7 @@ module _ (s : Site) (t : Machine) (wc : World Held) (calm : Calm s wc) (f : ℕ)
       let v' = at s t (thread s f (suc n) ps r') m wc in
       after_map s (of_byte s to) (s.price (names.Copy f) (suc n) + 0) (of_either s to from) 6 (put s.q to (cm from) c f pr st cm wc) v' v (put_moves s.q to (cm from) c f pr st cm wc) (λ d w.
       weaken s v d (of_byte s from + of_byte s to) (s.price (names.Copy f) n + (s.price (names.Copy f) (suc n) + 0)) (of_either s to from) 6 both dr
-      (word_counted s t wc calm f ps my_user n r m (syms.File Movf (operands.Byte from) into.W) r' None d (of_byte s to) (s.price (names.Copy f) (suc n) + 0) h.0 refl refl
+      (word_counted s t wc calm f ps my_user n r m (syms.File Movf (operands.Byte from) into.W) r' None d (of_byte s to) (s.price (names.Copy f) (suc n) + 0) h.0 refl refl refl
       (movf_silent s wc.inside f n ps r m (operands.Byte from) k (own_access s wc.inside false r f my_user fit.root from o)) w))
       (store_goes s t wc calm f pr st loops ps cm m fit to (cm from) (suc n) r' c (loaded_fits s r (m k) fits (fit.bytes k)) (private_shown from e (own_valid s f pr (below st) from o)) h.1.0 (soon_left s f loops r' (suc (suc n)) c (left_to s f loops (n + 2) (suc (suc n)) c (omega arith) l)))
 
@@ -174,9 +175,9 @@ module _ (s : Site) (t : Machine) (wc : World Held) (calm : Calm s wc) (f : ℕ)
 
   -- a byte of a static object is read to W
   pub static_read : (y : Operand) (to : Byte) (o k n : ℕ) (r : Registers) (c : List Task) → (s.q.is_watched o ≡ true → access_of s.g wc.inside false r y ≡ Event (Shared (slot (layout s) (Static o k)) (cells.Static o k))) → (s.q.is_watched o ≡ false → access_of s.g wc.inside false r y ≡ Silent (slot (layout s) (Static o k)))
-      → nat_lt k (static_bytes s.q o) ≡ true → Fits r → slice_get (block s f) n ≡ Some (syms.File Movf y into.W) → Has (block s f) (suc n) (store_to to ∷ []) → ((r' : Registers) → r'.fsr ≡ r.fsr → r'.irp ≡ r.irp → Soon s f loops r' (suc n + 1) c) → is_marked s.q.variable_bytes (syms.File Movf y into.W) ≡ true
+      → nat_lt k (static_bytes s.q o) ≡ true → Fits r → slice_get (block s f) n ≡ Some (syms.File Movf y into.W) → Has (block s f) (suc n) (store_to to ∷ []) → ((r' : Registers) → r'.fsr ≡ r.fsr → r'.irp ≡ r.irp → Soon s f loops r' (suc n + 1) c) → is_marked s.q.variable_bytes (syms.File Movf y into.W) ≡ true → clears s.hidden r (Some (syms.File Movf y into.W)) ≡ true
       → Went s (at s t (thread s f n ps r) m wc) (machine f pr (Put to (cm (Static o k)) ∷ c) st cm (noting_if (s.q.is_watched o) (ReadOf (cells.Static o k) (cm (Static o k))) wc)) 1 (s.price (names.Copy f) n + 0)
-  static_read y to o k n r c aw ac va fits h hs soon marked =
+  static_read y to o k n r c aw ac va fits h hs soon marked clear =
       let d = machine f pr (Put to (cm (Static o k)) ∷ c) st cm (noting_if (s.q.is_watched o) (ReadOf (cells.Static o k) (cm (Static o k))) wc) in
       let one : counted s (syms.File Movf y into.W) ≡ 1 = ap one_if marked in
       let hi = s.price (names.Copy f) n + 0 in
@@ -196,7 +197,7 @@ module _ (s : Site) (t : Machine) (wc : World Held) (calm : Calm s wc) (f : ℕ)
           let x = syms.File Movf y into.W in
           let ef = movf_event s wc.inside f n ps r m y (Shared kk (cells.Static o k)) (aw q)
           ∙ ap (λ z. Reads (Shared kk (cells.Static o k)) (λ v. thread s f z ps (loaded s r v))) (let e : n + 1 ≡ suc n = omega arith in e) in
-          word_to s t wc calm f ps my_user (at s t (thread s f (suc n) ps r') m wd) n r m x (Reads (Shared kk (cells.Static o k)) (λ v. thread s f (suc n) ps (loaded s r v))) d 0 0 h refl ef (λ c p. refl)
+          word_to s t wc calm f ps my_user (at s t (thread s f (suc n) ps r') m wd) n r m x (Reads (Shared kk (cells.Static o k)) (λ v. thread s f (suc n) ps (loaded s r v))) d 0 0 h refl clear ef (λ c p. refl)
           (read_shared s t wc calm (thread s f n ps r) m kk (cells.Static o k) held (λ v. thread s f (suc n) ps (loaded s r v)) (effect_word s wc.inside f n ps r m x h refl ∙ ef) ag.0 (next_lands s f my_user n x h refl))
           (read_after to held n r' wd c (fit_with s t wc calm f pr st loops ps cm m fit wd pr cm m refl fit.control fit.agree fit.bytes fit.passing) (loaded_fits s r (m kk) fits (fit.bytes kk)) (exactly s held (m kk) ag.0 ag.1) hs (soon r' refl refl))
       by false q =
@@ -206,7 +207,7 @@ module _ (s : Site) (t : Machine) (wc : World Held) (calm : Calm s wc) (f : ℕ)
           let r' = loaded s r (m kk) in
           let d = machine f pr (Put to held ∷ c) st cm wc in
           let x = syms.File Movf y into.W in
-          word_counted s t wc calm f ps my_user n r m x r' None d 0 0 h refl refl (movf_silent s wc.inside f n ps r m y kk (ac q))
+          word_counted s t wc calm f ps my_user n r m x r' None d 0 0 h refl clear refl (movf_silent s wc.inside f n ps r m y kk (ac q))
           (read_after to held n r' wc c fit (loaded_fits s r (m kk) fits (fit.bytes kk)) (exactly s held (m kk) ag.0 ag.1) hs (soon r' refl refl))
 
   device_read : (to : Byte) (a n : ℕ) (r : Registers) (c : List Task) → (is_register a && nat_eq (lowest a) a) ≡ true → Fits r → slice_get (block s f) n ≡ Some (syms.File Movf (operands.Byte (Device a)) into.W) → Has (block s f) (suc n) (store_to to ∷ []) → Left s f loops (suc n + 1) c
@@ -220,7 +221,7 @@ module _ (s : Site) (t : Machine) (wc : World Held) (calm : Calm s wc) (f : ℕ)
       let i = read_inside s t wc calm (thread s f n ps r) m a in
       let ef = movf_event s wc.inside f n ps r m (operands.Byte (Device a)) (Port a) (port_access s wc.inside false r a va)
       ∙ ap (λ z. Reads (Port a) (λ v. thread s f z ps (loaded s r v))) (let e : n + 1 ≡ suc n = omega arith in e) in
-      word_to s t wc calm f ps my_user (at s t (thread s f (suc n) ps r') m wd) n r m x (Reads (Port a) (λ v. thread s f (suc n) ps (loaded s r v))) d 0 0 h refl ef (λ c p. refl)
+      word_to s t wc calm f ps my_user (at s t (thread s f (suc n) ps r') m wd) n r m x (Reads (Port a) (λ v. thread s f (suc n) ps (loaded s r v))) d 0 0 h refl refl ef (λ c p. refl)
       (read_port s t wc calm (thread s f n ps r) m a (λ v. thread s f (suc n) ps (loaded s r v)) (effect_word s wc.inside f n ps r m x h refl ∙ ef) (next_lands s f my_user n x h refl))
       (read_after to (Number v) n r' wd c (fit_with s t wc calm f pr st loops ps cm m fit wd pr cm m i (read_bytes s a wc fit.control) fit.agree fit.bytes fit.passing) (loaded_fits s r v fits (device_small s a wc fit.control)) refl hs (soon_left s f loops r' (suc n + 1) c l))
 
@@ -238,7 +239,7 @@ module _ (s : Site) (t : Machine) (wc : World Held) (calm : Calm s wc) (f : ℕ)
       let d = machine f pr (Put to (cm (Static o k)) ∷ c) st cm (noting_if (s.q.is_watched o) (ReadOf (cells.Static o k) (cm (Static o k))) wc) in
       when_after s (of_either s to (Static o k)) 3 (nat_lt k (static_bytes s.q o)) (core.Goes d) (at s t (thread s f n ps r) m wc) (λ va.
       weaken s (at s t (thread s f n ps r) m wc) d 1 (s.price (names.Copy f) n + 0) (of_either s to (Static o k)) 3 (one_most (is_kept s.q.variable_bytes to || true)) dr
-      (static_read (operands.Byte (Static o k)) to o k n r c (λ q. shared_access s wc.inside false r o k (lt_of k (static_bytes s.q o) va) q) (λ q. constant_access s wc.inside r o k (lt_of k (static_bytes s.q o) va) q) va fits h.0 h.1 (λ r' a b. soon_left s f loops r' (suc n + 1) c (left_to s f loops (n + 2) (suc n + 1) c (omega arith) l)) refl))
+      (static_read (operands.Byte (Static o k)) to o k n r c (λ q. shared_access s wc.inside false r o k (lt_of k (static_bytes s.q o) va) q) (λ q. constant_access s wc.inside r o k (lt_of k (static_bytes s.q o) va) q) va fits h.0 h.1 (λ r' a b. soon_left s f loops r' (suc n + 1) c (left_to s f loops (n + 2) (suc n + 1) c (omega arith) l)) refl refl))
   copy_goes to (Device a) n r c fits h l =
       let code = syms.File Movf (operands.Byte (Device a)) into.W ∷ [] in
       let d3 = dear_three code in

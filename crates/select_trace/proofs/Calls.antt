@@ -38,7 +38,7 @@ use Rattle.select_trace.proofs.Live.{IsUser, passes, is_live, below, Chain, chai
 use Rattle.select_trace.proofs.Memory.{Agree, agree_fewer, agree_opened, or_swap}
 use Rattle.select_trace.proofs.Blocks.{block, parts, ending, body_of, whole, front_lands, next_lands}
 use Rattle.select_trace.proofs.Relation.{place, Left, Here, Frames, AreBytes, least_at, most_at, stop, further, Went, weaken, After}
-use Rattle.select_trace.proofs.Steps.{thread, machine, Fit, stands_at, stays, dear, is_counted, word_to, word_quiet, effect_word}
+use Rattle.select_trace.proofs.Steps.{thread, machine, Fit, stands_at, stays, dear, is_counted, opens_at, open_word, word_to, word_quiet, effect_word}
 use Rattle.select_trace.proofs.Control.{left_to, left_goes, parts_left, when_after}
 
 list_back : (ts : List Tree) → list_of (trees_of ts) ≡ ts
@@ -154,7 +154,7 @@ module _ (s : Site) (t : Machine) (wc : World Held) (calm : Calm s wc) where
         frames = (loops, suc n, refl, next_lands s f u n (syms.Call (targets.Block (names.Copy h))) hs.0 refl, left_to s f loops (n + 1) (suc n) c (omega arith) l, fit.level, fit.frames);
       } in
       weaken s v d 1 (s.price (names.Copy f) n + 0) 1 6 (omega arith) (dear s f u n 6 (call_code h) hs refl (omega arith))
-      (word_quiet s t wc calm f ps u n r m (syms.Call (targets.Block (names.Copy h))) (thread s h 0 ps' r) None d 0 0 hs.0 refl
+      (word_quiet s t wc calm f ps u n r m (syms.Call (targets.Block (names.Copy h))) (thread s h 0 ps' r) None d 0 0 hs.0 refl refl
       (call_is wc.inside f n ps r m h lt ∙ ap (λ k. Quiet (thread s h 0 (place s f k ∷ ps) r) None) (omega arith)) (front_lands s h uh)
       (left_goes s t wc calm h None (InCall f c ∷ st) [] ps' (opened pr h cm) m fit' 0 r (tasks [] (s.q.body h) []) fits (body_left s h uh))))
 
@@ -194,7 +194,7 @@ module _ (s : Site) (t : Machine) (wc : World Held) (calm : Calm s wc) where
       let ef : effect_of s.g wc.inside (position (names.Copy f) n) (thread s f n [] r) m (syms.Goto (targets.Label labels.Halt)) ≡ Ends th' =
       ap (λ b. effect_of s.g b (position (names.Copy f) n) (thread s f n [] r) m (syms.Goto (targets.Label labels.Halt))) i ∙ halt_is f n r m in
       weaken s (at s t (thread s f n [] r) m wc) d 1 (s.price (names.Copy f) n + 0) 0 4 (omega arith) (dear s f u n 4 (leave_code endings.Halt) hs refl (omega arith))
-      (word_to s t wc calm f [] u (at s t th' m (noted Ended wc)) n r m (syms.Goto (targets.Label labels.Halt)) (Ends th') d 0 0 hs.0 refl ef (λ c p. refl)
+      (word_to s t wc calm f [] u (at s t th' m (noted Ended wc)) n r m (syms.Goto (targets.Label labels.Halt)) (Ends th') d 0 0 hs.0 refl refl ef (λ c p. refl)
       (ends_goes s t wc calm (thread s f n [] r) m th' (effect_word s wc.inside f n [] r m (syms.Goto (targets.Label labels.Halt)) hs.0 refl ∙ ef) i)
       (stays s (at s t th' m (noted Ended wc)) d (stands_at s t (noted Ended wc) f None (Over ∷ []) [] [] cm m th' (record {
         inside = ins;
@@ -230,7 +230,7 @@ module _ (s : Site) (t : Machine) (wc : World Held) (calm : Calm s wc) where
         frames = subst (λ l. Frames s y st fr.0 ps l) (sym q) fr.6;
       } in
       weaken s (at s t (thread s f n (p ∷ ps) r) m wc) d 1 (s.price (names.Copy f) n + 0) 1 4 (omega arith) (dear s f u n 4 (leave_code endings.Return) hs refl (omega arith))
-      (word_quiet s t wc calm f (p ∷ ps) u n r m (syms.Plain plain.Return) th' None d 0 0 hs.0 refl (return_is wc.inside f n p ps r m) fr.3
+      (word_quiet s t wc calm f (p ∷ ps) u n r m (syms.Plain plain.Return) th' None d 0 0 hs.0 refl refl (return_is wc.inside f n p ps r m) fr.3
       (subst (λ (z : Position). Went s (at s t (record { rest = None; at = Some z; stack = ps; registers = r }) m wc) d 0 0) (sym fr.2)
       (left_goes s t wc calm y None st fr.0 ps cm m fit' fr.1 r c fits fr.4)))
   leave_goes f pr (InHandler y x c ∷ st) loops (p ∷ ps) cm m low n r q fits ins con a by ch ro fr h = absurd fr
@@ -258,7 +258,7 @@ module _ (s : Site) (t : Machine) (wc : World Held) (calm : Calm s wc) where
       record {
         k = 1;
         u = u;
-        path = further t0 u u 0 0 0 1 104 (leaves_goes s t wc calm th0 m ew) (omega (arith, le, one)) (omega (arith, mo, dr)) (stop u 0 0 (omega arith));
+        path = further t0 u u 0 0 0 1 104 (opens_at s t th0 m wc (open_word s f n [] r (syms.Goto (targets.Label labels.Restore)) hs.0 refl refl)) (leaves_goes s t wc calm th0 m ew) (omega (arith, le, one)) (omega (arith, mo, dr)) (stop u 0 0 (omega arith));
         stands = record {
           loops = fr.0;
           world = arrived_as (shown (layout s)) s.o (left wc);

@@ -1,5 +1,5 @@
 -- Lists and conditions.
-use Rattle.std.proofs.Common.{◌≡◌, inl, inr, ℕ, zero, suc, ◌+◌, ◌*◌, ◌≤◌, Bool, true, false, not, nat_eq, cond, if◌then◌else◌, List, [], ◌∷◌, ◌++◌, length, Option, Some, None, slice_get, option_map, refl, sym, ap, ◌∙◌, subst, arith}
+use Rattle.std.proofs.Common.{◌≡◌, ◌⊎◌, inl, inr, ℕ, zero, suc, ◌+◌, ◌*◌, ◌≤◌, Bool, true, false, not, nat_eq, cond, if◌then◌else◌, List, [], ◌∷◌, ◌++◌, length, Option, Some, None, slice_get, option_map, refl, sym, ap, ◌∙◌, subst, arith}
 use Rattle.pic_world.specs.Bits.{truth}
 use Rattle.pic_world.specs.World.{World}
 use Rattle.core_code.specs.Bytes as bytes
@@ -13,7 +13,7 @@ use Rattle.sym_code.specs.Effect.{Memory}
 use Rattle.sym_code.specs.Machine.{Machine}
 use Rattle.sym_code.specs.Programs.{Position, label_from}
 use Rattle.sym_code.specs.Registers.{Registers, Fits}
-use Rattle.sym_code.specs.declared.code.BitOperation.TheVariants.{Btfsc}
+use Rattle.sym_code.specs.declared.code.BitOperation.TheVariants.{Btfsc, Btfss}
 use Rattle.sym_code.specs.declared.code.BlockName.TheVariants as names
 use Rattle.sym_code.specs.declared.code.Label.{Label}
 use Rattle.sym_code.specs.declared.code.Label.TheVariants.{Inner}
@@ -22,21 +22,21 @@ use Rattle.sym_code.specs.declared.code.Register.TheVariants.{Status}
 use Rattle.sym_code.specs.declared.code.Sym.{Sym}
 use Rattle.sym_code.specs.declared.code.Sym.TheVariants as syms
 use Rattle.sym_code.specs.declared.code.Target.TheVariants as targets
-use Rattle.select_code.specs.Pieces.{test_code, first_label, second_label, goto_code, jump_code}
-use Rattle.select_code.specs.Selected.{IfForm, Jumps, Half, Whole, form_by, if_form, if_code, short_jump, jump_target, goes_to, is_nothing, is_exit}
+use Rattle.select_code.specs.Pieces.{test_code, first_label, second_label, goto_code}
+use Rattle.select_code.specs.Selected.{IfForm, Jumps, Leaps, Half, Other, Whole, form_by, if_form, if_code, short_jump, jump_target, goes_to, is_nothing, is_exit}
 use Rattle.select_wide.specs.Links.{sets_bytes, all_set_bytes}
 use Rattle.select_trace.proofs.Truths.{and_left, and_right}
 use Rattle.select_trace.proofs.Standing.{Has, has_front, has_back, stand_label}
 use Rattle.select_trace.proofs.Labels.{len_append}
 use Rattle.select_trace.proofs.Bounding.{test_free, code_bounds}
-use Rattle.select_trace.proofs.Parts.{head_code, HalfParts, half_parts, half_length, middle_code, IfParts, if_parts, if_length}
+use Rattle.select_trace.proofs.Parts.{skip_code, head_code, HalfParts, half_code, half_parts, half_length, middle_code, IfParts, if_parts, if_length}
 use Rattle.select_trace.proofs.Sites.{Site}
 use Rattle.select_trace.proofs.Machines.{at, Calm}
 use Rattle.select_trace.proofs.Live.{IsUser, is_live, below, chain_user}
 use Rattle.select_trace.proofs.Blocks.{block, code, parts, wide, ending, free_at, bounds, is_leaver}
 use Rattle.select_trace.proofs.Relation.{Joins, Left, Soon, Here, Went, weaken, After}
-use Rattle.select_trace.proofs.Steps.{thread, machine, Fit, stands_at, stays, total, dear, skip_counted, jump, past}
-use Rattle.select_trace.proofs.Access.{zero_clear}
+use Rattle.select_trace.proofs.Steps.{thread, machine, Fit, stands_at, stays, total, dear, counted, skip_counted, jump, past}
+use Rattle.select_trace.proofs.Access.{skip_on, zero_tested}
 use Rattle.select_trace.proofs.Testing.{total_append, test_goes}
 use Rattle.select_trace.proofs.Prices.{straight_append, dear_three, test_length}
 
@@ -109,18 +109,50 @@ target_inner loops (Again k) to e = by (slice_get loops k) e
     by (Some l) e = ap (λ z. is_leaver (syms.Goto (targets.Label z))) (sym (some_label (first_label l) to e))
 target_inner loops x to e = absurd (no_label to e)
 
-form_half : (o : Option Label) (b : Bool) → form_by o b ≡ Half → b ≡ true
-form_half (Some to) b e = absurd (cc)
-form_half None true e = refl
-form_half None false e = absurd (cc)
+form_half : (o p : Option Label) (b k : Bool) → form_by o p b k ≡ Half → b ≡ true
+form_half (Some to) p b k e = absurd (cc)
+form_half None (Some to) b k e = absurd (cc)
+form_half None None true k e = refl
+form_half None None false true e = absurd (cc)
+form_half None None false false e = absurd (cc)
 
-form_jumps : (o : Option Label) (b : Bool) (to : Label) → form_by o b ≡ Jumps to → o ≡ Some to
-form_jumps (Some l) b to e = ap Some (jumps_same l to e)
+form_other : (o p : Option Label) (b k : Bool) → form_by o p b k ≡ Other → k ≡ true
+form_other (Some to) p b k e = absurd (cc)
+form_other None (Some to) b k e = absurd (cc)
+form_other None None true k e = absurd (cc)
+form_other None None false true e = refl
+form_other None None false false e = absurd (cc)
+
+form_jumps : (o p : Option Label) (b k : Bool) (to : Label) → form_by o p b k ≡ Jumps to → o ≡ Some to
+form_jumps (Some l) p b k to e = ap Some (jumps_same l to e)
   where
     jumps_same : (l to : Label) → Jumps l ≡ Jumps to → l ≡ to
     jumps_same l to e = cc
-form_jumps None true to e = absurd (cc)
-form_jumps None false to e = absurd (cc)
+form_jumps None (Some l) b k to e = absurd (cc)
+form_jumps None None true k to e = absurd (cc)
+form_jumps None None false true to e = absurd (cc)
+form_jumps None None false false to e = absurd (cc)
+
+form_leaps : (o p : Option Label) (b k : Bool) (to : Label) → form_by o p b k ≡ Leaps to → p ≡ Some to
+form_leaps (Some l) p b k to e = absurd (cc)
+form_leaps None (Some l) b k to e = ap Some (leaps_same l to e)
+  where
+    leaps_same : (l to : Label) → Leaps l ≡ Leaps to → l ≡ to
+    leaps_same l to e = cc
+form_leaps None None true k to e = absurd (cc)
+form_leaps None None false true to e = absurd (cc)
+form_leaps None None false false to e = absurd (cc)
+
+-- a skip where Z is 1, or where it is 0: it skips where the condition is the other one
+skip_way : (on holds : Bool) → ((holds ≡ not on) × (nat_eq (truth (not holds)) (truth on) ≡ true)) ⊎ ((holds ≡ on) × (nat_eq (truth (not holds)) (truth on) ≡ false))
+skip_way true true = inr (refl, refl)
+skip_way true false = inl (refl, refl)
+skip_way false true = inl (refl, refl)
+skip_way false false = inr (refl, refl)
+
+skip_counts : (s : Site) (on : Bool) → counted s (syms.Bit (skip_on on) (operands.Register Status) 2) + 0 ≡ 1
+skip_counts s true = refl
+skip_counts s false = refl
 
 short_is : (b : Bool) (o : Option Label) (to : Label) → cond b o None ≡ Some to → (b ≡ true) × (o ≡ Some to)
 short_is true o to e = (refl, e)
@@ -185,44 +217,49 @@ module _ (s : Site) (t : Machine) (wc : World Held) (calm : Calm s wc) (f : ℕ)
       subst (λ y. Left s f loops n (Do [] y ∷ Join ∷ c)) (sym (nothing_is x q))
       (refl, inl (tt, (n + 0, inl refl, left_to s f loops n (n + 0) c (omega arith) l)))
 
-  -- the test of a condition, and the skip over the jump behind it
-  head_goes : (test : Byte) (size : ℕ) (to : Label) (n : ℕ) (r : Registers) (x : core.Next) (d : Bool → core.Machine) → is_leaver (syms.Goto (targets.Label to)) ≡ false → Fits r → Has (block s f) n (head_code (test_code test size) to)
+  -- The test of a condition, and the skip over the jump behind it: the jump is taken where the condition holds, or where it
+  -- fails.
+  head_goes : (on : Bool) (test : Byte) (size : ℕ) (to : Label) (n : ℕ) (r : Registers) (x : core.Next) (d : Bool → core.Machine) → is_leaver (syms.Goto (targets.Label to)) ≡ false → Fits r → Has (block s f) n (head_code (skip_on on) (test_code test size) to)
       → is_own s.q f test size ≡ true → ((holds : Bool) → truth_in cm test size ≡ Some holds → x ≡ core.Goes (d holds)) → (truth_in cm test size ≡ None → x ≡ core.Stuck)
-      → ((r' : Registers) → Fits r' → Went s (at s t (thread s f (n + length (head_code (test_code test size) to)) ps r') m wc) (d true) 0 0)
-      → ((r' : Registers) → Fits r' → (j : ℕ) → n + length (head_code (test_code test size) to) ≡ suc j → Has (block s f) j (goto_code to) → Went s (at s t (thread s f j ps r') m wc) (d false) 0 (s.price (names.Copy f) j + 0))
+      → ((r' : Registers) → Fits r' → Went s (at s t (thread s f (n + length (head_code (skip_on on) (test_code test size) to)) ps r') m wc) (d (not on)) 0 0)
+      → ((r' : Registers) → Fits r' → (j : ℕ) → n + length (head_code (skip_on on) (test_code test size) to) ≡ suc j → Has (block s f) j (goto_code to) → Went s (at s t (thread s f j ps r') m wc) (d on) 0 (s.price (names.Copy f) j + 0))
       → After s 1 (4 * size + 16) x (at s t (thread s f n ps r) m wc)
-  head_goes test size to n r x d inner fits h own some none held failed = by (truth_in cm test size) refl
+  head_goes on test size to n r x d inner fits h own some none behind taken = by (truth_in cm test size) refl
     where
       by : (o : Option Bool) → truth_in cm test size ≡ o → After s 1 (4 * size + 16) x (at s t (thread s f n ps r) m wc)
       by None q = subst (λ y. After s 1 (4 * size + 16) y (at s t (thread s f n ps r) m wc)) (sym (none q)) tt
       by (Some holds) q =
           let tc = test_code test size in
-          let head = head_code tc to in
+          let skip = skip_code (skip_on on) to in
+          let head = head_code (skip_on on) tc to in
           let n' = n + length tc in
           let b = block s f in
-          let ht = has_front b n tc (jump_code to) h in
-          let hj = has_back b n tc (jump_code to) h in
-          let len : n + length head ≡ suc (suc n') = (let z = len_append tc (jump_code to) in omega (arith, z)) in
-          let tot : total s f n head ≡ total s f n tc + (s.price (names.Copy f) n' + (s.price (names.Copy f) (suc n') + 0)) = total_append s f n tc (jump_code to) in
+          let ht = has_front b n tc skip h in
+          let hj = has_back b n tc skip h in
+          let len : n + length head ≡ suc (suc n') = (let z = len_append tc skip in omega (arith, z)) in
+          let tot : total s f n head ≡ total s f n tc + (s.price (names.Copy f) n' + (s.price (names.Copy f) (suc n') + 0)) = total_append s f n tc skip in
           let le = test_length test size in
-          let lh : length head ≡ length tc + 2 = len_append tc (jump_code to) in
+          let lh : length head ≡ length tc + 2 = len_append tc skip in
           let d3 = dear_three head in
           let dr = dear s f user n (4 * size + 16) head h (straight_append tc _ _ (test_free test size) refl) (omega (arith, d3, lh, le)) in
           subst (λ y. After s 1 (4 * size + 16) y (at s t (thread s f n ps r) m wc)) (sym (some holds q))
           (weaken s (at s t (thread s f n ps r) m wc) (d holds) 1 (total s f n tc + (s.price (names.Copy f) n' + (s.price (names.Copy f) (suc n') + 0))) 1 (4 * size + 16) (omega arith) (omega (arith, dr, tot))
           (test_goes s t wc calm f user ps fit.root m fit.bytes (d holds) cm (is_live f pr (below st)) pr (below st) fit.agree test size n r 1 (s.price (names.Copy f) n' + (s.price (names.Copy f) (suc n') + 0)) holds fits own q ht
-          (λ r' fr z. skip_counted s t wc calm f ps user n' r' m (syms.Bit Btfsc (operands.Register Status) 2) (syms.Goto (targets.Label to)) (nat_eq r'.z 0) r' (d holds) 0 (s.price (names.Copy f) (suc n') + 0) hj.0 refl refl hj.1.0 refl inner (zero_clear s wc.inside f n' ps r' m)
-          (choose holds r' fr n' len hj.1 (nat_eq r'.z 0) (ap (λ y. nat_eq y 0) z)))))
+          (λ r' fr z. subst (λ lo. Went s (at s t (thread s f n' ps r') m wc) (d holds) lo (s.price (names.Copy f) n' + (s.price (names.Copy f) (suc n') + 0))) (skip_counts s on)
+          (skip_counted s t wc calm f ps user n' r' m (syms.Bit (skip_on on) (operands.Register Status) 2) (syms.Goto (targets.Label to)) (nat_eq r'.z (truth on)) r' (d holds) 0 (s.price (names.Copy f) (suc n') + 0) hj.0 refl refl refl hj.1.0 refl inner (zero_tested s on wc.inside f n' ps r' m)
+          (choose holds r' fr n' len hj.1 (nat_eq r'.z (truth on)) (ap (λ y. nat_eq y (truth on)) z) (skip_way on holds))))))
         where
-          choose : (holds : Bool) (r' : Registers) → Fits r' → (n' : ℕ) → n + length (head_code (test_code test size) to) ≡ suc (suc n') → Has (block s f) (suc n') (goto_code to) → (b : Bool) → b ≡ nat_eq (truth (not holds)) 0
+          choose : (holds : Bool) (r' : Registers) → Fits r' → (n' : ℕ) → n + length (head_code (skip_on on) (test_code test size) to) ≡ suc (suc n') → Has (block s f) (suc n') (goto_code to) → (b : Bool) → b ≡ nat_eq (truth (not holds)) (truth on)
+              → ((holds ≡ not on) × (nat_eq (truth (not holds)) (truth on) ≡ true)) ⊎ ((holds ≡ on) × (nat_eq (truth (not holds)) (truth on) ≡ false))
               → Went s (at s t (thread s f (if b then suc (suc n') else suc n') ps r') m wc) (d holds) 0 (s.price (names.Copy f) (suc n') + 0)
-          choose true r' fr n' len hg b e =
-              subst (λ y. Went s (at s t (thread s f (if y then suc (suc n') else suc n') ps r') m wc) (d true) 0 (s.price (names.Copy f) (suc n') + 0)) (sym e)
-              (weaken s (at s t (thread s f (suc (suc n')) ps r') m wc) (d true) 0 0 0 (s.price (names.Copy f) (suc n') + 0) (omega arith) (omega arith)
-              (subst (λ k. Went s (at s t (thread s f k ps r') m wc) (d true) 0 0) len (held r' fr)))
-          choose false r' fr n' len hg b e =
-              subst (λ y. Went s (at s t (thread s f (if y then suc (suc n') else suc n') ps r') m wc) (d false) 0 (s.price (names.Copy f) (suc n') + 0)) (sym e)
-              (failed r' fr (suc n') len hg)
+          choose holds r' fr n' len hg b e (inl w) =
+              subst (λ y. Went s (at s t (thread s f (if y then suc (suc n') else suc n') ps r') m wc) (d holds) 0 (s.price (names.Copy f) (suc n') + 0)) (sym (e ∙ w.1))
+              (subst (λ y. Went s (at s t (thread s f (suc (suc n')) ps r') m wc) (d y) 0 (s.price (names.Copy f) (suc n') + 0)) (sym w.0)
+              (weaken s (at s t (thread s f (suc (suc n')) ps r') m wc) (d (not on)) 0 0 0 (s.price (names.Copy f) (suc n') + 0) (omega arith) (omega arith)
+              (subst (λ k. Went s (at s t (thread s f k ps r') m wc) (d (not on)) 0 0) len (behind r' fr))))
+          choose holds r' fr n' len hg b e (inr w) =
+              subst (λ y. Went s (at s t (thread s f (if y then suc (suc n') else suc n') ps r') m wc) (d holds) 0 (s.price (names.Copy f) (suc n') + 0)) (sym (e ∙ w.1))
+              (subst (λ y. Went s (at s t (thread s f (suc n') ps r') m wc) (d y) 0 (s.price (names.Copy f) (suc n') + 0)) (sym w.0) (taken r' fr (suc n') len hg))
 
   -- what a choice leads to
   abbrev chosen_to : Tree → Tree → List Task → Bool → core.Machine
@@ -245,6 +282,20 @@ module _ (s : Site) (t : Machine) (wc : World Held) (calm : Calm s wc) (f : ℕ)
       weaken s (at s t (thread s f n ps r) m wc) (machine f pr c st cm wc) 1 (s.price (names.Copy f) n + 0) 0 (s.price (names.Copy f) n + 0) (omega arith) (omega arith)
       (jump s t wc calm f ps user n r m k j (machine f pr c st cm wc) 0 0 h.0 e l (past s t wc calm f ps j r m k (machine f pr c st cm wc) 0 0 l (left_goes (suc j) r c fits left)))
 
+  -- a part that is but a jump, which stands behind the skip
+  only_jump : (to : Label) (x : Tree) (g h : ℕ) (r : Registers) (c : List Task) → Fits r → sets_bytes x ≡ true → jump_target loops x ≡ Some to → Has (block s f) g (goto_code to) → h ≡ suc g → Left s f loops h c
+      → Went s (at s t (thread s f g ps r) m wc) (machine f pr (Do [] x ∷ Join ∷ c) st cm wc) 0 (s.price (names.Copy f) g + 0)
+  only_jump to x g h r c fits sb q hg e last =
+      let one : code s f loops g [] x ≡ goto_code to = jump_is s f loops g x to q in
+      weaken s (at s t (thread s f g ps r) m wc) (machine f pr (Do [] x ∷ Join ∷ c) st cm wc) 0 0 0 (s.price (names.Copy f) g + 0) (omega arith) (omega arith)
+      (left_goes g r (Do [] x ∷ Join ∷ c) fits (
+        sb,
+        inl (
+          subst (λ y. Has (block s f) g y) (sym one) hg,
+          subst (λ y. Left s f loops (g + length y) (Join ∷ c)) (sym one) (g + 1, inl refl, left_to s f loops h (g + 1) c (e ∙ omega arith) last),
+        ),
+      ))
+
   pub if_goes : (fm : IfForm) (test : Byte) (size : ℕ) (yea nay : Tree) (n : ℕ) (r : Registers) (c : List Task) → if_form loops yea nay ≡ fm → Fits r → sets_bytes yea ≡ true → sets_bytes nay ≡ true → is_own s.q f test size ≡ true
       → Has (block s f) n (if_code fm n (test_code test size) (λ k. code s f loops k [] yea) (λ k. code s f loops k [] nay))
       → Left s f loops (n + length (if_code fm n (test_code test size) (λ k. code s f loops k [] yea) (λ k. code s f loops k [] nay))) c
@@ -254,45 +305,51 @@ module _ (s : Site) (t : Machine) (wc : World Held) (calm : Calm s wc) (f : ℕ)
       let tc = test_code test size in
       let holds : ℕ → List Sym = (λ k. code s f loops k [] yea) in
       let fails : ℕ → List Sym = (λ k. code s f loops k [] nay) in
-      let hh = n + length (head_code tc (first_label n)) in
+      let hh = n + length (head_code Btfsc tc (first_label n)) in
       let j = hh + length (holds hh) in
       let k = n + length (middle_code n tc holds) in
       let z = k + length (fails k) in
       let i : IfParts b n tc (holds hh) (fails k) hh j k z = if_parts b n tc holds fails (bounds s f user) (test_free test size)
       (λ x. code_bounds (wide s f) (free_at s f) (ending s f) loops x [] yea) (λ x. code_bounds (wide s f) (free_at s f) (ending s f) loops x [] nay) h in
       let last : Left s f loops (suc z) c = left_to s f loops (n + length (if_code Whole n tc holds fails)) (suc z) c (if_length n tc holds fails) l in
-      head_goes test size (first_label n) n r (choice test size yea nay c) (chosen_to yea nay c) refl fits i.head own (made (truth_in cm test size) yea nay c) (λ e. ap (λ o. chosen o yea nay c f pr st cm wc) e)
+      head_goes false test size (first_label n) n r (choice test size yea nay c) (chosen_to yea nay c) refl fits i.head own (made (truth_in cm test size) yea nay c) (λ e. ap (λ o. chosen o yea nay c f pr st cm wc) e)
       (λ r' fr. left_goes hh r' (Do [] yea ∷ Join ∷ c) fr (by, inl (i.holds, (suc z, inr (2 * n + 1, z, i.out, i.found_second, i.end, stand_label s.g.program (names.Copy f) z (second_label n) i.end), last))))
       (λ r' fr g e hg. jump_left g (suc j) (2 * n) r' (Do [] nay ∷ Join ∷ c) fr hg i.found_first i.other
       (left_to s f loops k (suc (suc j)) (Do [] nay ∷ Join ∷ c) i.next (bn, inl (i.fails, (suc z, inl (stand_label s.g.program (names.Copy f) z (second_label n) i.end), last)))))
   if_goes Half test size yea nay n r c fq fits by bn own h l =
-      let b = block s f in
       let tc = test_code test size in
       let holds : ℕ → List Sym = (λ k. code s f loops k [] yea) in
-      let fails : ℕ → List Sym = (λ k. code s f loops k [] nay) in
-      let hh = n + length (head_code tc (second_label n)) in
+      let hh = n + length (head_code Btfsc tc (second_label n)) in
       let j = hh + length (holds hh) in
-      let i : HalfParts b n tc (holds hh) hh j = half_parts b n tc holds fails (bounds s f user) (test_free test size) (λ x. code_bounds (wide s f) (free_at s f) (ending s f) loops x [] yea) h in
-      let last : Left s f loops (suc j) c = left_to s f loops (n + length (if_code Half n tc holds fails)) (suc j) c (half_length n tc holds fails) l in
-      head_goes test size (second_label n) n r (choice test size yea nay c) (chosen_to yea nay c) refl fits i.head own (made (truth_in cm test size) yea nay c) (λ e. ap (λ o. chosen o yea nay c f pr st cm wc) e)
-      (λ r' fr. left_goes hh r' (Do [] yea ∷ Join ∷ c) fr (by, inl (i.holds, (suc j, inl (stand_label s.g.program (names.Copy f) j (second_label n) i.end), last))))
+      let i : HalfParts (block s f) Btfsc n tc (holds hh) hh j = half_parts (block s f) Btfsc n tc holds (bounds s f user) (test_free test size) (λ x. code_bounds (wide s f) (free_at s f) (ending s f) loops x [] yea) h in
+      let last : Left s f loops (suc j) c = left_to s f loops (n + length (half_code Btfsc n tc holds)) (suc j) c (half_length Btfsc n tc holds) l in
+      head_goes false test size (second_label n) n r (choice test size yea nay c) (chosen_to yea nay c) refl fits i.head own (made (truth_in cm test size) yea nay c) (λ e. ap (λ o. chosen o yea nay c f pr st cm wc) e)
+      (λ r' fr. left_goes hh r' (Do [] yea ∷ Join ∷ c) fr (by, inl (i.part, (suc j, inl (stand_label s.g.program (names.Copy f) j (second_label n) i.end), last))))
       (λ r' fr g e hg. jump_left g j (2 * n + 1) r' (Do [] nay ∷ Join ∷ c) fr hg i.found_second i.end
-      (nothing_left (suc j) nay c (form_half (short_jump loops yea nay) (is_nothing nay) fq) last))
-  if_goes (Jumps to) test size yea nay n r c fq fits by bn own h l =
+      (nothing_left (suc j) nay c (form_half (short_jump loops yea nay) (short_jump loops nay yea) (is_nothing nay) (is_nothing yea) fq) last))
+  if_goes Other test size yea nay n r c fq fits by bn own h l =
       let tc = test_code test size in
-      let sh = short_is (is_nothing yea) (jump_target loops nay) to (form_jumps (short_jump loops yea nay) (is_nothing nay) to fq) in
-      let last : Left s f loops (n + length (head_code tc to)) c = l in
-      head_goes test size to n r (choice test size yea nay c) (chosen_to yea nay c) (target_inner loops nay to sh.1) fits h own (made (truth_in cm test size) yea nay c) (λ e. ap (λ o. chosen o yea nay c f pr st cm wc) e)
-      (λ r' fr. left_goes (n + length (head_code tc to)) r' (Do [] yea ∷ Join ∷ c) fr (nothing_left (n + length (head_code tc to)) yea c sh.0 last))
-      (λ r' fr g e hg. let one : code s f loops g [] nay ≡ goto_code to = jump_is s f loops g nay to sh.1 in
-      weaken s (at s t (thread s f g ps r') m wc) (chosen_to yea nay c false) 0 0 0 (s.price (names.Copy f) g + 0) (omega arith) (omega arith)
-      (left_goes g r' (Do [] nay ∷ Join ∷ c) fr (
-        bn,
-        inl (
-          subst (λ x. Has (block s f) g x) (sym one) hg,
-          subst (λ x. Left s f loops (g + length x) (Join ∷ c)) (sym one) (g + 1, inl refl, left_to s f loops (n + length (head_code tc to)) (g + 1) c (e ∙ omega arith) last),
-        ),
-      )))
+      let fails : ℕ → List Sym = (λ k. code s f loops k [] nay) in
+      let hh = n + length (head_code Btfss tc (second_label n)) in
+      let j = hh + length (fails hh) in
+      let i : HalfParts (block s f) Btfss n tc (fails hh) hh j = half_parts (block s f) Btfss n tc fails (bounds s f user) (test_free test size) (λ x. code_bounds (wide s f) (free_at s f) (ending s f) loops x [] nay) h in
+      let last : Left s f loops (suc j) c = left_to s f loops (n + length (half_code Btfss n tc fails)) (suc j) c (half_length Btfss n tc fails) l in
+      head_goes true test size (second_label n) n r (choice test size yea nay c) (chosen_to yea nay c) refl fits i.head own (made (truth_in cm test size) yea nay c) (λ e. ap (λ o. chosen o yea nay c f pr st cm wc) e)
+      (λ r' fr. left_goes hh r' (Do [] nay ∷ Join ∷ c) fr (bn, inl (i.part, (suc j, inl (stand_label s.g.program (names.Copy f) j (second_label n) i.end), last))))
+      (λ r' fr g e hg. jump_left g j (2 * n + 1) r' (Do [] yea ∷ Join ∷ c) fr hg i.found_second i.end
+      (nothing_left (suc j) yea c (form_other (short_jump loops yea nay) (short_jump loops nay yea) (is_nothing nay) (is_nothing yea) fq) last))
+  if_goes (Jumps to) test size yea nay n r c fq fits by bn own h l =
+      let sh = short_is (is_nothing yea) (jump_target loops nay) to (form_jumps (short_jump loops yea nay) (short_jump loops nay yea) (is_nothing nay) (is_nothing yea) to fq) in
+      let hh = n + length (head_code Btfsc (test_code test size) to) in
+      head_goes false test size to n r (choice test size yea nay c) (chosen_to yea nay c) (target_inner loops nay to sh.1) fits h own (made (truth_in cm test size) yea nay c) (λ e. ap (λ o. chosen o yea nay c f pr st cm wc) e)
+      (λ r' fr. left_goes hh r' (Do [] yea ∷ Join ∷ c) fr (nothing_left hh yea c sh.0 l))
+      (λ r' fr g e hg. only_jump to nay g hh r' c fr bn sh.1 hg e l)
+  if_goes (Leaps to) test size yea nay n r c fq fits by bn own h l =
+      let sh = short_is (is_nothing nay) (jump_target loops yea) to (form_leaps (short_jump loops yea nay) (short_jump loops nay yea) (is_nothing nay) (is_nothing yea) to fq) in
+      let hh = n + length (head_code Btfss (test_code test size) to) in
+      head_goes true test size to n r (choice test size yea nay c) (chosen_to yea nay c) (target_inner loops yea to sh.1) fits h own (made (truth_in cm test size) yea nay c) (λ e. ap (λ o. chosen o yea nay c f pr st cm wc) e)
+      (λ r' fr. left_goes hh r' (Do [] nay ∷ Join ∷ c) fr (nothing_left hh nay c sh.0 l))
+      (λ r' fr g e hg. only_jump to yea g hh r' c fr by sh.1 hg e l)
 
   pub join_goes : (n : ℕ) (r : Registers) (c : List Task) → Fits r → Left s f loops n (Join ∷ c) → Went s (at s t (thread s f n ps r) m wc) (machine f pr c st cm wc) 0 4
   join_goes n r c fits l = go l.1

@@ -8,11 +8,12 @@ use Rattle.pic_world.specs.declared.Root.TheVariants.{Main, Isr}
 use Rattle.pic_world.specs.World.{World, arrived, is_due, entered}
 use Rattle.pic_world.proofs.WorldLaws.{arrived_again, arrived_inside, arrived_as, due_as, entered_as}
 use Rattle.core_code.specs.Bytes as bytes
-use Rattle.core_code.specs.Bytes.{Held, Number, without_frame}
+use Rattle.core_code.specs.Bytes.{Held, Number, Object, Fixed, FrameOf, without_frame}
 use Rattle.core_code.specs.Cost.{one_if, is_kept, load_cost, cost_of, leaving, least_of, task_most, least_task, step_most, step_least, context_cost}
 use Rattle.core_code.specs.Machine as core
 use Rattle.core_code.specs.Machine.{Task, Do, Put, PutBit, PutBack, Join, LoadFrom, StoreTo, Over, Waiting, InHandler, tasks, operate, act, may_interrupt, core_step, put}
 use Rattle.core_code.specs.Tree.{Tree, Set, Address, Copy, Load, Store, Unary, Binary, Convert, BitRead, BitWrite, Call, Leave, Many, If, Loop, Exit, Again}
+use Rattle.core_code.specs.declared.code.Byte.{Byte}
 use Rattle.core_code.specs.declared.code.Byte.TheVariants.{Device}
 use Rattle.sym_code.specs.Cost.{Prices, sure_prices, most_prices, thread_cost, step_cost, step_cost_at}
 use Rattle.sym_code.specs.Effect.{Thread, Memory, Port, Rests, effect, effect_rest, effect_at, root_of}
@@ -22,15 +23,16 @@ use Rattle.sym_code.specs.Machine.{Machine, running, settled, sym_step, sym_step
 use Rattle.sym_code.specs.Programs.{Position, lands, front}
 use Rattle.sym_code.specs.Registers.{Registers, Fits}
 use Rattle.sym_code.specs.declared.code.BlockName.TheVariants as names
-use Rattle.select_wide.specs.Links.{sets_bytes}
-use Rattle.select_trace.proofs.Truths.{and_left, and_right, if_true, if_false}
+use Rattle.select_wide.specs.Direct.{is_open}
+use Rattle.select_wide.specs.Links.{sets_bytes, ReachesLent}
+use Rattle.select_trace.proofs.Truths.{true_false, and_left, and_right, if_true, if_false}
 use Rattle.select_trace.proofs.Placed.{same_roots}
-use Rattle.select_trace.proofs.Sites.{Site, layout, show, core_of}
+use Rattle.select_trace.proofs.Sites.{Site, layout, IsLent, show, core_of}
 use Rattle.select_trace.proofs.Machines.{at, lower, Calm, inside_as, at_running, rests_still}
 use Rattle.select_trace.proofs.Live.{is_live, below, handler_user, main_root}
 use Rattle.select_trace.proofs.Memory.{Agree, agree_blank}
 use Rattle.select_trace.proofs.Blocks.{front_lands}
-use Rattle.select_trace.proofs.Relation.{place, Left, FallsIn, Here, Frames, AreBytes, Stands, Path, stop, further, Went, After}
+use Rattle.select_trace.proofs.Relation.{place, Left, FallsIn, Here, Frames, AreBytes, Stands, Opens, Path, stop, further, Went, After}
 use Rattle.select_trace.proofs.Steps.{thread, machine, Fit}
 use Rattle.select_trace.proofs.Control.{here_left, join_goes, when_after}
 use Rattle.select_trace.proofs.Loops.{end_goes, falls_exit, falls_many}
@@ -49,6 +51,15 @@ main_outside true e = absurd (cc)
 abbrev pub KnowsAll : Site → ℕ → bytes.Memory → List Task → Type 0
 KnowsAll s f cm (Do before t ∷ c) = Knows s f cm before
 KnowsAll s f cm _ = Unit {0}
+
+-- what the next task accesses by a pointer
+lent_load : (s : Site) (to : Byte) (object : Object) (offset k : ℕ) (c : List Task) → ReachesLent s.lent (LoadFrom to object offset k ∷ c) → IsLent s object
+lent_load s to (Fixed o) offset k c h = tt
+lent_load s to (FrameOf g) offset k c h = h.loads to g offset k c refl
+
+lent_store : (s : Site) (object : Object) (offset : ℕ) (from : Byte) (k : ℕ) (c : List Task) → ReachesLent s.lent (StoreTo object offset from k ∷ c) → IsLent s object
+lent_store s (Fixed o) offset from k c h = tt
+lent_store s (FrameOf g) offset from k c h = h.stores g offset from k c refl
 
 module _ (s : Site) (values : ValuesGo s) where
   -- ---- tasks
@@ -95,25 +106,25 @@ module _ (s : Site) (values : ValuesGo s) where
     over_outside loops fit e = main_outside wc.inside (sym fit.root ∙ ap s.q.root e ∙ main_root s)
 
     -- a task, where the thread is
-    task_goes : (loops : List ℕ) (th : Thread) (c : List Task) → KnowsAll s f cm c → th.stack ≡ ps → Fits th.registers → Fit s t wc f pr st loops ps cm m → Here s f loops th c → After s (least_task s.q c st) (task_most c st) (act (core_of s) c f pr st cm wc) (at s t th m wc)
+    task_goes : (loops : List ℕ) (th : Thread) (c : List Task) → KnowsAll s f cm c → ReachesLent s.lent c → th.stack ≡ ps → Fits th.registers → Fit s t wc f pr st loops ps cm m → Here s f loops th c → After s (least_task s.q c st) (task_most c st) (act (core_of s) c f pr st cm wc) (at s t th m wc)
     unfolding act
-    task_goes loops th [] known e fits fit h =
+    task_goes loops th [] known lent e fits fit h =
         subst (λ (x : Thread). After s 1 4 (core.at_end f pr st cm wc) (at s t x m wc)) (same_thread th h.0 h.1 h.2 e) (end_goes s t wc calm ps cm m f pr st loops h.0 th.registers fits fit h.3)
-    task_goes loops th (Do before x ∷ c) known e fits fit h =
+    task_goes loops th (Do before x ∷ c) known lent e fits fit h =
         subst (λ (y : Thread). After s (least_of s.q x st) (cost_of before x + leaving x st) (operate (core_of s) before x c f pr st cm wc) (at s t y m wc)) (same_thread th h.0 h.1 h.2 e) (do_goes loops before x h.0 th.registers c known fits fit h.3)
-    task_goes loops th (Put to held ∷ c) known e fits fit h =
+    task_goes loops th (Put to held ∷ c) known lent e fits fit h =
         subst (λ (y : Thread). After s (one_if (is_kept s.q.variable_bytes to)) 3 (put s.q to held c f pr st cm wc) (at s t y m wc)) (same_thread th h.0 h.1 h.2 e) (put_goes s t wc calm f pr st loops ps cm m fit to held h.0 th.registers c fits h.3.0 h.3.1 h.3.2)
-    task_goes loops th (PutBit to value ∷ c) known e fits fit h =
+    task_goes loops th (PutBit to value ∷ c) known lent e fits fit h =
         subst (λ (y : Thread). After s 0 4 (put s.q to (Number value) c f pr st cm wc) (at s t y m wc)) (same_thread th h.0 h.1 h.2 e) (put_bit_goes s t wc calm f pr st loops ps cm m fit to value h.0 th.registers c fits h.3)
-    task_goes loops th (PutBack a v ∷ c) known e fits fit h =
+    task_goes loops th (PutBack a v ∷ c) known lent e fits fit h =
         subst (λ (y : Thread). After s 0 3 (put s.q (Device a) (Number v) c f pr st cm wc) (at s t y m wc)) (back_thread th h.0 a v h.2 h.3 e) (put_back_goes s t wc calm f pr st loops ps cm m fit a v h.0 th.registers c fits h.1 h.4 h.5)
-    task_goes loops th (Join ∷ c) known e fits fit h =
+    task_goes loops th (Join ∷ c) known lent e fits fit h =
         subst (λ (y : Thread). Went s (at s t y m wc) (machine f pr c st cm wc) 0 4) (same_thread th h.0 h.1 h.2 e) (join_goes s t wc calm f pr st loops ps cm m fit h.0 th.registers c fits h.3)
-    task_goes loops th (LoadFrom to object offset k ∷ c) known e fits fit h =
-        subst (λ (y : Thread). After s (one_if (nat_lt 0 k)) (load_cost object) (core.load_from (core_of s) to object offset k c f pr st cm wc) (at s t y m wc)) (same_thread th h.0 h.1 h.2 e) (load_from_goes s t wc calm f pr st loops ps cm m fit to object offset k h.0 th.registers c fits h.3)
-    task_goes loops th (StoreTo object offset from k ∷ c) known e fits fit h =
-        subst (λ (y : Thread). After s (one_if (nat_lt 0 k)) 6 (core.store_to (core_of s) object offset from k c f pr st cm wc) (at s t y m wc)) (same_thread th h.0 h.1 h.2 e) (store_to_goes s t wc calm f pr st loops ps cm m fit object offset from k h.0 th.registers c fits h.3)
-    task_goes loops th (Over ∷ c) known e fits fit h =
+    task_goes loops th (LoadFrom to object offset k ∷ c) known lent e fits fit h =
+        subst (λ (y : Thread). After s (one_if (nat_lt 0 k)) (load_cost object) (core.load_from (core_of s) to object offset k c f pr st cm wc) (at s t y m wc)) (same_thread th h.0 h.1 h.2 e) (load_from_goes s t wc calm f pr st loops ps cm m fit to object offset k h.0 th.registers c fits h.3 (lent_load s to object offset k c lent))
+    task_goes loops th (StoreTo object offset from k ∷ c) known lent e fits fit h =
+        subst (λ (y : Thread). After s (one_if (nat_lt 0 k)) 6 (core.store_to (core_of s) object offset from k c f pr st cm wc) (at s t y m wc)) (same_thread th h.0 h.1 h.2 e) (store_to_goes s t wc calm f pr st loops ps cm m fit object offset from k h.0 th.registers c fits h.3 (lent_store s object offset from k c lent))
+    task_goes loops th (Over ∷ c) known lent e fits fit h =
         (rests_still s t wc calm th m (over_is th h.1 h.2 (over_outside loops fit h.0)), refl)
 
   -- ---- what has arrived
@@ -160,21 +171,26 @@ module _ (s : Site) (values : ValuesGo s) where
   unfolding step_cost
   cost_from c t t' q = ap (step_cost_at s.g c) (sym q)
 
+  opens_from : (t t' : Machine) → settled s.o t' ≡ settled s.o t → Opens s t' → Opens s t
+  opens_from t t' q clear due =
+      let ru : running t' ≡ running t = sym (same_running t') ∙ ap running q ∙ same_running t in
+      subst (λ (x : Thread). is_open s.hidden s.g.program x ≡ true) ru (clear (ap (λ (x : Machine). is_due x.world) q ∙ due))
+
   path_from : (d : core.Machine) (t t' u : Machine) (k lo hi : ℕ) → settled s.o t' ≡ settled s.o t → Path s t' k lo hi u → Stands s d u → Went s t d lo hi
   path_from d t t' u k lo hi q (stop t0 lo0 hi0 z) st = record { k = 0; u = t; path = stop t lo0 hi0 z; stands = stands_from d t t0 q st }
-  path_from d t t' u k lo hi q (further t0 v u0 k0 l m lo0 hi0 x y z r) st =
+  path_from d t t' u k lo hi q (further t0 v u0 k0 l m lo0 hi0 clear x y z r) st =
       let a = cost_from (sure_prices s.sure) t t0 q in
       let b = cost_from (most_prices s.price) t t0 q in
-      record { k = suc k0; u = u0; path = further t v u0 k0 l m lo0 hi0 (step_from t t0 q ∙ x) (omega (arith, a, y)) (omega (arith, b, z)) r; stands = st }
+      record { k = suc k0; u = u0; path = further t v u0 k0 l m lo0 hi0 (opens_from t t0 q clear) (step_from t t0 q ∙ x) (omega (arith, a, y)) (omega (arith, b, z)) r; stands = st }
 
   after_from : (lo hi : ℕ) (x : core.Next) (t t' : Machine) → settled s.o t' ≡ settled s.o t → After s lo hi x t' → After s lo hi x t
   after_from lo hi (core.Goes d) t t' q w = path_from d t t' w.u w.k lo hi q w.path w.stands
   after_from lo hi core.Stuck t t' q w = tt
   after_from lo hi core.Still t t' q w = (step_from t t' q ∙ w.0, w.1)
 
-  act_goes : (d : core.Machine) (t : Machine) → KnowsAll s d.copy d.memory d.code → Stands s d t → is_due (arrived s.o d.world) ≡ false
+  act_goes : (d : core.Machine) (t : Machine) → KnowsAll s d.copy d.memory d.code → ReachesLent s.lent d.code → Stands s d t → is_due (arrived s.o d.world) ≡ false
       → After s (least_task s.q d.code d.stack) (task_most d.code d.stack) (act (core_of s) d.code d.copy d.passing d.stack d.memory (arrived s.o d.world)) t
-  act_goes d t known st due =
+  act_goes d t known lent st due =
       let wc = arrived s.o d.world in
       let th = running t in
       let calm : Calm s wc = record { is_settled = arrived_again s.o d.world; quiet = due } in
@@ -195,7 +211,7 @@ module _ (s : Site) (values : ValuesGo s) where
         frames = st.frames;
       } in
       after_from (least_task s.q d.code d.stack) (task_most d.code d.stack) (act (core_of s) d.code d.copy d.passing d.stack d.memory wc) t t' back
-      (task_goes t wc calm d.copy d.passing d.stack th.stack d.memory t.memory st.loops th d.code known refl st.registers fit st.here)
+      (task_goes t wc calm d.copy d.passing d.stack th.stack d.memory t.memory st.loops th d.code known lent refl st.registers fit st.here)
 
   -- ---- the handler is entered
   entered_bytes : (w : World Held) → AreBytes w.control → AreBytes (entered w).control
@@ -242,7 +258,7 @@ module _ (s : Site) (values : ValuesGo s) where
       record {
         k = 1;
         u = u;
-        path = further t u u 0 0 0 1 100 step (omega (arith, le)) (omega (arith, mo)) (stop u 0 0 (omega arith));
+        path = further t u u 0 0 0 1 100 (λ none. absurd (true_false (is_due (arrived s.o t.world)) du none)) step (omega (arith, le)) (omega (arith, mo)) (stop u 0 0 (omega arith));
         stands = record {
           loops = [];
           world = ap (arrived s.o) uw ∙ arrived_as (shown (layout s)) s.o (entered wc);
@@ -267,12 +283,12 @@ module _ (s : Site) (values : ValuesGo s) where
         };
       })
 
-  pub step_goes : (d : core.Machine) (t : Machine) → KnowsAll s d.copy d.memory d.code → Stands s d t → After s (step_least (core_of s) d) (step_most (core_of s) d) (core_step (core_of s) d) t
+  pub step_goes : (d : core.Machine) (t : Machine) → KnowsAll s d.copy d.memory d.code → ReachesLent s.lent d.code → Stands s d t → After s (step_least (core_of s) d) (step_most (core_of s) d) (core_step (core_of s) d) t
   unfolding core_step step_least step_most
-  step_goes d t known st = by_due (is_due (arrived s.o d.world)) refl
+  step_goes d t known lent st = by_due (is_due (arrived s.o d.world)) refl
     where
       by_due : (b : Bool) → is_due (arrived s.o d.world) ≡ b
           → After s (if b then 1 else least_task s.q d.code d.stack) (if b then context_cost else task_most d.code d.stack)
           (if b then core.enter s.q s.q.handler d.code d.copy d.passing d.stack d.memory (arrived s.o d.world) else act (core_of s) d.code d.copy d.passing d.stack d.memory (arrived s.o d.world)) t
       by_due true q = enter_goes d t s.q.handler refl st q
-      by_due false q = act_goes d t known st q
+      by_due false q = act_goes d t known lent st q

@@ -140,10 +140,10 @@ module _ (s : Site) (t : Machine) (wc : World Held) (calm : Calm s wc) (f : ℕ)
       let c4 = dear_bit_register Bsf Status 7 [] in
       let dr = dear s f b_user n 14 (pointer_code p) h refl (omega (arith, c0, c1, c2, c3, c4)) in
       weaken s (at s t (thread s f n ps r) m wc) d 0 (q n + (q n1 + (q n2 + (q n3 + (q n4 + 0))))) 0 14 (omega arith) dr
-      (word s t wc calm f ps b_user n r m y0 r1 None d 0 (q n1 + (q n2 + (q n3 + (q n4 + 0)))) h.0 refl refl (movf_silent s wc.inside f n ps r m (operands.Byte p) k0 ac0)
-      (word s t wc calm f ps b_user n1 r1 m y1 r2 None d 0 (q n2 + (q n3 + (q n4 + 0))) h.1.0 refl refl (to_fsr s wc.inside f n1 ps r1 m)
-      (word s t wc calm f ps b_user n2 r2 m y2 r3 None d 0 (q n3 + (q n4 + 0)) h.1.1.0 refl refl (clears_irp s wc.inside f n2 ps r2 m)
-      (skip s t wc calm f ps b_user n3 r3 m y3 y4 (nat_eq (bit v1 0) 0) r3 d 0 (q n4 + 0) h.1.1.1.0 refl refl h.1.1.1.1.0 refl refl (bit_clear s wc.inside f n3 ps r3 m (byte_behind p 1) k1 ac1)
+      (word s t wc calm f ps b_user n r m y0 r1 None d 0 (q n1 + (q n2 + (q n3 + (q n4 + 0)))) h.0 refl refl refl (movf_silent s wc.inside f n ps r m (operands.Byte p) k0 ac0)
+      (word s t wc calm f ps b_user n1 r1 m y1 r2 None d 0 (q n2 + (q n3 + (q n4 + 0))) h.1.0 refl refl refl (to_fsr s wc.inside f n1 ps r1 m)
+      (word s t wc calm f ps b_user n2 r2 m y2 r3 None d 0 (q n3 + (q n4 + 0)) h.1.1.0 refl refl refl (clears_irp s wc.inside f n2 ps r2 m)
+      (skip s t wc calm f ps b_user n3 r3 m y3 y4 (nat_eq (bit v1 0) 0) r3 d 0 (q n4 + 0) h.1.1.1.0 refl refl refl h.1.1.1.1.0 refl refl (bit_clear s wc.inside f n3 ps r3 m (byte_behind p 1) k1 ac1)
       (by_bit (nat_eq (bit v1 0) 0) v1 r3 f3 f4 h.1.1.1.1.0 (ap (λ z. nat_eq z 0) (low_bit v1 v1s)) v1s (low_case v0 v1 a e0 e1 ad1) (high_case v0 v1 a e0 e1 ad1))))))
     where
       low_case : (v0 v1 a : ℕ) → v0 ≡ a % 256 → v1 ≡ a / 256 % 2 → a < 512 → v1 ≡ 0 → 256 * 0 + v0 ≡ a
@@ -159,7 +159,7 @@ module _ (s : Site) (t : Machine) (wc : World Held) (calm : Calm s wc) (f : ℕ)
           weaken s (at s t (thread s f (suc (suc (suc (suc (suc n))))) ps r3) m wc) d 0 0 0 (s.price (names.Copy f) (suc (suc (suc (suc n)))) + 0) (omega arith) (omega arith)
           (subst (λ k. Went s (at s t (thread s f k ps r3) m wc) d 0 0) (let z : n + 5 ≡ suc (suc (suc (suc (suc n)))) = omega arith in z) (go r3 f3 (low (same_nat v1 0 (sym e)))))
       by_bit false v1 r3 f3 f4 h e lt low high =
-          word s t wc calm f ps b_user (suc (suc (suc (suc n)))) r3 m (syms.Bit Bsf (operands.Register Status) 7) (record r3 { irp = 1 }) None d 0 0 h refl refl (sets_irp s wc.inside f (suc (suc (suc (suc n)))) ps r3 m)
+          word s t wc calm f ps b_user (suc (suc (suc (suc n)))) r3 m (syms.Bit Bsf (operands.Register Status) 7) (record r3 { irp = 1 }) None d 0 0 h refl refl refl (sets_irp s wc.inside f (suc (suc (suc (suc n)))) ps r3 m)
           (subst (λ k. Went s (at s t (thread s f k ps (record r3 { irp = 1 })) m wc) d 0 0) (let z : n + 5 ≡ suc (suc (suc (suc (suc n)))) = omega arith in z) (go (record r3 { irp = 1 }) f4 (high (one v1 lt (sym e)))))
         where
           one : (v : ℕ) → v < 2 → nat_eq v 0 ≡ false → v ≡ 1

@@ -1,12 +1,15 @@
 -- The parts of a condition and of a loop: where each stands, and where its labels are found.
 use Rattle.std.proofs.Common.{◌≡◌, ℕ, suc, ◌+◌, ◌*◌, ◌<◌, true, List, [], ◌∷◌, ◌++◌, length, Some, slice_get, refl, sym, ap, ◌∙◌, subst, arith}
 use Rattle.sym_code.specs.Programs.{label_from}
+use Rattle.sym_code.specs.declared.code.BitOperation.{BitOperation}
+use Rattle.sym_code.specs.declared.code.BitOperation.TheVariants.{Btfsc}
 use Rattle.sym_code.specs.declared.code.Label.{Label}
 use Rattle.sym_code.specs.declared.code.Sym.{Sym}
 use Rattle.sym_code.specs.declared.code.Sym.TheVariants as syms
 use Rattle.sym_code.specs.declared.code.Target.TheVariants as targets
-use Rattle.select_code.specs.Pieces.{first_label, second_label, label_code, goto_code, jump_code}
-use Rattle.select_code.specs.Selected.{Half, Whole, if_code, loop_code}
+use Rattle.select_code.specs.Pieces.{flag_code, first_label, second_label, label_code, goto_code}
+use Rattle.select_code.specs.Selected.{Whole, if_code, loop_code}
+use Rattle.select_code.specs.declared.pieces.Flag.TheVariants.{Zero}
 use Rattle.select_trace.proofs.Standing.{Has, moved, has_front, has_back}
 use Rattle.select_trace.proofs.Labels.{Bounds, unlabelled, free_append, Absent, absent_append, free_absent, differs, absent_under, found_at, len_append}
 
@@ -35,49 +38,56 @@ pub loop_length : (l : ℕ) (turn : List Sym) → l + length (loop_code l turn) 
 loop_length l turn = let q = len_append turn (label_code (second_label l)) in omega (arith, q)
 
 -- ---- conditions
--- the test and the jump behind it
-abbrev pub head_code : List Sym → Label → List Sym
-head_code test to = test ++ jump_code to
+-- a skip by Z, and a jump behind it
+abbrev pub skip_code : BitOperation → Label → List Sym
+skip_code op to = flag_code op Zero ++ goto_code to
 
--- with nothing to do where the test fails
-pub record HalfParts (b : List Sym) (n : ℕ) (test ys : List Sym) (h j : ℕ) : Type 0 where
-  pub head : Has b n (head_code test (second_label n))
-  pub holds : Has b h ys
+-- the test and the jump behind it
+abbrev pub head_code : BitOperation → List Sym → Label → List Sym
+head_code op test to = test ++ skip_code op to
+
+-- with nothing to do in one of both cases: the code of the other one, behind so many instructions
+abbrev pub half_code : BitOperation → ℕ → List Sym → (ℕ → List Sym) → List Sym
+half_code op n test part = let head = head_code op test (second_label n) in head ++ part (n + length head) ++ label_code (second_label n)
+
+pub record HalfParts (b : List Sym) (op : BitOperation) (n : ℕ) (test ys : List Sym) (h j : ℕ) : Type 0 where
+  pub head : Has b n (head_code op test (second_label n))
+  pub part : Has b h ys
   pub end : slice_get b j ≡ Some (syms.Label (second_label n))
   pub found_second : label_from b (second_label n) 0 ≡ Some j
 
-pub half_parts : (b : List Sym) (n : ℕ) (test : List Sym) (holds fails : ℕ → List Sym) → Bounds 0 0 b → unlabelled test ≡ true → ((k : ℕ) → Bounds (2 * k) k (holds k)) → Has b n (if_code Half n test holds fails)
-    → (let h = n + length (head_code test (second_label n)) in HalfParts b n test (holds h) h (h + length (holds h)))
-half_parts b n test holds fails bs free bounds has =
-    let head = head_code test (second_label n) in
+pub half_parts : (b : List Sym) (op : BitOperation) (n : ℕ) (test : List Sym) (part : ℕ → List Sym) → Bounds 0 0 b → unlabelled test ≡ true → ((k : ℕ) → Bounds (2 * k) k (part k)) → Has b n (half_code op n test part)
+    → (let h = n + length (head_code op test (second_label n)) in HalfParts b op n test (part h) h (h + length (part h)))
+half_parts b op n test part bs free bounds has =
+    let head = head_code op test (second_label n) in
     let h = n + length head in
-    let ys = holds h in
+    let ys = part h in
     let l2 = label_code (second_label n) in
     let hq = len_append head ys in
-    let tq = len_append test (jump_code (second_label n)) in
+    let tq = len_append test (skip_code op (second_label n)) in
     let lf : n + length (head ++ ys) ≡ h + length ys = omega (arith, hq) in
     let hf = has_front b n (head ++ ys) l2 has in
     let he : slice_get b (n + length (head ++ ys)) ≡ Some (syms.Label (second_label n)) = (has_back b n (head ++ ys) l2 has).0 in
     let ab : Absent (2 * n + 1) (head ++ ys) =
-    absent_append (2 * n + 1) head ys (free_absent (2 * n + 1) head (free_append test (jump_code (second_label n)) free refl)) (absent_under (2 * h) h (2 * n + 1) ys (omega (arith, tq)) (bounds h)) in
+    absent_append (2 * n + 1) head ys (free_absent (2 * n + 1) head (free_append test (skip_code op (second_label n)) free refl)) (absent_under (2 * h) h (2 * n + 1) ys (omega (arith, tq)) (bounds h)) in
     record {
       head = has_front b n head ys hf;
-      holds = has_back b n head ys hf;
+      part = has_back b n head ys hf;
       end = get_at b (n + length (head ++ ys)) (h + length ys) _ lf he;
       found_second = found_at b n (head ++ ys) (2 * n + 1) bs (omega arith) ab hf he ∙ ap Some lf;
     }
 
-pub half_length : (n : ℕ) (test : List Sym) (holds fails : ℕ → List Sym) → (let h = n + length (head_code test (second_label n)) in n + length (if_code Half n test holds fails) ≡ suc (h + length (holds h)))
-half_length n test holds fails =
-    let head = head_code test (second_label n) in
-    let ys = holds (n + length head) in
+pub half_length : (op : BitOperation) (n : ℕ) (test : List Sym) (part : ℕ → List Sym) → (let h = n + length (head_code op test (second_label n)) in n + length (half_code op n test part) ≡ suc (h + length (part h)))
+half_length op n test part =
+    let head = head_code op test (second_label n) in
+    let ys = part (n + length head) in
     let q = len_append (head ++ ys) (label_code (second_label n)) in
     let r = len_append head ys in
     omega (arith, q, r)
 
 -- the whole form: j is where the jump over the other part stands, k where that part begins, z where it ends
 pub record IfParts (b : List Sym) (n : ℕ) (test ys ns : List Sym) (h j k z : ℕ) : Type 0 where
-  pub head : Has b n (head_code test (first_label n))
+  pub head : Has b n (head_code Btfsc test (first_label n))
   pub holds : Has b h ys
   pub out : slice_get b j ≡ Some (syms.Goto (targets.Label (second_label n)))
   pub other : slice_get b (suc j) ≡ Some (syms.Label (first_label n))
@@ -89,12 +99,12 @@ pub record IfParts (b : List Sym) (n : ℕ) (test ys ns : List Sym) (h j k z : �
 
 -- what stands before the other part
 abbrev pub middle_code : ℕ → List Sym → (ℕ → List Sym) → List Sym
-middle_code n test holds = let head = head_code test (first_label n) in head ++ holds (n + length head) ++ goto_code (second_label n) ++ label_code (first_label n)
+middle_code n test holds = let head = head_code Btfsc test (first_label n) in head ++ holds (n + length head) ++ goto_code (second_label n) ++ label_code (first_label n)
 
 pub if_parts : (b : List Sym) (n : ℕ) (test : List Sym) (holds fails : ℕ → List Sym) → Bounds 0 0 b → unlabelled test ≡ true → ((k : ℕ) → Bounds (2 * k) k (holds k)) → ((k : ℕ) → Bounds (2 * k) k (fails k)) → Has b n (if_code Whole n test holds fails)
-    → (let h = n + length (head_code test (first_label n)) in let j = h + length (holds h) in let k = n + length (middle_code n test holds) in IfParts b n test (holds h) (fails k) h j k (k + length (fails k)))
+    → (let h = n + length (head_code Btfsc test (first_label n)) in let j = h + length (holds h) in let k = n + length (middle_code n test holds) in IfParts b n test (holds h) (fails k) h j k (k + length (fails k)))
 if_parts b n test holds fails bs free hb fb has =
-    let head = head_code test (first_label n) in
+    let head = head_code Btfsc test (first_label n) in
     let h = n + length head in
     let ys = holds h in
     let j = h + length ys in
@@ -107,7 +117,7 @@ if_parts b n test holds fails bs free hb fb has =
     let l1 = label_code (first_label n) in
     let l2 = label_code (second_label n) in
     let g2 = goto_code (second_label n) in
-    let q1 = len_append test (jump_code (first_label n)) in
+    let q1 = len_append test (skip_code Btfsc (first_label n)) in
     let q2 = len_append head ys in
     let q3 = len_append held g2 in
     let q4 = len_append out l1 in
@@ -122,7 +132,7 @@ if_parts b n test holds fails bs free hb fb has =
     let hheld = has_front b n held g2 hout in
     let he : slice_get b (n + length both) ≡ Some (syms.Label (second_label n)) = (has_back b n both l2 has).0 in
     let ho : slice_get b (n + length out) ≡ Some (syms.Label (first_label n)) = (has_back b n out l1 hmid).0 in
-    let ahead : (m : ℕ) → Absent m head = λ m. free_absent m head (free_append test (jump_code (first_label n)) free refl) in
+    let ahead : (m : ℕ) → Absent m head = λ m. free_absent m head (free_append test (skip_code Btfsc (first_label n)) free refl) in
     let ays : (m : ℕ) → m < 2 * h → Absent m ys = λ m lt. absent_under (2 * h) h m ys lt (hb h) in
     let ab1 : Absent (2 * n) out = absent_append (2 * n) held g2 (absent_append (2 * n) head ys (ahead (2 * n)) (ays (2 * n) (omega (arith, q1)))) (refl, tt) in
     let ab2 : Absent (2 * n + 1) both =

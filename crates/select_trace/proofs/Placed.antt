@@ -64,7 +64,7 @@ module _ (q : Program) (copies : ℕ) (reaches : ℕ → ℕ → Bool) (l : Data
                   above : nat_le b a ≡ false → a < b
                   above f = grind arith
 
-  is_object : (n k : ℕ) → k < static_bytes q n → (n < length l.objects) × (k < (object l n).size)
+  pub is_object : (n k : ℕ) → k < static_bytes q n → (n < length l.objects) × (k < (object l n).size)
   is_object n k lt =
       let h = object_in n k lt in
       let o = of.objects in

@@ -158,10 +158,10 @@ module _ (s : Site) (t : Machine) (wc : World Held) (calm : Calm s wc) (f : ℕ)
       let la5 = dear_literal Movlw (literals.Low place) (syms.Movwf (operands.Byte to) ∷ syms.Literal Movlw (literals.High place) ∷ syms.Movwf (operands.Byte (byte_behind to 1)) ∷ []) in
       let dr = dear s f a_user n 8 (address_code to place) h refl (omega (arith, d3a, d3b, la4, la5)) in
       weaken s (at s t (thread s f n ps r) m wc) d 0 (p n + (p n1 + (p n2 + (p n3 + 0)))) 0 8 (omega arith) dr
-      (word s t wc calm f ps a_user n r m (syms.Literal Movlw (literals.Low place)) r0 None d 0 (p n1 + (p n2 + (p n3 + 0))) h.0 refl refl (literal_is s wc.inside f n ps r m (literals.Low place))
-      (word s t wc calm f ps a_user n1 r0 m (syms.Movwf (operands.Byte to)) r0 (write k0 v0) d 0 (p n2 + (p n3 + 0)) h.1.0 refl refl (movwf_silent s wc.inside f n1 ps r0 m (operands.Byte to) k0 ac0)
-      (word s t wc calm f ps a_user n2 r0 m1 (syms.Literal Movlw (literals.High place)) r1 None d 0 (p n3 + 0) h.1.1.0 refl refl (literal_is s wc.inside f n2 ps r0 m1 (literals.High place))
-      (word s t wc calm f ps a_user n3 r1 m1 (syms.Movwf (operands.Byte (byte_behind to 1))) r1 (write k1 v1) d 0 0 h.1.1.1.0 refl refl (movwf_silent s wc.inside f n3 ps r1 m1 (operands.Byte (byte_behind to 1)) k1 ac1)
+      (word s t wc calm f ps a_user n r m (syms.Literal Movlw (literals.Low place)) r0 None d 0 (p n1 + (p n2 + (p n3 + 0))) h.0 refl refl refl (literal_is s wc.inside f n ps r m (literals.Low place))
+      (word s t wc calm f ps a_user n1 r0 m (syms.Movwf (operands.Byte to)) r0 (write k0 v0) d 0 (p n2 + (p n3 + 0)) h.1.0 refl refl refl (movwf_silent s wc.inside f n1 ps r0 m (operands.Byte to) k0 ac0)
+      (word s t wc calm f ps a_user n2 r0 m1 (syms.Literal Movlw (literals.High place)) r1 None d 0 (p n3 + 0) h.1.1.0 refl refl refl (literal_is s wc.inside f n2 ps r0 m1 (literals.High place))
+      (word s t wc calm f ps a_user n3 r1 m1 (syms.Movwf (operands.Byte (byte_behind to 1))) r1 (write k1 v1) d 0 0 h.1.1.1.0 refl refl refl (movwf_silent s wc.inside f n3 ps r1 m1 (operands.Byte (byte_behind to 1)) k1 ac1)
       (stays s (at s t (thread s f (suc n3) ps r1) m2 wc) d (stands_at s t wc f pr c st loops cm2 m2 (thread s f (suc n3) ps r1) fit' f1
       (here_left s f loops (suc n3) ps r1 c (left_to s f loops (n + 4) (suc n3) c (omega arith) l))))))))
 

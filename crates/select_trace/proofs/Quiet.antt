@@ -1,4 +1,4 @@
--- Runs without an event are paths.
+-- Runs without an event and without an access through FSR are paths.
 use Rattle.std.proofs.Common.{◌≡◌, ℕ, zero, suc, ◌+◌, Bool, true, false, if◌then◌else◌, Option, Some, None, refl, sym, ap, ◌∙◌, subst, arith}
 use Rattle.pic_world.specs.World.{World}
 use Rattle.core_code.specs.Bytes.{Held}
@@ -7,10 +7,13 @@ use Rattle.sym_code.specs.Cost.{Prices, most_prices, instruction_cost, thread_co
 use Rattle.sym_code.specs.Effect.{Thread, Memory, Rest, Write, written, Effect, Stuck, Quiet, Reads, Writes, Leaves, Ends, Rests, effect, effect_rest, effect_at}
 use Rattle.sym_code.specs.Machine.{Machine, lands_at}
 use Rattle.sym_code.specs.Programs.{Position}
-use Rattle.sym_code.specs.Quiet.{Scene, quiet_by, quiet_if, quiet_run, price_at, price_if, quiet_cost}
+use Rattle.sym_code.specs.Quiet.{Scene, quiet_by, quiet_run, price_at, price_if, quiet_cost}
+use Rattle.select_wide.specs.Direct.{is_indirect, next_of, direct_if, direct_run}
+use Rattle.select_wide.proofs.Direct.{step_direct, run_quiet, direct_open}
 use Rattle.select_trace.proofs.Sites.{Site}
 use Rattle.select_trace.proofs.Machines.{at, Calm, quiet_goes, cost_at}
 use Rattle.select_trace.proofs.Relation.{most_at, further, Went, weaken}
+use Rattle.select_trace.proofs.Steps.{opens_at}
 
 -- what a step without an event is
 record Stepped (s : Site) (i : Bool) (a b : Scene) : Type 0 where
@@ -68,8 +71,8 @@ stepped_by s i a b (Ends x) e q = absurd (no_scene b q)
 stepped_by s i a b Rests e q = absurd (no_scene b q)
 
 module _ (s : Site) (t : Machine) (wc : World Held) (calm : Calm s wc) (d : core.Machine) where
-  step_goes : (a b : Scene) (lo hi : ℕ) → Stepped s wc.inside a b → Went s (at s t b.thread b.memory wc) d lo hi → Went s (at s t a.thread a.memory wc) d lo (price_at s.price a.thread.at + hi)
-  step_goes a b lo hi st went =
+  step_goes : (a b : Scene) (lo hi : ℕ) → Stepped s wc.inside a b → is_indirect (next_of s.g.program a.thread.at) ≡ false → Went s (at s t b.thread b.memory wc) d lo hi → Went s (at s t a.thread a.memory wc) d lo (price_at s.price a.thread.at + hi)
+  step_goes a b lo hi st direct went =
       let v = at s t a.thread a.memory wc in
       let u = at s t st.thread (written st.write a.memory) wc in
       let go : Went s u d lo hi = subst (λ (z : Scene). Went s (at s t z.thread z.memory wc) d lo hi) st.end went in
@@ -81,24 +84,25 @@ module _ (s : Site) (t : Machine) (wc : World Held) (calm : Calm s wc) (d : core
       record {
         k = suc go.k;
         u = go.u;
-        path = further v u go.u go.k lo hi lo (price_at s.price a.thread.at + hi) (quiet_goes s t wc calm a.thread a.memory st.thread st.write st.is_quiet st.lands) (omega arith) (omega (arith, mo)) go.path;
+        path = further v u go.u go.k lo hi lo (price_at s.price a.thread.at + hi) (opens_at s t a.thread a.memory wc (direct_open s.hidden s.g.program a.thread st.rest direct)) (quiet_goes s t wc calm a.thread a.memory st.thread st.write st.is_quiet st.lands) (omega arith) (omega (arith, mo)) go.path;
         stands = go.stands;
       }
 
-  -- so many steps without an event, and then what follows
-  pub quiet_path : (n : ℕ) (a b : Scene) (lo hi : ℕ) → quiet_run s.g wc.inside n a ≡ Some b → Went s (at s t b.thread b.memory wc) d lo hi → Went s (at s t a.thread a.memory wc) d lo (quiet_cost s.g s.price wc.inside n a + hi)
-  unfolding quiet_run quiet_cost
+  -- so many steps, and then what follows
+  pub quiet_path : (n : ℕ) (a b : Scene) (lo hi : ℕ) → direct_run s.g wc.inside n a ≡ Some b → Went s (at s t b.thread b.memory wc) d lo hi → Went s (at s t a.thread a.memory wc) d lo (quiet_cost s.g s.price wc.inside n a + hi)
+  unfolding direct_run quiet_cost
   quiet_path zero a b lo hi q went =
       let e : a ≡ b = some_scene a b q in
       subst (λ (z : Scene). Went s (at s t z.thread z.memory wc) d lo (0 + hi)) (sym e) (weaken s (at s t b.thread b.memory wc) d lo hi lo (0 + hi) (omega arith) (omega arith) went)
-  quiet_path (suc n) a b lo hi q went = by (quiet_run s.g wc.inside n a) refl q (λ c e lo' hi' w. quiet_path n a c lo' hi' e w)
+  quiet_path (suc n) a b lo hi q went = by (direct_run s.g wc.inside n a) refl q (λ c e lo' hi' w. quiet_path n a c lo' hi' e w)
     where
-      by : (o : Option Scene) → quiet_run s.g wc.inside n a ≡ o → quiet_if s.g wc.inside o ≡ Some b
-          → ((c : Scene) → quiet_run s.g wc.inside n a ≡ Some c → (lo' hi' : ℕ) → Went s (at s t c.thread c.memory wc) d lo' hi' → Went s (at s t a.thread a.memory wc) d lo' (quiet_cost s.g s.price wc.inside n a + hi'))
+      by : (o : Option Scene) → direct_run s.g wc.inside n a ≡ o → direct_if s.g wc.inside o ≡ Some b
+          → ((c : Scene) → direct_run s.g wc.inside n a ≡ Some c → (lo' hi' : ℕ) → Went s (at s t c.thread c.memory wc) d lo' hi' → Went s (at s t a.thread a.memory wc) d lo' (quiet_cost s.g s.price wc.inside n a + hi'))
           → Went s (at s t a.thread a.memory wc) d lo (quiet_cost s.g s.price wc.inside n a + price_if s.price (quiet_run s.g wc.inside n a) + hi)
       by None e q ih = absurd (no_scene b q)
       by (Some c) e q ih =
-          let st = stepped_by s wc.inside c b (effect s.g wc.inside c.thread c.memory) refl q in
-          let p : price_if s.price (quiet_run s.g wc.inside n a) ≡ price_at s.price c.thread.at = ap (price_if s.price) e in
+          let x = step_direct s.g wc.inside c b q in
+          let st = stepped_by s wc.inside c b (effect s.g wc.inside c.thread c.memory) refl x.1 in
+          let p : price_if s.price (quiet_run s.g wc.inside n a) ≡ price_at s.price c.thread.at = ap (price_if s.price) (run_quiet s.g wc.inside n a c e) in
           weaken s (at s t a.thread a.memory wc) d lo (quiet_cost s.g s.price wc.inside n a + (price_at s.price c.thread.at + hi)) lo (quiet_cost s.g s.price wc.inside n a + price_if s.price (quiet_run s.g wc.inside n a) + hi) (omega arith) (omega (arith, p))
-          (ih c e lo (price_at s.price c.thread.at + hi) (step_goes c b lo hi st went))
+          (ih c e lo (price_at s.price c.thread.at + hi) (step_goes c b lo hi st x.0 went))

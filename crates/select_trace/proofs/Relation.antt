@@ -1,7 +1,7 @@
 -- Which states of symbolic code stand for which states of byte code, and paths between them.
-use Rattle.std.proofs.Common.{◌≡◌, ◌⊎◌, ℕ, zero, suc, ◌+◌, ◌<◌, ◌≤◌, true, List, [], ◌∷◌, ◌++◌, length, Option, Some, None, slice_get, arith}
+use Rattle.std.proofs.Common.{◌≡◌, ◌⊎◌, ℕ, zero, suc, ◌+◌, ◌<◌, ◌≤◌, true, false, List, [], ◌∷◌, ◌++◌, length, Option, Some, None, slice_get, arith}
 use Rattle.pic_world.specs.Control.{Control}
-use Rattle.pic_world.specs.World.{arrived}
+use Rattle.pic_world.specs.World.{arrived, is_due}
 use Rattle.core_code.specs.Bytes.{Object, byte_in, behind}
 use Rattle.core_code.specs.Machine as core
 use Rattle.core_code.specs.Machine.{Task, Do, Put, PutBit, PutBack, Join, LoadFrom, StoreTo, Over, Waiting, InLoop, InCall, InHandler}
@@ -24,6 +24,7 @@ use Rattle.sym_code.specs.declared.code.Sym.TheVariants as syms
 use Rattle.sym_code.specs.declared.code.Target.TheVariants as targets
 use Rattle.select_code.specs.Pieces.{first_label, second_label}
 use Rattle.select_code.specs.Selected.{short_list}
+use Rattle.select_wide.specs.Direct.{is_open}
 use Rattle.select_wide.specs.Links.{sets_bytes}
 use Rattle.select_wide.specs.Pointers.{load_byte_code, store_byte_code}
 use Rattle.select_trace.proofs.Standing.{Has}
@@ -184,10 +185,14 @@ least_at s t = step_cost s.g (sure_prices s.sure) s.o t
 abbrev pub most_at : Site → Machine → ℕ
 most_at s t = step_cost s.g (most_prices s.price) s.o t
 
+-- an instruction that is carried out next accesses no hidden byte through FSR
+abbrev pub Opens : Site → Machine → Type 0
+Opens s t = is_due (arrived s.o t.world) ≡ false → is_open s.hidden s.g.program (running t) ≡ true
+
 -- so many steps, that cost at least and at most so much
 pub data Path (s : Site) : Machine → ℕ → ℕ → ℕ → Machine → Type 0 where
   stop : (t : Machine) (lo hi : ℕ) → lo ≤ 0 → Path s t 0 lo hi t
-  further : (t v u : Machine) (k l m lo hi : ℕ) → sym_step s.g s.e s.o t ≡ sym_machine.Goes v → lo ≤ least_at s t + l → most_at s t + m ≤ hi → Path s v k l m u → Path s t (suc k) lo hi u
+  further : (t v u : Machine) (k l m lo hi : ℕ) → Opens s t → sym_step s.g s.e s.o t ≡ sym_machine.Goes v → lo ≤ least_at s t + l → most_at s t + m ≤ hi → Path s v k l m u → Path s t (suc k) lo hi u
 
 pub record Went (s : Site) (t : Machine) (d : core.Machine) (lo hi : ℕ) : Type 0 where
   pub k : ℕ
@@ -197,7 +202,7 @@ pub record Went (s : Site) (t : Machine) (d : core.Machine) (lo hi : ℕ) : Type
 
 weaken_path : (s : Site) (t u : Machine) (k lo hi lo' hi' : ℕ) → lo' ≤ lo → hi ≤ hi' → Path s t k lo hi u → Path s t k lo' hi' u
 weaken_path s t u k lo hi lo' hi' a b (stop t' lo0 hi0 z) = stop t' lo' hi' (omega arith)
-weaken_path s t u k lo hi lo' hi' a b (further t' v u' k' l m lo0 hi0 x y z r) = further t' v u' k' l m lo' hi' x (omega arith) (omega arith) r
+weaken_path s t u k lo hi lo' hi' a b (further t' v u' k' l m lo0 hi0 clear x y z r) = further t' v u' k' l m lo' hi' clear x (omega arith) (omega arith) r
 
 pub weaken : (s : Site) (t : Machine) (d : core.Machine) (lo hi lo' hi' : ℕ) → lo' ≤ lo → hi ≤ hi' → Went s t d lo hi → Went s t d lo' hi'
 weaken s t d lo hi lo' hi' a b w = record { k = w.k; u = w.u; path = weaken_path s t w.u w.k lo hi lo' hi' a b w.path; stands = w.stands }

@@ -15,20 +15,21 @@ use Rattle.core_code.specs.Runs.{most_by, least_by}
 use Rattle.core_code.specs.declared.code.Byte.TheVariants.{Static, Frame, Result, Device}
 use Rattle.sym_code.specs.Correct.{IsBegun}
 use Rattle.sym_code.specs.Cost.{Prices, sure_prices, most_prices, cost_by, step_cost}
-use Rattle.sym_code.specs.Effect.{Memory}
+use Rattle.sym_code.specs.Effect.{Thread, Memory}
 use Rattle.sym_code.specs.Layout.{shown}
 use Rattle.sym_code.specs.Machine as sym_machine
-use Rattle.sym_code.specs.Machine.{Machine, gone, sym_step, sym_run, sym_start}
+use Rattle.sym_code.specs.Machine.{Machine, gone, running, settled, sym_step, sym_run, sym_start}
 use Rattle.sym_code.specs.Registers.{Registers}
 use Rattle.sym_code.specs.Runs as sym_runs
-use Rattle.select_wide.specs.Links.{IsFirst, Selects}
+use Rattle.select_wide.specs.Direct.{is_open}
+use Rattle.select_wide.specs.Links.{IsFirst, ReachesLent, StaysOpen, Selects, SelectsOpen}
 use Rattle.select_trace.proofs.Truths.{lt_of}
 use Rattle.select_trace.proofs.Placed as placed
 use Rattle.select_trace.proofs.Placed.{slot}
 use Rattle.select_trace.proofs.Sites.{Site, layout, show, core_of}
 use Rattle.select_trace.proofs.Live.{is_live, below, main_user, main_root}
 use Rattle.select_trace.proofs.Memory.{InPlace, Agrees, Agree}
-use Rattle.select_trace.proofs.Relation.{Stands, least_at, most_at, Path, stop, further, After}
+use Rattle.select_trace.proofs.Relation.{Stands, Opens, least_at, most_at, Path, stop, further, After}
 use Rattle.select_trace.proofs.Control.{here_left}
 use Rattle.select_trace.proofs.Calls.{body_left}
 use Rattle.select_trace.proofs.Values.{ValuesGo}
@@ -68,6 +69,9 @@ module _ (s : Site) (values : ValuesGo s) (known : (n : ℕ) → KnowsAll s (cor
   abbrev run : ℕ → Machine
   run k = sym_run s.g s.e s.o k t
 
+  abbrev opens_one : ℕ → Type 0
+  opens_one k = Opens s (run k)
+
   abbrev upper : ℕ → core.Machine
   upper n = core_moment (core_of s) n
 
@@ -103,6 +107,7 @@ module _ (s : Site) (values : ValuesGo s) (known : (n : ℕ) → KnowsAll s (cor
   record Reached (j i lo hi : ℕ) (u : Machine) : Type 0 where
     here : run i ≡ u
     goes : (x : ℕ) → j ≤ x → x < i → goes_at x
+    opens : (x : ℕ) → j ≤ x → x < i → opens_one x
     least : lower_least j + lo ≤ lower_least i
     most : lower_most i ≤ lower_most j + hi
 
@@ -112,10 +117,11 @@ module _ (s : Site) (values : ValuesGo s) (known : (n : ℕ) → KnowsAll s (cor
       record {
         here = ap run ij ∙ h;
         goes = λ y a b. absurd (omega arith);
+        opens = λ y a b. absurd (omega arith);
         least = subst (λ y. lower_least j + lo0 ≤ lower_least y) (sym ij) (omega arith);
         most = subst (λ y. lower_most y ≤ lower_most j + hi0) (sym ij) (omega arith);
       }
-  path_run x u k lo hi j i h q (further x0 v u0 k0 l m lo0 hi0 st a b r) =
+  path_run x u k lo hi j i h q (further x0 v u0 k0 l m lo0 hi0 clear st a b r) =
       let now : sym_step s.g s.e s.o (run j) ≡ sym_machine.Goes v = ap (sym_step s.g s.e s.o) h ∙ st in
       let more = path_run v u0 k0 l m (suc j) i (next_run j v now) (q ∙ omega arith) r in
       let ml = more.least in
@@ -127,6 +133,7 @@ module _ (s : Site) (values : ValuesGo s) (known : (n : ℕ) → KnowsAll s (cor
       record {
         here = more.here;
         goes = λ y c w. ⊎_elim (λ le. more.goes y le w) (λ eq. subst goes_at eq (v, now)) (turn j y c);
+        opens = λ y c w. ⊎_elim (λ le. more.opens y le w) (λ eq. subst opens_one eq (subst (Opens s) (sym h) clear)) (turn j y c);
         least = omega arith;
         most = omega arith;
       }
@@ -153,6 +160,7 @@ module _ (s : Site) (values : ValuesGo s) (known : (n : ℕ) → KnowsAll s (cor
     starts : at 0 ≡ 0
     same : (x : ℕ) → x ≤ n → Same (at x) x
     goes : (k : ℕ) → k < at n → goes_at k
+    opens : (k : ℕ) → k < at n → opens_one k
     paces : (x : ℕ) → x < n → Pace x (at x) (at (suc x))
     stands : Stands s (upper n) (run (at n))
 
@@ -170,13 +178,14 @@ module _ (s : Site) (values : ValuesGo s) (known : (n : ℕ) → KnowsAll s (cor
     starts = refl;
     same = λ x le. subst (λ y. Same 0 y) (let q : 0 ≡ x = omega arith in q) (same_trace (upper 0) (run 0) st);
     goes = λ k lt. absurd (omega arith);
+    opens = λ k lt. absurd (omega arith);
     paces = λ x lt. absurd (omega arith);
     stands = st;
   }
 
   -- one more
-  extend : (n : ℕ) (k : Kept n) (i : ℕ) → Pace n (k.at n) i → ((x : ℕ) → k.at n ≤ x → x < i → goes_at x) → Stands s (upper (suc n)) (run i) → Kept (suc n)
-  extend n k i pace goes st =
+  extend : (n : ℕ) (k : Kept n) (i : ℕ) → Pace n (k.at n) i → ((x : ℕ) → k.at n ≤ x → x < i → goes_at x) → ((x : ℕ) → k.at n ≤ x → x < i → opens_one x) → Stands s (upper (suc n)) (run i) → Kept (suc n)
+  extend n k i pace goes opens st =
       let at' : ℕ → ℕ = λ x. cond (leb x n) (k.at x) i in
       let low : (x : ℕ) → x ≤ n → k.at x ≡ at' x = λ x le. sym (ap (λ b. cond b (k.at x) i) (le_true x n le)) in
       let high : i ≡ at' (suc n) = sym (ap (λ b. cond b (k.at (suc n)) i) (le_false n)) in
@@ -187,7 +196,8 @@ module _ (s : Site) (values : ValuesGo s) (known : (n : ℕ) → KnowsAll s (cor
             (λ a. subst (λ y. Same y x) (low x a) (k.same x a))
             (λ q. subst (λ y. Same (at' y) y) (sym q) (subst (λ y. Same y (suc n)) high (same_trace (upper (suc n)) (run i) st)))
             (le_split x n le);
-        goes = λ x lt. earlier x (subst (λ y. x < y) (sym high) lt);
+        goes = λ x lt. earlier goes_at k.goes goes x (subst (λ y. x < y) (sym high) lt);
+        opens = λ x lt. earlier opens_one k.opens opens x (subst (λ y. x < y) (sym high) lt);
         paces = λ x lt. ⊎_elim
             (λ a. subst (λ y. Pace x y (at' (suc x))) (low x (omega arith)) (subst (λ y. Pace x (k.at x) y) (low (suc x) a) (k.paces x a)))
             (λ q. subst (λ y. Pace y (at' y) (at' (suc y))) (sym q) (subst (λ y. Pace n y (at' (suc n))) (low n (omega arith)) (subst (λ y. Pace n (k.at n) y) high pace)))
@@ -195,12 +205,12 @@ module _ (s : Site) (values : ValuesGo s) (known : (n : ℕ) → KnowsAll s (cor
         stands = subst (λ y. Stands s (upper (suc n)) (run y)) high st;
       }
     where
-      earlier : (x : ℕ) → x < i → goes_at x
-      earlier x lt = by_cases (leb (suc x) (k.at n)) refl
+      earlier : (P : ℕ → Type 0) → ((x : ℕ) → x < k.at n → P x) → ((x : ℕ) → k.at n ≤ x → x < i → P x) → (x : ℕ) → x < i → P x
+      earlier P before later x lt = by_cases (leb (suc x) (k.at n)) refl
         where
-          by_cases : (b : Bool) → leb (suc x) (k.at n) ≡ b → goes_at x
-          by_cases true q = k.goes x (grind (arith, common_steps))
-          by_cases false q = goes x (grind (arith, common_steps)) lt
+          by_cases : (b : Bool) → leb (suc x) (k.at n) ≡ b → P x
+          by_cases true q = before x (grind (arith, common_steps))
+          by_cases false q = later x (grind (arith, common_steps)) lt
 
   one_more : (n : ℕ) (k : Kept n) (x : core.Next) → core_step (core_of s) (upper n) ≡ x → goes_on x ≡ true → After s (step_least (core_of s) (upper n)) (step_most (core_of s) (upper n)) x (run (k.at n)) → Kept (suc n)
   one_more n k core.Stuck q ne a = absurd (cc)
@@ -209,7 +219,7 @@ module _ (s : Site) (values : ValuesGo s) (known : (n : ℕ) → KnowsAll s (cor
       let cl = core_least n in
       let cm = core_most n in
       let zl : step_least (core_of s) (upper n) ≡ 0 = a.1 in
-      extend n k (k.at n) (record { rises = omega arith; fast = omega arith; slow = omega arith }) (λ x b c. absurd (omega arith))
+      extend n k (k.at n) (record { rises = omega arith; fast = omega arith; slow = omega arith }) (λ x b c. absurd (omega arith)) (λ x b c. absurd (omega arith))
       (subst (λ c. Stands s c (run (k.at n))) (sym cn) k.stands)
   one_more n k (core.Goes c) q ne w =
       let cn : upper (suc n) ≡ c = core_next n ∙ ap (core.gone (upper n)) q in
@@ -219,14 +229,17 @@ module _ (s : Site) (values : ValuesGo s) (known : (n : ℕ) → KnowsAll s (cor
       let r = path_run (run (k.at n)) w.u w.k (step_least (core_of s) (upper n)) (step_most (core_of s) (upper n)) (k.at n) i refl refl w.path in
       let rl = r.least in
       let rm = r.most in
-      extend n k i (record { rises = omega arith; fast = omega arith; slow = omega arith }) r.goes
+      extend n k i (record { rises = omega arith; fast = omega arith; slow = omega arith }) r.goes r.opens
       (subst (λ y. Stands s y (run i)) (sym cn) (subst (λ y. Stands s c y) (sym r.here) w.stands))
 
-  keeps_on : Stands s (upper 0) (run 0) → (n : ℕ) → Goes (core_runs.run_of (core_of s)) n → Kept n
-  keeps_on st zero ok = begins st
-  keeps_on st (suc n) ok =
-      let k = keeps_on st n (λ i lt. ok i (omega arith)) in
-      one_more n k (core_step (core_of s) (upper n)) refl (ok n (omega arith)) (step_goes s values (upper n) (run (k.at n)) (known n) k.stands)
+  abbrev lent_up : ℕ → Type 0
+  lent_up n = (i : ℕ) → i ≤ n → ReachesLent s.lent (upper i).code
+
+  keeps_on : Stands s (upper 0) (run 0) → (n : ℕ) → Goes (core_runs.run_of (core_of s)) n → lent_up n → Kept n
+  keeps_on st zero ok lent = begins st
+  keeps_on st (suc n) ok lent =
+      let k = keeps_on st n (λ i lt. ok i (omega arith)) (λ i le. lent i (omega arith)) in
+      one_more n k (core_step (core_of s) (upper n)) refl (ok n (omega arith)) (step_goes s values (upper n) (run (k.at n)) (known n) (lent n (omega arith)) k.stands)
 
   still_after : (lo hi : ℕ) (x : core.Next) (u : Machine) → is_still x ≡ true → After s lo hi x u → sym_step s.g s.e s.o u ≡ sym_machine.Still
   still_after lo hi core.Still u q a = a.0
@@ -236,8 +249,12 @@ module _ (s : Site) (values : ValuesGo s) (known : (n : ℕ) → KnowsAll s (cor
   abbrev Link : ℕ → Type 0
   Link n = Follows (event_as (shown (layout s))) (core_runs.run_of (core_of s)) (sym_runs.weighed_of s.g s.price s.sure s.e s.o t) n
 
-  follows_of : (n : ℕ) → Kept n → (link : Link n) × IsSlow (event_as (shown (layout s))) (core_runs.run_of (core_of s)) (sym_runs.weighed_of s.g s.price s.sure s.e s.o t) n link
-  follows_of n k = (
+  same_running : (u : Machine) → running (settled s.o u) ≡ running u
+  unfolding arrived
+  same_running u = refl
+
+  follows_of : (n : ℕ) → Kept n → ReachesLent s.lent (upper n).code → (link : Link n) × IsSlow (event_as (shown (layout s))) (core_runs.run_of (core_of s)) (sym_runs.weighed_of s.g s.price s.sure s.e s.o t) n link × StaysOpen s.hidden s.g s.e s.o t (link.at n)
+  follows_of n k lent = (
     record {
       at = k.at;
       starts = k.starts;
@@ -245,9 +262,10 @@ module _ (s : Site) (values : ValuesGo s) (known : (n : ℕ) → KnowsAll s (cor
       goes = λ x lt. let g = k.goes x lt in ap sym_runs.goes_on g.1;
       same = k.same;
       fast = all_pairs (λ i j. lower_most (k.at j) + most_by (core_of s) i ≤ lower_most (k.at i) + most_by (core_of s) j) (λ x. omega arith) (λ x y z a b. omega arith) n (λ x lt. (k.paces x lt).fast);
-      rests = λ q. ap sym_runs.is_still (still_after (step_least (core_of s) (upper n)) (step_most (core_of s) (upper n)) (core_step (core_of s) (upper n)) (run (k.at n)) q (step_goes s values (upper n) (run (k.at n)) (known n) k.stands));
+      rests = λ q. ap sym_runs.is_still (still_after (step_least (core_of s) (upper n)) (step_most (core_of s) (upper n)) (core_step (core_of s) (upper n)) (run (k.at n)) q (step_goes s values (upper n) (run (k.at n)) (known n) lent k.stands));
     },
     all_pairs (λ i j. lower_least (k.at i) + least_by (core_of s) j ≤ lower_least (k.at j) + least_by (core_of s) i) (λ x. omega arith) (λ x y z a b. omega arith) n (λ x lt. (k.paces x lt).slow),
+    λ i lt due. subst (λ (x : Thread). is_open s.hidden s.g.program x ≡ true) (sym (same_running (run i))) (k.opens i lt due),
   )
 
 -- ---- the start
@@ -298,8 +316,16 @@ unfolding core_run sym_run
 at_zero s c t st = st
 
 -- What selection promises, where the code of operators gives their values.
+pub opens_law : ((s : Site) → ValuesGo s) → SelectsOpen
+opens_law values q copies bodies reaches g price sure chosen lent hidden shows o input e r m entries b n ok stays =
+    let s : Site = record { q = q; copies = copies; bodies = bodies; reaches = reaches; g = g; price = price; sure = sure; chosen = chosen; e = e; o = o; entries = entries; input = input; lent = lent; hidden = hidden; shows = shows } in
+    let t = sym_start g.program r m in
+    let kept = keeps_on s (values s) (known_moment s) t (at_zero s (core_start (core_of s)) t (starts_stand s r m b)) n ok stays in
+    follows_of s (values s) (known_moment s) t n kept (stays n (omega arith))
+
+-- where nothing is hidden, and each frame counts as lent
 pub selects_law : ((s : Site) → ValuesGo s) → Selects
 selects_law values q copies bodies reaches g price sure chosen o input e r m entries b n ok =
-    let s : Site = record { q = q; copies = copies; bodies = bodies; reaches = reaches; g = g; price = price; sure = sure; chosen = chosen; e = e; o = o; entries = entries; input = input } in
-    let t = sym_start g.program r m in
-    follows_of s (values s) (known_moment s) t n (keeps_on s (values s) (known_moment s) t (at_zero s (core_start (core_of s)) t (starts_stand s r m b)) n ok)
+    let law = opens_law values q copies bodies reaches g price sure chosen (λ c. true) (λ k. false) (record { objects = λ c offset k lt in_size e. refl; frames = λ c offset k lent in_size e. refl }) o input e r m entries b n ok
+    (λ i le. record { loads = λ to c offset k rest e. refl; stores = λ c offset from k rest e. refl }) in
+    (law.0, law.1)

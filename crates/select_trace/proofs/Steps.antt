@@ -15,13 +15,14 @@ use Rattle.sym_code.specs.Layout.{shown}
 use Rattle.sym_code.specs.Machine as sym_machine
 use Rattle.sym_code.specs.Machine.{Machine, sym_step}
 use Rattle.sym_code.specs.Marks.{is_marked}
-use Rattle.sym_code.specs.Programs.{Position, position, is_word, lands, stand, onward, label_from}
+use Rattle.sym_code.specs.Programs.{Position, position, fetched, is_word, lands, stand, onward, label_from}
 use Rattle.sym_code.specs.Registers.{Registers, Fits}
 use Rattle.sym_code.specs.declared.code.BlockName.TheVariants as names
 use Rattle.sym_code.specs.declared.code.Label.TheVariants.{Inner}
 use Rattle.sym_code.specs.declared.code.Sym.{Sym}
 use Rattle.sym_code.specs.declared.code.Sym.TheVariants as syms
 use Rattle.sym_code.specs.declared.code.Target.TheVariants as targets
+use Rattle.select_wide.specs.Direct.{clears, is_open}
 use Rattle.select_trace.proofs.Truths.{if_true, or_left}
 use Rattle.select_trace.proofs.Standing.{Has, stand_word, stand_label}
 use Rattle.select_trace.proofs.Sites.{Site, layout}
@@ -29,7 +30,7 @@ use Rattle.select_trace.proofs.Machines.{at, lower, Calm, inside_as, running_at,
 use Rattle.select_trace.proofs.Live.{IsUser, is_live, below, Passing, Chain}
 use Rattle.select_trace.proofs.Memory.{Agree}
 use Rattle.select_trace.proofs.Blocks.{block, is_leaver, next_lands, here_lands}
-use Rattle.select_trace.proofs.Relation.{place, Here, Frames, AreBytes, Stands, least_at, most_at, stop, further, Went, weaken}
+use Rattle.select_trace.proofs.Relation.{place, Here, Frames, AreBytes, Stands, Opens, least_at, most_at, stop, further, Went, weaken}
 use Rattle.select_trace.proofs.Prices.{dear_words, most_is}
 
 abbrev pub thread : Site → ℕ → ℕ → List Position → Registers → Thread
@@ -148,6 +149,13 @@ effect_word s i f n ps r m x h w =
     ∙ effect_some s.g i th m (position (names.Copy f) n)
     ∙ ap (effect_if s.g i (position (names.Copy f) n) th m) h
 
+-- a thread that accesses no hidden byte through FSR next
+pub opens_at : (s : Site) (t : Machine) (th : Thread) (m : Memory) (wc : World Held) → is_open s.hidden s.g.program th ≡ true → Opens s (at s t th m wc)
+opens_at s t th m wc clear due = subst (λ (x : Thread). is_open s.hidden s.g.program x ≡ true) (sym (running_at s t th m wc)) clear
+
+pub open_word : (s : Site) (f n : ℕ) (ps : List Position) (r : Registers) (x : Sym) → slice_get (block s f) n ≡ Some x → is_word (Some x) ≡ true → clears s.hidden r (Some x) ≡ true → is_open s.hidden s.g.program (thread s f n ps r) ≡ true
+open_word s f n ps r x h w clear = ap (λ (p : Position). clears s.hidden r (fetched s.g.program p)) (stand_word s.g.program (names.Copy f) n x h w) ∙ ap (clears s.hidden r) h ∙ clear
+
 -- what an effect that isn't the handler's end costs
 abbrev pub IsPlain : Effect → Type 0
 IsPlain y = (c : Prices) (p : Position) → instruction_cost c (Some p) y ≡ c.word p.block p.index
@@ -161,9 +169,9 @@ module _ (s : Site) (t : Machine) (wc : World Held) (calm : Calm s wc) (f : ℕ)
       ∙ ap (λ (p : Position). c.word p.block p.index) (stand_word s.g.program (names.Copy f) n x h w)
 
   -- an instruction that goes to v, and then what follows
-  pub word_to : (u : IsUser s f) (v : Machine) (n : ℕ) (r : Registers) (m : Memory) (x : Sym) (y : Effect) (d : core.Machine) (lo hi : ℕ) → slice_get (block s f) n ≡ Some x → is_word (Some x) ≡ true → effect_of s.g wc.inside (position (names.Copy f) n) (thread s f n ps r) m x ≡ y → IsPlain y
+  pub word_to : (u : IsUser s f) (v : Machine) (n : ℕ) (r : Registers) (m : Memory) (x : Sym) (y : Effect) (d : core.Machine) (lo hi : ℕ) → slice_get (block s f) n ≡ Some x → is_word (Some x) ≡ true → clears s.hidden r (Some x) ≡ true → effect_of s.g wc.inside (position (names.Copy f) n) (thread s f n ps r) m x ≡ y → IsPlain y
       → sym_step s.g s.e s.o (at s t (thread s f n ps r) m wc) ≡ sym_machine.Goes v → Went s v d lo hi → Went s (at s t (thread s f n ps r) m wc) d (counted s x + lo) (s.price (names.Copy f) n + hi)
-  word_to u v n r m x y d lo hi h w q plain step went =
+  word_to u v n r m x y d lo hi h w clear q plain step went =
       let th = thread s f n ps r in
       let a : least_at s (at s t th m wc) ≡ s.sure (names.Copy f) n = cost_at s t wc calm th m (sure_prices s.sure) ∙ word_cost (sure_prices s.sure) n r m x y h w q plain in
       let b : most_at s (at s t th m wc) ≡ s.price (names.Copy f) n = cost_at s t wc calm th m (most_prices s.price) ∙ word_cost (most_prices s.price) n r m x y h w q plain in
@@ -171,32 +179,32 @@ module _ (s : Site) (t : Machine) (wc : World Held) (calm : Calm s wc) (f : ℕ)
       record {
         k = suc went.k;
         u = went.u;
-        path = further (at s t th m wc) v went.u went.k lo hi (counted s x + lo) (s.price (names.Copy f) n + hi) step (omega (arith, a, counts)) (omega (arith, b)) went.path;
+        path = further (at s t th m wc) v went.u went.k lo hi (counted s x + lo) (s.price (names.Copy f) n + hi) (opens_at s t th m wc (open_word s f n ps r x h w clear)) step (omega (arith, a, counts)) (omega (arith, b)) went.path;
         stands = went.stands;
       }
 
   -- an instruction without an event
-  pub word_quiet : (u : IsUser s f) (n : ℕ) (r : Registers) (m : Memory) (x : Sym) (th' : Thread) (wr : Option Write) (d : core.Machine) (lo hi : ℕ) → slice_get (block s f) n ≡ Some x → is_word (Some x) ≡ true
+  pub word_quiet : (u : IsUser s f) (n : ℕ) (r : Registers) (m : Memory) (x : Sym) (th' : Thread) (wr : Option Write) (d : core.Machine) (lo hi : ℕ) → slice_get (block s f) n ≡ Some x → is_word (Some x) ≡ true → clears s.hidden r (Some x) ≡ true
       → effect_of s.g wc.inside (position (names.Copy f) n) (thread s f n ps r) m x ≡ Quiet th' wr → sym_machine.lands_at s.g.program th'.at ≡ true
       → Went s (at s t th' (written wr m) wc) d lo hi → Went s (at s t (thread s f n ps r) m wc) d (counted s x + lo) (s.price (names.Copy f) n + hi)
-  word_quiet u n r m x th' wr d lo hi h w q l went =
-      word_to u (at s t th' (written wr m) wc) n r m x (Quiet th' wr) d lo hi h w q (λ c p. refl)
+  word_quiet u n r m x th' wr d lo hi h w clear q l went =
+      word_to u (at s t th' (written wr m) wc) n r m x (Quiet th' wr) d lo hi h w clear q (λ c p. refl)
       (quiet_goes s t wc calm (thread s f n ps r) m th' wr (effect_word s wc.inside f n ps r m x h w ∙ q) l) went
 
   -- that goes on behind it
-  pub word_counted : (u : IsUser s f) (n : ℕ) (r : Registers) (m : Memory) (x : Sym) (r' : Registers) (wr : Option Write) (d : core.Machine) (lo hi : ℕ) → slice_get (block s f) n ≡ Some x → is_word (Some x) ≡ true → is_leaver x ≡ false
+  pub word_counted : (u : IsUser s f) (n : ℕ) (r : Registers) (m : Memory) (x : Sym) (r' : Registers) (wr : Option Write) (d : core.Machine) (lo hi : ℕ) → slice_get (block s f) n ≡ Some x → is_word (Some x) ≡ true → clears s.hidden r (Some x) ≡ true → is_leaver x ≡ false
       → effect_of s.g wc.inside (position (names.Copy f) n) (thread s f n ps r) m x ≡ Quiet (thread s f (n + 1) ps r') wr
       → Went s (at s t (thread s f (suc n) ps r') (written wr m) wc) d lo hi → Went s (at s t (thread s f n ps r) m wc) d (counted s x + lo) (s.price (names.Copy f) n + hi)
-  word_counted u n r m x r' wr d lo hi h w l q went =
-      word_quiet u n r m x (thread s f (suc n) ps r') wr d lo hi h w (q ∙ ap (λ k. Quiet (thread s f k ps r') wr) (omega arith)) (next_lands s f u n x h l) went
+  word_counted u n r m x r' wr d lo hi h w clear l q went =
+      word_quiet u n r m x (thread s f (suc n) ps r') wr d lo hi h w clear (q ∙ ap (λ k. Quiet (thread s f k ps r') wr) (omega arith)) (next_lands s f u n x h l) went
 
   -- the same, where it isn't asked whether the instruction counts
-  pub word : (u : IsUser s f) (n : ℕ) (r : Registers) (m : Memory) (x : Sym) (r' : Registers) (wr : Option Write) (d : core.Machine) (lo hi : ℕ) → slice_get (block s f) n ≡ Some x → is_word (Some x) ≡ true → is_leaver x ≡ false
+  pub word : (u : IsUser s f) (n : ℕ) (r : Registers) (m : Memory) (x : Sym) (r' : Registers) (wr : Option Write) (d : core.Machine) (lo hi : ℕ) → slice_get (block s f) n ≡ Some x → is_word (Some x) ≡ true → clears s.hidden r (Some x) ≡ true → is_leaver x ≡ false
       → effect_of s.g wc.inside (position (names.Copy f) n) (thread s f n ps r) m x ≡ Quiet (thread s f (n + 1) ps r') wr
       → Went s (at s t (thread s f (suc n) ps r') (written wr m) wc) d lo hi → Went s (at s t (thread s f n ps r) m wc) d lo (s.price (names.Copy f) n + hi)
-  word u n r m x r' wr d lo hi h w l q went =
+  word u n r m x r' wr d lo hi h w clear l q went =
       weaken s (at s t (thread s f n ps r) m wc) d (counted s x + lo) (s.price (names.Copy f) n + hi) lo (s.price (names.Copy f) n + hi) (omega arith) (omega arith)
-      (word_counted u n r m x r' wr d lo hi h w l q went)
+      (word_counted u n r m x r' wr d lo hi h w clear l q went)
 
   pub onward_is : (n : ℕ) (y : Sym) (b : Bool) → slice_get (block s f) (suc n) ≡ Some y → is_word (Some y) ≡ true → onward s.g.program (position (names.Copy f) n) b ≡ place s f (if b then suc (suc n) else suc n)
   onward_is n y false h w = ap (λ k. stand s.g.program (position (names.Copy f) k)) (omega arith)
@@ -210,22 +218,22 @@ module _ (s : Site) (t : Machine) (wc : World Held) (calm : Calm s wc) (f : ℕ)
   skip_lands u n x y true h l k j = next_lands s f u (suc n) y k j
 
   -- a skip over the instruction y
-  pub skip_counted : (u : IsUser s f) (n : ℕ) (r : Registers) (m : Memory) (x y : Sym) (b : Bool) (r' : Registers) (d : core.Machine) (lo hi : ℕ) → slice_get (block s f) n ≡ Some x → is_word (Some x) ≡ true → is_leaver x ≡ false
+  pub skip_counted : (u : IsUser s f) (n : ℕ) (r : Registers) (m : Memory) (x y : Sym) (b : Bool) (r' : Registers) (d : core.Machine) (lo hi : ℕ) → slice_get (block s f) n ≡ Some x → is_word (Some x) ≡ true → clears s.hidden r (Some x) ≡ true → is_leaver x ≡ false
       → slice_get (block s f) (suc n) ≡ Some y → is_word (Some y) ≡ true → is_leaver y ≡ false
       → effect_of s.g wc.inside (position (names.Copy f) n) (thread s f n ps r) m x ≡ Quiet (record { rest = None; at = Some (onward s.g.program (position (names.Copy f) n) b); stack = ps; registers = r' }) None
       → Went s (at s t (thread s f (if b then suc (suc n) else suc n) ps r') m wc) d lo hi → Went s (at s t (thread s f n ps r) m wc) d (counted s x + lo) (s.price (names.Copy f) n + hi)
-  skip_counted u n r m x y b r' d lo hi h w l k v j q went =
-      word_quiet u n r m x (thread s f (if b then suc (suc n) else suc n) ps r') None d lo hi h w
+  skip_counted u n r m x y b r' d lo hi h w clear l k v j q went =
+      word_quiet u n r m x (thread s f (if b then suc (suc n) else suc n) ps r') None d lo hi h w clear
       (q ∙ ap (λ p. Quiet (record { rest = None; at = Some p; stack = ps; registers = r' }) None) (onward_is n y b k v))
       (skip_lands u n x y b h l k j) went
 
-  pub skip : (u : IsUser s f) (n : ℕ) (r : Registers) (m : Memory) (x y : Sym) (b : Bool) (r' : Registers) (d : core.Machine) (lo hi : ℕ) → slice_get (block s f) n ≡ Some x → is_word (Some x) ≡ true → is_leaver x ≡ false
+  pub skip : (u : IsUser s f) (n : ℕ) (r : Registers) (m : Memory) (x y : Sym) (b : Bool) (r' : Registers) (d : core.Machine) (lo hi : ℕ) → slice_get (block s f) n ≡ Some x → is_word (Some x) ≡ true → clears s.hidden r (Some x) ≡ true → is_leaver x ≡ false
       → slice_get (block s f) (suc n) ≡ Some y → is_word (Some y) ≡ true → is_leaver y ≡ false
       → effect_of s.g wc.inside (position (names.Copy f) n) (thread s f n ps r) m x ≡ Quiet (record { rest = None; at = Some (onward s.g.program (position (names.Copy f) n) b); stack = ps; registers = r' }) None
       → Went s (at s t (thread s f (if b then suc (suc n) else suc n) ps r') m wc) d lo hi → Went s (at s t (thread s f n ps r) m wc) d lo (s.price (names.Copy f) n + hi)
-  skip u n r m x y b r' d lo hi h w l k v j q went =
+  skip u n r m x y b r' d lo hi h w clear l k v j q went =
       weaken s (at s t (thread s f n ps r) m wc) d (counted s x + lo) (s.price (names.Copy f) n + hi) lo (s.price (names.Copy f) n + hi) (omega arith) (omega arith)
-      (skip_counted u n r m x y b r' d lo hi h w l k v j q went)
+      (skip_counted u n r m x y b r' d lo hi h w clear l k v j q went)
 
   pub goto_is : (i : Bool) (n : ℕ) (r : Registers) (m : Memory) (k j : ℕ) → label_from (block s f) (Inner k) 0 ≡ Some j
       → effect_of s.g i (position (names.Copy f) n) (thread s f n ps r) m (syms.Goto (targets.Label (Inner k))) ≡ Quiet (thread s f j ps r) None
@@ -238,7 +246,7 @@ module _ (s : Site) (t : Machine) (wc : World Held) (calm : Calm s wc) (f : ℕ)
   pub jump : (u : IsUser s f) (n : ℕ) (r : Registers) (m : Memory) (k j : ℕ) (d : core.Machine) (lo hi : ℕ) → slice_get (block s f) n ≡ Some (syms.Goto (targets.Label (Inner k))) → label_from (block s f) (Inner k) 0 ≡ Some j → slice_get (block s f) j ≡ Some (syms.Label (Inner k))
       → Went s (at s t (thread s f j ps r) m wc) d lo hi → Went s (at s t (thread s f n ps r) m wc) d (1 + lo) (s.price (names.Copy f) n + hi)
   jump u n r m k j d lo hi h e l went =
-      word_quiet u n r m (syms.Goto (targets.Label (Inner k))) (thread s f j ps r) None d lo hi h refl (goto_is wc.inside n r m k j e) (here_lands s f u j (syms.Label (Inner k)) l) went
+      word_quiet u n r m (syms.Goto (targets.Label (Inner k))) (thread s f j ps r) None d lo hi h refl refl (goto_is wc.inside n r m k j e) (here_lands s f u j (syms.Label (Inner k)) l) went
 
   -- where a label stands the code goes on behind it
   pub past : (n : ℕ) (r : Registers) (m : Memory) (k : ℕ) (d : core.Machine) (lo hi : ℕ) → slice_get (block s f) n ≡ Some (syms.Label (Inner k))

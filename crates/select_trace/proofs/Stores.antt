@@ -25,6 +25,7 @@ use Rattle.sym_code.specs.declared.code.Operand.{Operand}
 use Rattle.sym_code.specs.declared.code.Operand.TheVariants as operands
 use Rattle.sym_code.specs.declared.code.Sym.{Sym}
 use Rattle.sym_code.specs.declared.code.Sym.TheVariants as syms
+use Rattle.select_wide.specs.Direct.{clears}
 use Rattle.select_trace.proofs.Truths.{and_left, and_right, both, or_right, or_left, not_false, lt_of, nat_same}
 use Rattle.select_trace.proofs.Placed.{slot, same_roots}
 use Rattle.select_trace.proofs.Sites.{Site, layout}
@@ -126,18 +127,18 @@ module _ (s : Site) (t : Machine) (wc : World Held) (calm : Calm s wc) (f : ℕ)
           (λ r. frame_access s wc.inside true r g y th (sym ro ∙ fit.root)))
 
   -- an instruction that writes such a byte
-  pub private_goes : (to : Byte) (held : Held) (x : Sym) (v n : ℕ) (r r' : Registers) (c : List Task) (pr' : Option ℕ) (cm' : bytes.Memory) → Fits r' → v < 256 → Agrees s to held v → slice_get (block s f) n ≡ Some x → is_word (Some x) ≡ true → is_leaver x ≡ false
+  pub private_goes : (to : Byte) (held : Held) (x : Sym) (v n : ℕ) (r r' : Registers) (c : List Task) (pr' : Option ℕ) (cm' : bytes.Memory) → Fits r' → v < 256 → Agrees s to held v → slice_get (block s f) n ≡ Some x → is_word (Some x) ≡ true → clears s.hidden r (Some x) ≡ true → is_leaver x ≡ false
       → effect_of s.g wc.inside (position (names.Copy f) n) (thread s f n ps r) m x ≡ Quiet (thread s f (n + 1) ps r') (write (slot (layout s) to) v)
       → Soon s f loops r' (suc n) c → Passing s f pr' → Agree s (is_live f pr' (below st)) cm' m → valid_on s (is_live f pr' (below st)) to ≡ true
       → Went s (at s t (thread s f n ps r) m wc) (machine f pr' c st (bytes.with_byte cm' to held) wc) (counted s x) (s.price (names.Copy f) n + 0)
-  private_goes to held x v n r r' c pr' cm' fits lt ag h w l ef soon p a va =
+  private_goes to held x v n r r' c pr' cm' fits lt ag h w clear l ef soon p a va =
       let m' = with_byte m (slot (layout s) to) v in
       let d = machine f pr' c st (bytes.with_byte cm' to held) wc in
       let inj = one_to_one s f pr' st p fit.chain in
       let fit' = fit_with wc pr' (bytes.with_byte cm' to held) m' refl fit.control (agree_put s (is_live f pr' (below st)) cm' m to held v inj va ag a) (with_small m (slot (layout s) to) v lt fit.bytes) p in
       let hi = s.price (names.Copy f) n + 0 in
       weaken s (at s t (thread s f n ps r) m wc) d (counted s x + 0) hi (counted s x) hi (omega arith) (omega arith)
-      (word_counted s t wc calm f ps here_user n r m x r' (write (slot (layout s) to) v) d 0 0 h w l ef
+      (word_counted s t wc calm f ps here_user n r m x r' (write (slot (layout s) to) v) d 0 0 h w clear l ef
       (stays s (at s t (thread s f (suc n) ps r') m' wc) d (stands_at s t wc f pr' c st loops (bytes.with_byte cm' to held) m' (thread s f (suc n) ps r') fit' fits (here_soon s f loops (suc n) ps r' c soon))))
 
   private_agrees : (to : Byte) (held : Held) (v : ℕ) → is_private to ≡ true → Shown s held v → Agrees s to held v
@@ -151,13 +152,13 @@ module _ (s : Site) (t : Machine) (wc : World Held) (calm : Calm s wc) (f : ℕ)
       → After s (of_byte s to) (s.price (names.Copy f) n + 0) (put s.q to held c f pr st cm wc) (at s t (thread s f n ps r) m wc)
   private_store to held n r c e fits sh h soon =
       put_private to held (of_byte s to) (s.price (names.Copy f) n + 0) (at s t (thread s f n ps r) m wc) c e (λ pr' cm' p a va ac.
-      private_goes to held (store_to to) r.w n r r c pr' cm' fits fits.w (private_agrees to held r.w e sh) h refl refl (movwf_silent s wc.inside f n ps r m (operands.Byte to) (slot (layout s) to) (ac r)) soon p a va)
+      private_goes to held (store_to to) r.w n r r c pr' cm' fits fits.w (private_agrees to held r.w e sh) h refl refl refl (movwf_silent s wc.inside f n ps r m (operands.Byte to) (slot (layout s) to) (ac r)) soon p a va)
 
   -- ---- static objects and device registers
   pub static_store : (x : Operand) (o k : ℕ) (held : Held) (n : ℕ) (r : Registers) (c : List Task) → access_of s.g wc.inside true r x ≡ Event (Shared (slot (layout s) (Static o k)) (cells.Static o k)) → Fits r → (r.w ≡ shown (layout s) held) × InPlace s held → slice_get (block s f) n ≡ Some (syms.Movwf x) → Soon s f loops r (suc n) c
-      → nat_lt k (static_bytes s.q o) ≡ true → is_marked s.q.variable_bytes (syms.Movwf x) ≡ true
+      → nat_lt k (static_bytes s.q o) ≡ true → is_marked s.q.variable_bytes (syms.Movwf x) ≡ true → clears s.hidden r (Some (syms.Movwf x)) ≡ true
       → Went s (at s t (thread s f n ps r) m wc) (machine f pr c st (bytes.with_byte cm (Static o k) held) (noted (WriteOf (cells.Static o k) held) wc)) 1 (s.price (names.Copy f) n + 0)
-  static_store x o k held n r c ac fits sh h soon va marked =
+  static_store x o k held n r c ac fits sh h soon va marked clear =
       let b = Static o k in
       let kk = slot (layout s) b in
       let wd = noted (WriteOf (cells.Static o k) held) wc in
@@ -170,7 +171,7 @@ module _ (s : Site) (t : Machine) (wc : World Held) (calm : Calm s wc) (f : ℕ)
       let one : counted s (syms.Movwf x) ≡ 1 = ap one_if marked in
       let hi = s.price (names.Copy f) n + 0 in
       weaken s (at s t (thread s f n ps r) m wc) d (counted s (syms.Movwf x) + 0) hi 1 hi (omega (arith, one)) (omega arith)
-      (word_to s t wc calm f ps here_user (at s t th' m' wd) n r m (syms.Movwf x) (Writes (Shared kk (cells.Static o k)) r.w th') d 0 0 h refl ef (λ c p. refl)
+      (word_to s t wc calm f ps here_user (at s t th' m' wd) n r m (syms.Movwf x) (Writes (Shared kk (cells.Static o k)) r.w th') d 0 0 h refl clear ef (λ c p. refl)
       (write_shared s t wc calm (thread s f n ps r) m kk (cells.Static o k) r.w held th' (effect_word s wc.inside f n ps r m (syms.Movwf x) h refl ∙ ef) sh.0 (next_lands s f here_user n (syms.Movwf x) h refl))
       (stays s (at s t th' m' wd) d (stands_at s t wd f pr c st loops (bytes.with_byte cm b held) m' th' fit' fits (here_soon s f loops (suc n) ps r c soon))))
 
@@ -185,7 +186,7 @@ module _ (s : Site) (t : Machine) (wc : World Held) (calm : Calm s wc) (f : ℕ)
       movwf_event s wc.inside f n ps r m (operands.Byte b) (Port a) (port_access s wc.inside true r a va) ∙ ap (λ z. Writes (Port a) r.w (thread s f z ps r)) (let q : n + 1 ≡ suc n = omega arith in q) ∙ ap (λ z. Writes (Port a) z th') sh in
       let vs : v < 256 = subst (λ z. z < 256) sh fits.w in
       let fit' = fit_with wd pr cm m (write_inside s t wc calm (thread s f n ps r) m a v) (write_bytes a v wc vs fit.control) fit.agree fit.bytes fit.passing in
-      word_to s t wc calm f ps here_user (at s t th' m wd) n r m (store_to b) (Writes (Port a) v th') d 0 0 h refl ef (λ c p. refl)
+      word_to s t wc calm f ps here_user (at s t th' m wd) n r m (store_to b) (Writes (Port a) v th') d 0 0 h refl refl ef (λ c p. refl)
       (write_port s t wc calm (thread s f n ps r) m a v th' (effect_word s wc.inside f n ps r m (store_to b) h refl ∙ ef) gi (next_lands s f here_user n (store_to b) h refl))
       (stays s (at s t th' m wd) d (stands_at s t wd f pr c st loops cm m th' fit' fits (here_soon s f loops (suc n) ps r c soon)))
 
@@ -199,11 +200,11 @@ module _ (s : Site) (t : Machine) (wc : World Held) (calm : Calm s wc) (f : ℕ)
   store_goes (Static o k) (Number x) n r c fits sh h soon =
       let next = core.goes c f pr st (bytes.with_byte cm (Static o k) (Number x)) (noted (WriteOf (cells.Static o k) (Number x)) wc) in
       when_after s 1 (s.price (names.Copy f) n + 0) (nat_lt k (static_bytes s.q o)) (when (s.q.is_watched o) next) (at s t (thread s f n ps r) m wc) (λ va.
-      when_after s 1 (s.price (names.Copy f) n + 0) (s.q.is_watched o) next (at s t (thread s f n ps r) m wc) (λ wa. static_store (operands.Byte (Static o k)) o k (Number x) n r c (shared_access s wc.inside true r o k (lt_of k (static_bytes s.q o) va) wa) fits (sh, tt) h soon va refl))
+      when_after s 1 (s.price (names.Copy f) n + 0) (s.q.is_watched o) next (at s t (thread s f n ps r) m wc) (λ wa. static_store (operands.Byte (Static o k)) o k (Number x) n r c (shared_access s wc.inside true r o k (lt_of k (static_bytes s.q o) va) wa) fits (sh, tt) h soon va refl refl))
   store_goes (Static o k) (Part a b x) n r c fits sh h soon =
       let next = core.goes c f pr st (bytes.with_byte cm (Static o k) (Part a b x)) (noted (WriteOf (cells.Static o k) (Part a b x)) wc) in
       when_after s 1 (s.price (names.Copy f) n + 0) (nat_lt k (static_bytes s.q o)) (when (s.q.is_watched o) next) (at s t (thread s f n ps r) m wc) (λ va.
-      when_after s 1 (s.price (names.Copy f) n + 0) (s.q.is_watched o) next (at s t (thread s f n ps r) m wc) (λ wa. static_store (operands.Byte (Static o k)) o k (Part a b x) n r c (shared_access s wc.inside true r o k (lt_of k (static_bytes s.q o) va) wa) fits sh h soon va refl))
+      when_after s 1 (s.price (names.Copy f) n + 0) (s.q.is_watched o) next (at s t (thread s f n ps r) m wc) (λ wa. static_store (operands.Byte (Static o k)) o k (Part a b x) n r c (shared_access s wc.inside true r o k (lt_of k (static_bytes s.q o) va) wa) fits sh h soon va refl refl))
   store_goes (Device a) Unset n r c fits sh h soon = when_after s 1 (s.price (names.Copy f) n + 0) (is_register a && nat_eq (lowest a) a) core.Stuck (at s t (thread s f n ps r) m wc) (λ va. tt)
   store_goes (Device a) (Part x y z) n r c fits sh h soon = when_after s 1 (s.price (names.Copy f) n + 0) (is_register a && nat_eq (lowest a) a) core.Stuck (at s t (thread s f n ps r) m wc) (λ va. tt)
   store_goes (Device a) (Number x) n r c fits sh h soon =

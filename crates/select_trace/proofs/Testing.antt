@@ -157,7 +157,7 @@ module _ (s : Site) (t : Machine) (wc : World Held) (calm : Calm s wc) (f : ℕ)
       let tot : total s f n (x ++ y) ≡ total s f n x + (s.price (names.Copy f) n' + 0) = total_append s f n x y in
       subst (λ v. Went s (at s t (thread s f n ps r) m wc) d lo v) (let e : total s f n x + (s.price (names.Copy f) n' + hi) ≡ total s f n (x ++ y) + hi = omega (arith, tot) in e)
       (ors_goes test k n r lo (s.price (names.Copy f) n' + hi) fits (own_shorter s f (suc k) test own) (has_front (block s f) n x y h) z (λ r' fr w zz.
-      word s t wc calm f ps u n' r' m (syms.File Iorwf (operands.Byte b) into.W) (ored r' (value test (suc k))) None d lo hi hy.0 refl refl
+      word s t wc calm f ps u n' r' m (syms.File Iorwf (operands.Byte b) into.W) (ored r' (value test (suc k))) None d lo hi hy.0 refl refl refl
       (iorwf_silent s wc.inside f n' ps r' m (operands.Byte b) (slot (layout s) (behind test (suc k))) (a r'))
       (subst (λ j. Went s (at s t (thread s f j ps (ored r' (value test (suc k)))) m wc) d lo hi) len
       (go (ored r' (value test (suc k))) (ored_fits r' (value test (suc k)) fr (bytes_ok (slot (layout s) (behind test (suc k))))) (ap (λ v. bit_or v (value test (suc k))) w) refl))))
@@ -171,7 +171,7 @@ module _ (s : Site) (t : Machine) (wc : World Held) (calm : Calm s wc) (f : ℕ)
       → Went s (at s t (thread s f n ps r) m wc) d lo (total s f n (test_code test size) + hi)
   test_goes cm l pr below agree test zero n r lo hi holds fits own e h go =
       subst (λ k. Went s (at s t (thread s f n ps r) m wc) d lo k) (let q : s.price (names.Copy f) n + hi ≡ s.price (names.Copy f) n + 0 + hi = omega arith in q)
-      (word s t wc calm f ps u n r m (syms.Plain Clrw) (record r { w = 0; z = 1 }) None d lo hi h.0 refl refl (clrw_is s wc.inside f n ps r m)
+      (word s t wc calm f ps u n r m (syms.Plain Clrw) (record r { w = 0; z = 1 }) None d lo hi h.0 refl refl refl (clrw_is s wc.inside f n ps r m)
       (subst (λ k. Went s (at s t (thread s f k ps (record r { w = 0; z = 1 })) m wc) d lo hi) (let q : n + 1 ≡ suc n = omega arith in q)
       (go (record r { w = 0; z = 1 }) (cleared_fits r fits) (ap (λ b. truth (not b)) (no_bytes cm test holds e)))))
   test_goes cm l pr below agree test (suc k) n r lo hi holds fits own e h go =
@@ -186,7 +186,7 @@ module _ (s : Site) (t : Machine) (wc : World Held) (calm : Calm s wc) (f : ℕ)
       (agree (behind test j) (own_valid s f pr below (behind test j) (own_part s f (suc k) j test own lt)))) in
       let z = tested s cm test k (value test) holds shows e in
       subst (λ w. Went s (at s t (thread s f n ps r) m wc) d lo w) (let q : s.price (names.Copy f) n + (total s f (suc n) x + hi) ≡ s.price (names.Copy f) n + total s f (suc n) x + hi = omega arith in q)
-      (word s t wc calm f ps u n r m (syms.File Movf (operands.Byte test) into.W) r1 None d lo (total s f (suc n) x + hi) h.0 refl refl (movf_silent s wc.inside f n ps r m (operands.Byte test) (slot (layout s) (behind test 0)) a)
+      (word s t wc calm f ps u n r m (syms.File Movf (operands.Byte test) into.W) r1 None d lo (total s f (suc n) x + hi) h.0 refl refl refl (movf_silent s wc.inside f n ps r m (operands.Byte test) (slot (layout s) (behind test 0)) a)
       (ors_goes test k (suc n) r1 lo hi f1 own h.1 refl (λ r' fr w zz.
       subst (λ j. Went s (at s t (thread s f j ps r') m wc) d lo hi) (let q : n + suc (length x) ≡ suc n + length x = omega arith in q)
       (go r' fr (zz ∙ ap (λ y. truth (nat_eq y 0)) w ∙ ap truth z)))))

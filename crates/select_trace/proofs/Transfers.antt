@@ -1,5 +1,5 @@
 -- The bytes of loads and stores, one by one.
-use Rattle.std.proofs.Common.{◌≡◌, ◌⊎◌, inl, inr, ℕ, zero, suc, ◌+◌, ◌*◌, ◌%◌, ◌<◌, ◌≤◌, Bool, true, false, ◌&&◌, ◌||◌, nat_eq, nat_lt, List, [], ◌∷◌, ◌++◌, length, Option, Some, None, slice_get, refl, sym, ap, ◌∙◌, subst, append_assoc, arith}
+use Rattle.std.proofs.Common.{◌≡◌, ◌⊎◌, inl, inr, ℕ, zero, suc, ◌+◌, ◌*◌, ◌%◌, ◌<◌, ◌≤◌, Bool, true, false, not, ◌&&◌, ◌||◌, nat_eq, nat_lt, List, [], ◌∷◌, ◌++◌, length, Option, Some, None, slice_get, refl, sym, ap, ◌∙◌, subst, append_assoc, arith}
 use Rattle.pic_world.specs.Bits.{truth}
 use Rattle.pic_world.specs.World.{World, ReadOf, WriteOf, noted}
 use Rattle.pic_world.specs.declared.Cell.TheVariants as cells
@@ -13,7 +13,7 @@ use Rattle.core_code.specs.declared.code.Byte.TheVariants.{Static, Frame}
 use Rattle.math_helpers.specs.Shape.{is_straight}
 use Rattle.sym_code.specs.Effect.{Memory, Event, Silent, Shared, access_of, access_by, root_of}
 use Rattle.sym_code.specs.Layout as layouts
-use Rattle.sym_code.specs.Layout.{shown, Of}
+use Rattle.sym_code.specs.Layout.{general_at, shown, Of}
 use Rattle.sym_code.specs.Machine.{Machine}
 use Rattle.sym_code.specs.Programs.{Position}
 use Rattle.sym_code.specs.Registers.{Registers, Fits, pointer}
@@ -25,6 +25,7 @@ use Rattle.sym_code.specs.declared.code.Register.TheVariants.{Fsr, Indf}
 use Rattle.sym_code.specs.declared.code.Sym.{Sym}
 use Rattle.sym_code.specs.declared.code.Sym.TheVariants as syms
 use Rattle.select_code.specs.Pieces.{byte_behind}
+use Rattle.select_wide.specs.Direct.{is_clear}
 use Rattle.select_wide.specs.Pointers.{advance_code, load_byte_code, store_byte_code}
 use Rattle.select_trace.proofs.Truths.{or_true, and_left, and_right, both, or_right, or_left, lt_of, of_lt, same_nat, nat_other, flip, if_false}
 use Rattle.select_trace.proofs.Standing.{Has, moved, has_front, has_back, has_join}
@@ -32,7 +33,7 @@ use Rattle.select_trace.proofs.Labels.{len_append}
 use Rattle.select_trace.proofs.Placed as placed
 use Rattle.select_trace.proofs.Placed.{slot}
 use Rattle.select_trace.proofs.Slots.{good_rises}
-use Rattle.select_trace.proofs.Sites.{Site, layout}
+use Rattle.select_trace.proofs.Sites.{Site, layout, IsLent}
 use Rattle.select_trace.proofs.Machines.{at, Calm}
 use Rattle.select_trace.proofs.Live.{IsUser, is_live, below, passes, Chain, chain_user, user_below, There, valid_on}
 use Rattle.select_trace.proofs.Memory.{InPlace, Shown, agrees_shown}
@@ -138,7 +139,7 @@ module _ (s : Site) (t : Machine) (wc : World Held) (calm : Calm s wc) (f : ℕ)
       (subst (λ k. Went s (at s t (thread s f k ps r) m wc) d lo hi) (let z : n + 0 ≡ n = omega arith in z) go)
   step_went (suc j) n r d lo hi h go =
       weaken s (at s t (thread s f n ps r) m wc) d lo (s.price (names.Copy f) n + hi) lo (s.price (names.Copy f) n + 0 + hi) (omega arith) (omega arith)
-      (word s t wc calm f ps c_user n r m (syms.File Incf (operands.Register Fsr) into.File) (stepped (suc j) r) None d lo hi h.0 refl refl (advances s wc.inside f n ps r m)
+      (word s t wc calm f ps c_user n r m (syms.File Incf (operands.Register Fsr) into.File) (stepped (suc j) r) None d lo hi h.0 refl refl refl (advances s wc.inside f n ps r m)
       (subst (λ k. Went s (at s t (thread s f k ps (stepped (suc j) r)) m wc) d lo hi) (let z : n + 1 ≡ suc n = omega arith in z) go))
 
   -- ---- a byte is read
@@ -204,6 +205,21 @@ module _ (s : Site) (t : Machine) (wc : World Held) (calm : Calm s wc) (f : ℕ)
       ∙ ap (access_by wc.inside wr (slot (layout s) (Frame g y))) (placed.frames_own s.q (length s.copies) s.reaches (layout s) s.chosen.layout s.chosen.laid_out g y th.0 th.1 ∙ ap Of e)
       ∙ of_root s wc.inside wr (slot (layout s) (Frame g y))
 
+  -- which isn't hidden
+  indf_clear : (r : Registers) (b : Byte) → There s b → pointer r ≡ layouts.address_of (layout s) b → s.hidden (slot (layout s) b) ≡ false → is_clear s.hidden (general_at (pointer r)) ≡ true
+  indf_clear r b th p e =
+      ap (λ a. is_clear s.hidden (general_at a)) p
+      ∙ ap (is_clear s.hidden) (placed.stands_in s.q (length s.copies) s.reaches (layout s) s.chosen.layout s.chosen.laid_out b th)
+      ∙ ap not e
+
+  static_clear : (r : Registers) (o k : ℕ) → k < static_bytes s.q o → pointer r ≡ layouts.address_of (layout s) (Static o k) → is_clear s.hidden (general_at (pointer r)) ≡ true
+  static_clear r o k lt p =
+      let i = placed.is_object s.q (length s.copies) s.reaches (layout s) s.chosen.layout s.chosen.laid_out o k lt in
+      indf_clear r (Static o k) lt p (s.shows.objects o k (slot (layout s) (Static o k)) i.0 i.1 (placed.stands_in s.q (length s.copies) s.reaches (layout s) s.chosen.layout s.chosen.laid_out (Static o k) lt))
+
+  frame_clear : (r : Registers) (g y : ℕ) → s.lent g ≡ true → There s (Frame g y) → pointer r ≡ layouts.address_of (layout s) (Frame g y) → is_clear s.hidden (general_at (pointer r)) ≡ true
+  frame_clear r g y lent th p = indf_clear r (Frame g y) th p (s.shows.frames g y (slot (layout s) (Frame g y)) lent th.1 (placed.stands_in s.q (length s.copies) s.reaches (layout s) s.chosen.layout s.chosen.laid_out (Frame g y) th))
+
   pointer_same : (r r' : Registers) → r'.fsr ≡ r.fsr → r'.irp ≡ r.irp → pointer r' ≡ pointer r
   pointer_same r r' a b = ap (λ z. 256 * z + r'.fsr) b ∙ ap (λ z. 256 * r.irp + z) a
 
@@ -233,12 +249,12 @@ module _ (s : Site) (t : Machine) (wc : World Held) (calm : Calm s wc) (f : ℕ)
       weaken s (at s t (thread s f n ps r) m wc) d 1 (total s f n sc + (s.price (names.Copy f) n1 + 0)) 1 3 (omega arith) (omega (arith, dr, tot))
       (step_went j n r d 1 (s.price (names.Copy f) n1 + 0) hs
       (static_read s t wc calm f pr st loops ps cm m fit (operands.Register Indf) to o offset n1 r1 (loading (behind to 1) (Fixed o) (offset + 1) k c) (λ q. shared_indf false r1 o offset lt p1 q) (λ q. constant_indf r1 o offset lt p1 q) va f1 ht.0 ht.1
-      (λ r2 a b. next_loading to first j k offset (Fixed o) n (suc n1 + 1) r2 c e (pointer_same r1 r2 a b ∙ p1) (omega (arith, len)) h l) refl))
+      (λ r2 a b. next_loading to first j k offset (Fixed o) n (suc n1 + 1) r2 c e (pointer_same r1 r2 a b ∙ p1) (omega (arith, len)) h l) refl (static_clear r1 o offset lt p1)))
 
   load_frame : (to first : Byte) (j g offset k n : ℕ) (r : Registers) (c : List Task) → Fits r → to ≡ behind first j → Points s r j (FrameOf g) offset → Has (block s f) n (loads_code first j (suc k)) → Left s f loops (n + length (loads_code first j (suc k))) c
-      → is_own s.q f to 1 ≡ true → is_reached s.q f st (FrameOf g) offset ≡ true
+      → is_own s.q f to 1 ≡ true → is_reached s.q f st (FrameOf g) offset ≡ true → s.lent g ≡ true
       → After s 1 6 (put s.q to (cm (Frame g offset)) (loading (behind to 1) (FrameOf g) (offset + 1) k c) f pr st cm wc) (at s t (thread s f n ps r) m wc)
-  load_frame to first j g offset k n r c fits e p h l own re =
+  load_frame to first j g offset k n r c fits e p h l own re lent =
       let fr = reached_frame g offset re in
       let sc = step_code j in
       let mi = syms.File Movf (operands.Register Indf) into.W in
@@ -265,30 +281,30 @@ module _ (s : Site) (t : Machine) (wc : World Held) (calm : Calm s wc) (f : ℕ)
       after_map s (of_byte s to) (s.price (names.Copy f) (suc n1) + 0) 1 6 (put s.q to (cm (Frame g offset)) rest f pr st cm wc) v' v (put_moves s.q to (cm (Frame g offset)) rest f pr st cm wc) (λ d w.
       weaken s v d (1 + of_byte s to) (total s f n sc + (s.price (names.Copy f) n1 + (s.price (names.Copy f) (suc n1) + 0))) 1 6 (omega arith) (omega (arith, dr, tot))
       (step_went j n r d (1 + of_byte s to) (s.price (names.Copy f) n1 + (s.price (names.Copy f) (suc n1) + 0)) hs
-      (word_counted s t wc calm f ps c_user n1 r1 m mi r2 None d (of_byte s to) (s.price (names.Copy f) (suc n1) + 0) ht.0 refl refl (movf_silent s wc.inside f n1 ps r1 m (operands.Register Indf) k0 (frame_indf false r1 g offset fr.0 fr.1 p1)) w)))
+      (word_counted s t wc calm f ps c_user n1 r1 m mi r2 None d (of_byte s to) (s.price (names.Copy f) (suc n1) + 0) ht.0 refl (frame_clear r1 g offset lent fr.0 p1) refl (movf_silent s wc.inside f n1 ps r1 m (operands.Register Indf) k0 (frame_indf false r1 g offset fr.0 fr.1 p1)) w)))
       (store_goes s t wc calm f pr st loops ps cm m fit to (cm (Frame g offset)) (suc n1) r2 rest (loaded_fits s r1 (m k0) f1 (fit.bytes k0)) (agrees_shown s (Frame g offset) (cm (Frame g offset)) (m k0) (fit.agree (Frame g offset) fr.2)) ht.1.0
       (next_loading to first j k offset (FrameOf g) n (suc (suc n1)) r2 c e p1 (omega (arith, len)) h l))
 
   one_more : (k lo hi : ℕ) (x : core.Next) (v : Machine) → After s 1 hi x v → After s (one_if (nat_lt 0 (suc k))) hi x v
   one_more k lo hi x v a = subst (λ z. After s (one_if z) hi x v) (sym (of_lt 0 (suc k) (omega arith))) a
 
-  pub load_from_goes : (to : Byte) (object : Object) (offset k n : ℕ) (r : Registers) (c : List Task) → Fits r → Loading s f loops r n to object offset k c
+  pub load_from_goes : (to : Byte) (object : Object) (offset k n : ℕ) (r : Registers) (c : List Task) → Fits r → Loading s f loops r n to object offset k c → IsLent s object
       → After s (one_if (nat_lt 0 k)) (load_cost object) (load_from (record { program = s.q; outside = s.o }) to object offset k c f pr st cm wc) (at s t (thread s f n ps r) m wc)
   unfolding held_at after_read
-  load_from_goes to object offset zero n r c fits (first, j, e, p, h, l) =
+  load_from_goes to object offset zero n r c fits (first, j, e, p, h, l) lent =
       weaken s (at s t (thread s f n ps r) m wc) (machine f pr c st cm wc) 0 0 0 (load_cost object) (omega arith) (omega arith) (control.left_goes s t wc calm f pr st loops ps cm m fit n r c fits (left_to s f loops (n + 0) n c (omega arith) l))
-  load_from_goes to (Fixed o) offset (suc k) n r c fits (first, j, e, p, h, l) =
+  load_from_goes to (Fixed o) offset (suc k) n r c fits (first, j, e, p, h, l) lent =
       let next = goes (Put to (cm (Static o offset)) ∷ loading (behind to 1) (Fixed o) (offset + 1) k c) f pr st cm (noting_if (s.q.is_watched o) (ReadOf (cells.Static o offset) (cm (Static o offset))) wc) in
       let v = at s t (thread s f n ps r) m wc in
       one_more k 1 3 (when (is_own s.q f to 1 && is_reached s.q f st (Fixed o) offset) next) v
       (when_after s 1 3 (is_own s.q f to 1 && is_reached s.q f st (Fixed o) offset) next v (λ a.
       load_static to first j o offset k n r c fits e p h l (and_left _ _ a) (and_right (is_own s.q f to 1) _ a)))
-  load_from_goes to (FrameOf g) offset (suc k) n r c fits (first, j, e, p, h, l) =
+  load_from_goes to (FrameOf g) offset (suc k) n r c fits (first, j, e, p, h, l) lent =
       let next = put s.q to (cm (Frame g offset)) (loading (behind to 1) (FrameOf g) (offset + 1) k c) f pr st cm wc in
       let v = at s t (thread s f n ps r) m wc in
       one_more k 1 6 (when (is_own s.q f to 1 && is_reached s.q f st (FrameOf g) offset) next) v
       (when_after s 1 6 (is_own s.q f to 1 && is_reached s.q f st (FrameOf g) offset) next v (λ a.
-      load_frame to first j g offset k n r c fits e p h l (and_left _ _ a) (and_right (is_own s.q f to 1) _ a)))
+      load_frame to first j g offset k n r c fits e p h l (and_left _ _ a) (and_right (is_own s.q f to 1) _ a) lent))
 
   -- ---- a byte is written
   store_byte : (object : Object) (b : Byte) (wd : World Held) (cm' : bytes.Memory) (from first : Byte) (j offset k n : ℕ) (r : Registers) (c : List Task) → b ≡ byte_in object offset → There s b → Fits r → from ≡ behind first j → Points s r j object offset
@@ -322,7 +338,7 @@ module _ (s : Site) (t : Machine) (wc : World Held) (calm : Calm s wc) (f : ℕ)
       let v = at s t (thread s f n ps r) m wc in
       weaken s v d 1 (total s f n sc + (s.price (names.Copy f) n1 + (s.price (names.Copy f) (suc n1) + 0))) 1 6 (omega arith) (omega (arith, dr, tot))
       (step_went j n r d 1 (s.price (names.Copy f) n1 + (s.price (names.Copy f) (suc n1) + 0)) hs
-      (word s t wc calm f ps c_user n1 r1 m mf r2 None d 1 (s.price (names.Copy f) (suc n1) + 0) ht.0 refl refl (movf_silent s wc.inside f n1 ps r1 m (operands.Byte from) k0 (own_access s wc.inside false r1 f c_user fit.root from own))
+      (word s t wc calm f ps c_user n1 r1 m mf r2 None d 1 (s.price (names.Copy f) (suc n1) + 0) ht.0 refl refl refl (movf_silent s wc.inside f n1 ps r1 m (operands.Byte from) k0 (own_access s wc.inside false r1 f c_user fit.root from own))
       (go (suc n1) r2 (loaded_fits s r1 (m k0) f1 (fit.bytes k0)) refl p1 ht.1.0 (next_storing from first j k offset object n (suc (suc n1)) r2 c e (p1 ∙ ap (layouts.address_of (layout s)) be) (omega (arith, len)) h l))))
 
   own_shown : (from : Byte) → is_own s.q f from 1 ≡ true → Shown s (cm from) (m (slot (layout s) from))
@@ -335,29 +351,29 @@ module _ (s : Site) (t : Machine) (wc : World Held) (calm : Calm s wc) (f : ℕ)
       let va = reached_static o offset re in
       let lt = lt_of offset (static_bytes s.q o) va in
       store_byte (Fixed o) (Static o offset) (noted (WriteOf (cells.Static o offset) held) wc) (bytes.with_byte cm (Static o offset) held) from first j offset k n r c refl lt fits e p h l own (λ n1 r2 f2 w2 p2 h2 soon.
-      static_store s t wc calm f pr st loops ps cm m fit (operands.Register Indf) o offset held n1 r2 (storing (Fixed o) (offset + 1) (behind from 1) k c) (shared_indf true r2 o offset lt p2 wa) f2 (w2 ∙ sh.0, sh.1) h2 soon va refl)
+      static_store s t wc calm f pr st loops ps cm m fit (operands.Register Indf) o offset held n1 r2 (storing (Fixed o) (offset + 1) (behind from 1) k c) (shared_indf true r2 o offset lt p2 wa) f2 (w2 ∙ sh.0, sh.1) h2 soon va refl (static_clear r2 o offset lt p2))
 
   store_frame : (from first : Byte) (j g offset k n : ℕ) (r : Registers) (c : List Task) → Fits r → from ≡ behind first j → Points s r j (FrameOf g) offset
-      → Has (block s f) n (stores_code first j (suc k)) → Left s f loops (n + length (stores_code first j (suc k))) c → is_own s.q f from 1 ≡ true → is_reached s.q f st (FrameOf g) offset ≡ true
+      → Has (block s f) n (stores_code first j (suc k)) → Left s f loops (n + length (stores_code first j (suc k))) c → is_own s.q f from 1 ≡ true → is_reached s.q f st (FrameOf g) offset ≡ true → s.lent g ≡ true
       → Went s (at s t (thread s f n ps r) m wc) (machine f pr (storing (FrameOf g) (offset + 1) (behind from 1) k c) st (bytes.with_byte cm (Frame g offset) (cm from)) wc) 1 6
-  store_frame from first j g offset k n r c fits e p h l own re =
+  store_frame from first j g offset k n r c fits e p h l own re lent =
       let fr = reached_frame g offset re in
       store_byte (FrameOf g) (Frame g offset) wc (bytes.with_byte cm (Frame g offset) (cm from)) from first j offset k n r c refl fr.0 fits e p h l own (λ n1 r2 f2 w2 p2 h2 soon.
       private_goes s t wc calm f pr st loops ps cm m fit (Frame g offset) (cm from) (syms.Movwf (operands.Register Indf)) r2.w n1 r2 r2 (storing (FrameOf g) (offset + 1) (behind from 1) k c) pr cm f2 f2.w
-      (subst (λ z. Shown s (cm from) z) (sym w2) (own_shown from own)) h2 refl refl (movwf_silent s wc.inside f n1 ps r2 m (operands.Register Indf) (slot (layout s) (Frame g offset)) (frame_indf true r2 g offset fr.0 fr.1 p2)) soon fit.passing fit.agree fr.2)
+      (subst (λ z. Shown s (cm from) z) (sym w2) (own_shown from own)) h2 refl (frame_clear r2 g offset lent fr.0 p2) refl (movwf_silent s wc.inside f n1 ps r2 m (operands.Register Indf) (slot (layout s) (Frame g offset)) (frame_indf true r2 g offset fr.0 fr.1 p2)) soon fit.passing fit.agree fr.2)
 
-  pub store_to_goes : (object : Object) (offset : ℕ) (from : Byte) (k n : ℕ) (r : Registers) (c : List Task) → Fits r → Storing s f loops r n object offset from k c
+  pub store_to_goes : (object : Object) (offset : ℕ) (from : Byte) (k n : ℕ) (r : Registers) (c : List Task) → Fits r → Storing s f loops r n object offset from k c → IsLent s object
       → After s (one_if (nat_lt 0 k)) 6 (store_to (record { program = s.q; outside = s.o }) object offset from k c f pr st cm wc) (at s t (thread s f n ps r) m wc)
   unfolding memory_with after_write shown
-  store_to_goes object offset from zero n r c fits (first, j, e, p, h, l) =
+  store_to_goes object offset from zero n r c fits (first, j, e, p, h, l) lent =
       weaken s (at s t (thread s f n ps r) m wc) (machine f pr c st cm wc) 0 0 0 6 (omega arith) (omega arith) (control.left_goes s t wc calm f pr st loops ps cm m fit n r c fits (left_to s f loops (n + 0) n c (omega arith) l))
-  store_to_goes (FrameOf g) offset from (suc k) n r c fits (first, j, e, p, h, l) =
+  store_to_goes (FrameOf g) offset from (suc k) n r c fits (first, j, e, p, h, l) lent =
       let next = goes (storing (FrameOf g) (offset + 1) (behind from 1) k c) f pr st (bytes.with_byte cm (Frame g offset) (cm from)) wc in
       let v = at s t (thread s f n ps r) m wc in
       one_more k 1 6 (when (is_own s.q f from 1 && is_reached s.q f st (FrameOf g) offset) next) v
       (when_after s 1 6 (is_own s.q f from 1 && is_reached s.q f st (FrameOf g) offset) next v (λ a.
-      store_frame from first j g offset k n r c fits e p h l (and_left _ _ a) (and_right (is_own s.q f from 1) _ a)))
-  store_to_goes (Fixed o) offset from (suc k) n r c fits (first, j, e, p, h, l) =
+      store_frame from first j g offset k n r c fits e p h l (and_left _ _ a) (and_right (is_own s.q f from 1) _ a) lent))
+  store_to_goes (Fixed o) offset from (suc k) n r c fits (first, j, e, p, h, l) lent =
       let next = written s.q (Static o offset) (cm from) (storing (Fixed o) (offset + 1) (behind from 1) k c) f pr st cm wc in
       let v = at s t (thread s f n ps r) m wc in
       one_more k 1 6 (when (is_own s.q f from 1 && is_reached s.q f st (Fixed o) offset) next) v

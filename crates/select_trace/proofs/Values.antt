@@ -17,8 +17,9 @@ use Rattle.core_code.specs.declared.code.Byte.TheVariants.{Static, Frame, Result
 use Rattle.sym_code.specs.Effect.{Memory}
 use Rattle.sym_code.specs.Machine.{Machine}
 use Rattle.sym_code.specs.Programs.{Position}
-use Rattle.sym_code.specs.Quiet.{Scene, quiet_run, quiet_cost}
+use Rattle.sym_code.specs.Quiet.{Scene, quiet_cost}
 use Rattle.sym_code.specs.Registers.{Registers, Fits}
+use Rattle.select_wide.specs.Direct.{direct_run}
 use Rattle.select_wide.specs.Selection.{binary_code}
 use Rattle.select_wide.specs.Single.{unary_code, widening_code}
 use Rattle.select_trace.proofs.Truths.{true_false}
@@ -40,12 +41,12 @@ use Rattle.select_trace.proofs.Quiet.{quiet_path}
 abbrev pub scene : Site → ℕ → ℕ → List Position → Registers → Memory → Scene
 scene s f n ps r m = record { thread = thread s f n ps r; memory = m }
 
--- Without an event the thread comes from n to n', at most at this cost, and memory agrees with this one.
+-- Without an event, and without an access through FSR, the thread comes from n to n', at most at this cost, and memory agrees with this one.
 pub record Arrives (s : Site) (i : Bool) (live : ℕ → Bool) (f : ℕ) (ps : List Position) (n : ℕ) (r : Registers) (m : Memory) (n' : ℕ) (cm' : bytes.Memory) (hi : ℕ) : Type 0 where
   pub steps : ℕ
   pub registers : Registers
   pub memory : Memory
-  pub run : quiet_run s.g i steps (scene s f n ps r m) ≡ Some (scene s f n' ps registers memory)
+  pub run : direct_run s.g i steps (scene s f n ps r m) ≡ Some (scene s f n' ps registers memory)
   pub fits : Fits registers
   pub bytes : (k : ℕ) → memory k < 256
   pub agree : Agree s live cm' memory
@@ -56,7 +57,7 @@ pub record Computes (s : Site) (i : Bool) (f : ℕ) (ps : List Position) (n : �
   pub steps : ℕ
   pub registers : Registers
   pub memory : Memory
-  pub run : quiet_run s.g i steps (scene s f n ps r m) ≡ Some (scene s f n' ps registers memory)
+  pub run : direct_run s.g i steps (scene s f n ps r m) ≡ Some (scene s f n' ps registers memory)
   pub fits : Fits registers
   pub bytes : (k : ℕ) → memory k < 256
   pub shows : (k : ℕ) → k < count → Shown s (held k) (memory (slot (layout s) (behind to k)))

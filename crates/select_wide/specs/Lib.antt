@@ -8,4 +8,5 @@ pub mod Shifts
 pub mod Calls
 pub mod Selection
 pub mod Blocks
+pub mod Direct
 pub mod Links

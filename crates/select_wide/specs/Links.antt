@@ -1,7 +1,7 @@
 -- What selection and the helpers keep together: symbolic code follows byte code.
 use Rattle.std.specs.Prelude.{ℕ, ◌+◌, ◌≡◌, ◌<◌, ◌≤◌, nat_lt, Bool, true, false, ◌&&◌, List, [], ◌∷◌, ◌++◌, length, take, drop, Option, Some, None, slice_get, slice_index_or}
 use Rattle.std.specs.List.{All}
-use Rattle.pic_world.specs.World.{Outside, event_as}
+use Rattle.pic_world.specs.World.{Outside, event_as, is_due}
 use Rattle.pic_world.specs.declared.Root.{Root}
 use Rattle.pic_world.specs.declared.Root.TheVariants.{Main, Isr}
 use Rattle.run_links.specs.Runs.{Goes, Follows, IsSlow}
@@ -13,7 +13,7 @@ use Rattle.c_typed.specs.declared.calls.Helper.{Helper}
 use Rattle.call_graph.specs.Numbers.{handler_at, copy_of}
 use Rattle.call_graph.specs.declared.types.FnCopy.{FnCopy}
 use Rattle.core_code.specs.Bytes.{Held, Unset, Number, Part, Fixed, FrameOf}
-use Rattle.core_code.specs.Machine.{Program}
+use Rattle.core_code.specs.Machine.{Program, Task, LoadFrom, StoreTo, core_moment}
 use Rattle.core_code.specs.Runs as core
 use Rattle.core_code.specs.Tree as trees
 use Rattle.core_code.specs.Tree.{Tree, Trees, Leave, trees_of}
@@ -23,8 +23,8 @@ use Rattle.core_code.specs.declared.code.Byte.{Byte}
 use Rattle.core_code.specs.declared.code.Byte.TheVariants as bytes
 use Rattle.sym_code.specs.Correct.{IsBegun, AreEntries}
 use Rattle.sym_code.specs.Effect.{Setting, Memory}
-use Rattle.sym_code.specs.Layout.{DataLayout, IsLaidOut, IsOf, frame, shown}
-use Rattle.sym_code.specs.Machine.{Entry, sym_start}
+use Rattle.sym_code.specs.Layout.{DataLayout, IsLaidOut, IsOf, object, frame, address_of, general_at, shown}
+use Rattle.sym_code.specs.Machine.{Machine, Entry, running, settled, sym_run, sym_start}
 use Rattle.sym_code.specs.Marks.{is_marked}
 use Rattle.sym_code.specs.Registers.{Registers}
 use Rattle.sym_code.specs.Runs as sym
@@ -40,6 +40,7 @@ use Rattle.sym_code.specs.Words.{most_words}
 use Rattle.math_helpers.specs.Routines.{helper_code}
 use Rattle.math_helpers.specs.Shape.{frame_size, is_straight, sum_from, ArePriced}
 use Rattle.select_wide.specs.Blocks.{is_user, body_at, code_by}
+use Rattle.select_wide.specs.Direct.{is_open}
 
 -- ---- what is given
 -- a number fits into a byte, and a pointer points into an object that is there, or just past its end
@@ -164,3 +165,36 @@ abbrev pub Selects : Type 0
 Selects =
     (q : Program) (copies : List FnCopy) (bodies : List Body) (reaches : ℕ → ℕ → Bool) (g : Setting) (price sure : BlockName → ℕ → ℕ)
     → IsSelected q copies bodies reaches g price sure → SelectionKeeps q g price sure
+
+-- ---- accesses through FSR
+-- No general byte at which one of a static object or of a lent frame stands is hidden.
+pub record AreShown (l : DataLayout) (lent hidden : ℕ → Bool) : Type 0 where
+  pub objects : (n offset k : ℕ) → n < length l.objects → offset < (object l n).size → general_at (address_of l (bytes.Static n offset)) ≡ Some k → hidden k ≡ false
+  pub frames : (c offset k : ℕ) → lent c ≡ true → offset < (frame l c).size → general_at (address_of l (bytes.Frame c offset)) ≡ Some k → hidden k ≡ false
+
+-- the next task accesses no frame by a pointer but one that is lent
+pub record ReachesLent (lent : ℕ → Bool) (code : List Task) : Type 0 where
+  pub loads : (to : Byte) (c offset n : ℕ) (rest : List Task) → code ≡ LoadFrom to (FrameOf c) offset n ∷ rest → lent c ≡ true
+  pub stores : (c offset : ℕ) (from : Byte) (n : ℕ) (rest : List Task) → code ≡ StoreTo (FrameOf c) offset from n ∷ rest → lent c ≡ true
+
+-- so at each moment up to n
+abbrev pub StaysLent : (ℕ → Bool) → Program → Outside → ℕ → Type 0
+StaysLent lent q o n = (i : ℕ) → i ≤ n → ReachesLent lent (core_moment (record { program = q; outside = o }) i).code
+
+-- Each of the first n steps that carries out an instruction accesses no hidden byte through FSR. Nothing is said of one that enters the
+-- handler: whether main's next access stays within its object shows only when it is made.
+abbrev pub StaysOpen : (ℕ → Bool) → Setting → Entry → Outside → Machine → ℕ → Type 0
+StaysOpen hidden g e o t n = (i : ℕ) → i < n → is_due (settled o (sym_run g e o i t)).world ≡ false → is_open hidden g.program (running (settled o (sym_run g e o i t))) ≡ true
+
+-- What selection promises where byte code accesses by pointers only static objects and lent frames: what it keeps, and that no step before
+-- the moment that belongs to moment n of byte code goes to a hidden byte through FSR.
+abbrev pub SelectsOpen : Type 0
+SelectsOpen =
+    (q : Program) (copies : List FnCopy) (bodies : List Body) (reaches : ℕ → ℕ → Bool) (g : Setting) (price sure : BlockName → ℕ → ℕ)
+    → IsSelected q copies bodies reaches g price sure
+    → (lent hidden : ℕ → Bool) → AreShown g.program.layout lent hidden
+    → (o : Outside) → All (λ byte. byte < 256) o.input → (e : Entry) (r : Registers) (m : Memory) → AreEntries e → IsBegun q.first g.program.layout r m
+    → (n : ℕ) → Goes (core.run_of (record { program = q; outside = o })) n → StaysLent lent q o n
+    → (link : Follows (event_as (shown g.program.layout)) (core.run_of (record { program = q; outside = o })) (sym.weighed_of g price sure e o (sym_start g.program r m)) n)
+    × IsSlow (event_as (shown g.program.layout)) (core.run_of (record { program = q; outside = o })) (sym.weighed_of g price sure e o (sym_start g.program r m)) n link
+    × StaysOpen hidden g e o (sym_start g.program r m) (link.at n)

@@ -1,11 +1,12 @@
 -- Runs without an event by parts: code of a body, and the call of a routine.
-use Rattle.std.proofs.Common.{◌≡◌, ◌≢◌, ℕ, zero, suc, ◌+◌, ◌*◌, ◌<◌, ◌≤◌, Bool, true, not, nat_lt, List, [], ◌∷◌, ◌++◌, length, take, drop, Option, Some, None, slice_get, refl, sym, ap, ◌∙◌, arith}
+use Rattle.std.proofs.Common.{◌≡◌, ◌≢◌, ℕ, zero, suc, ◌+◌, ◌*◌, ◌<◌, ◌≤◌, Bool, true, false, not, nat_lt, if◌then◌else◌, List, [], ◌∷◌, ◌++◌, length, take, drop, Option, Some, None, slice_get, refl, sym, ap, ◌∙◌, arith}
 use Rattle.core_code.specs.declared.code.Byte.{Byte}
 use Rattle.math_helpers.specs.Shape.{is_straight, sum_from}
+use Rattle.select_wide.specs.Direct.{is_indirect, direct_run}
 use Rattle.select_wide.specs.Moves.{copies_code}
 use Rattle.sym_code.specs.Effect.{Memory, Quiet, Stuck, effect, effect_of, is_in_page, call, jump_to}
-use Rattle.sym_code.specs.Programs.{Position, position, stand, lands}
-use Rattle.sym_code.specs.Quiet.{Scene, quiet_run, quiet_cost, quiet_by}
+use Rattle.sym_code.specs.Programs.{Position, position, fetched, stand, lands}
+use Rattle.sym_code.specs.Quiet.{Scene, quiet_cost, quiet_by}
 use Rattle.sym_code.specs.Registers.{Registers, Fits}
 use Rattle.sym_code.specs.Words.{most_words}
 use Rattle.sym_code.specs.declared.code.BlockName.TheVariants.{Copy}
@@ -14,7 +15,7 @@ use Rattle.sym_code.specs.declared.code.Sym.TheVariants as syms
 use Rattle.sym_code.specs.declared.code.Target.TheVariants as targets
 use Rattle.select_code.specs.Pieces.{byte_behind}
 use Rattle.select_trace.proofs.Truths.{or_left, if_true}
-use Rattle.select_trace.proofs.Standing.{Has}
+use Rattle.select_trace.proofs.Standing.{Has, stand_word}
 use Rattle.select_trace.proofs.Placed.{slot}
 use Rattle.select_trace.proofs.Sites.{Site, layout}
 use Rattle.select_trace.proofs.Live.{IsUser}
@@ -30,11 +31,11 @@ use Rattle.helper_trace.proofs.Quiet.{runs_then, costs_then}
 use Rattle.value_trace.proofs.Setup.{slot_is, has_drop, behind_lands}
 use Rattle.value_trace.proofs.Sizes.{straight_of, Short, copies_short}
 
--- The thread comes from n to n' without an event, with these bytes of memory, at most at this cost.
+-- The thread comes from n to n' without an event and without an access through FSR, with these bytes of memory, at most at this cost.
 pub record Came (s : Site) (i : Bool) (f : ℕ) (ps : List Position) (n : ℕ) (r : Registers) (m : Memory) (n' : ℕ) (m' : Memory) (hi : ℕ) : Type 0 where
   pub count : ℕ
   pub registers : Registers
-  pub run : quiet_run s.g i count (scene s f n ps r m) ≡ Some (scene s f n' ps registers m')
+  pub run : direct_run s.g i count (scene s f n ps r m) ≡ Some (scene s f n' ps registers m')
   pub fits : Fits registers
   pub bytes : (k : ℕ) → m' k < 256
   pub cost : quiet_cost s.g s.price i count (scene s f n ps r m) ≤ hi
@@ -164,8 +165,10 @@ call_is s i f n ps r m d lt =
     ∙ if_true (nat_lt (length ps) (s.g.limit i)) (jump_to (record (thread s f n ps r) { stack = place s f (n + 1) ∷ ps }) (Some (place s d 0))) Stuck lt
 
 pub called : (s : Site) (i : Bool) (f n : ℕ) (ps : List Position) (r : Registers) (m : Memory) (d : ℕ) → nat_lt (length ps) (s.g.limit i) ≡ true → slice_get (block s f) n ≡ Some (syms.Call (targets.Block (Copy d))) → lands s.g.program (place s d 0) ≡ true
-    → quiet_run s.g i 1 (scene s f n ps r m) ≡ Some (record { thread = thread s d 0 (place s f (n + 1) ∷ ps) r; memory = m })
-unfolding quiet_run
+    → direct_run s.g i 1 (scene s f n ps r m) ≡ Some (record { thread = thread s d 0 (place s f (n + 1) ∷ ps) r; memory = m })
+unfolding direct_run
 called s i f n ps r m d lt at there =
     let e : effect s.g i (thread s f n ps r) m ≡ Quiet (thread s d 0 (place s f (n + 1) ∷ ps) r) None = effect_word s i f n ps r m (syms.Call (targets.Block (Copy d))) at refl ∙ call_is s i f n ps r m d lt in
-    ap (quiet_by s.g.program m) e ∙ if_true (lands s.g.program (place s d 0)) (Some (record { thread = thread s d 0 (place s f (n + 1) ∷ ps) r; memory = m })) None there
+    let direct : is_indirect (fetched s.g.program (place s f n)) ≡ false = ap (λ (p : Position). is_indirect (fetched s.g.program p)) (stand_word s.g.program (Copy f) n (syms.Call (targets.Block (Copy d))) at refl) ∙ ap is_indirect at in
+    ap (λ b. if b then None else quiet_by s.g.program m (effect s.g i (thread s f n ps r) m)) direct
+    ∙ ap (quiet_by s.g.program m) e ∙ if_true (lands s.g.program (place s d 0)) (Some (record { thread = thread s d 0 (place s f (n + 1) ∷ ps) r; memory = m })) None there

@@ -15,6 +15,7 @@ use Rattle.math_helpers.specs.Layouts as layouts
 use Rattle.math_helpers.specs.Routines.{width_of, helper_code}
 use Rattle.math_helpers.specs.Shape.{frame_size, right_bytes, ArePriced}
 use Rattle.math_helpers.specs.Wanted.{byte_at, right_operand, IsCalled, Answers}
+use Rattle.select_wide.specs.Direct.{direct_run}
 use Rattle.select_wide.specs.Links.{is_inside}
 use Rattle.sym_code.specs.Effect.{Memory, root_of}
 use Rattle.sym_code.specs.Layout.{frame, address_of, general_at, is_whole, owner, Of}
@@ -134,7 +135,7 @@ module _ (answers : HelpersAnswer) (s : Site) (i : Bool) (f : ℕ) (u : IsUser s
       let lim : s.g.limit (is_inside (s.q.root d)) ≡ s.g.limit i = ap s.g.limit (ap is_inside (c.root ∙ root) ∙ inside_root i) in
       let lt : nat_lt (length ps) (s.g.limit i) ≡ true = of_lt (length ps) (s.g.limit i) (omega (arith, up, top, lv, lim)) in
       let sc : Scene = record { thread = thread s d 0 (next ∷ ps) r; memory = m } in
-      let first : quiet_run s.g i 1 (scene s f n ps r m) ≡ Some sc = called s i f n ps r m d lt at (routine_lands s f d h c) in
+      let first : direct_run s.g i 1 (scene s f n ps r m) ≡ Some sc = called s i f n ps r m d lt at (routine_lands s f d h c) in
       let there : lands s.g.program next ≡ true = subst (λ k. lands s.g.program (place s f k) ≡ true) (let z : suc n ≡ n + 1 = omega arith in z) (next_lands s f u n (syms.Call (targets.Block (Copy d))) at refl) in
       let begin : IsCalled h d s.g i next ps left right sc = record {
         code = code_is;
@@ -163,7 +164,7 @@ module _ (answers : HelpersAnswer) (s : Site) (i : Bool) (f : ℕ) (u : IsUser s
         came = record {
           count = 1 + a.count;
           registers = a.end.thread.registers;
-          run = runs_then s.g i 1 a.count (scene s f n ps r m) sc first ∙ a.run ∙ ended s f (n + 1) ps a.end got.1 a.at a.returns;
+          run = runs_then s.g i 1 a.count (scene s f n ps r m) sc first ∙ got.2 ∙ ended s f (n + 1) ps a.end got.1 a.at a.returns;
           fits = a.fits;
           bytes = a.bytes;
           cost = omega (arith, both, price, one, dear);

@@ -12,12 +12,13 @@ use Rattle.sym_code.specs.Effect.{Setting, Memory, root_of}
 use Rattle.sym_code.specs.Layout.{frame}
 use Rattle.sym_code.specs.Machine.{Machine}
 use Rattle.sym_code.specs.Programs.{Position, position, stand}
-use Rattle.sym_code.specs.Quiet.{Scene, quiet_run, quiet_cost}
+use Rattle.sym_code.specs.Quiet.{Scene, quiet_cost}
 use Rattle.sym_code.specs.Registers.{Registers, Fits}
 use Rattle.sym_code.specs.declared.code.BlockName.TheVariants.{Copy}
 use Rattle.sym_code.specs.declared.code.PlainOperation.TheVariants as plains
 use Rattle.sym_code.specs.declared.code.Sym.{Sym}
 use Rattle.sym_code.specs.declared.code.Sym.TheVariants as syms
+use Rattle.select_wide.specs.Direct.{direct_run}
 use Rattle.select_trace.proofs.Standing.{Has}
 use Rattle.select_trace.proofs.Sites.{Site, layout}
 use Rattle.select_trace.proofs.Live.{IsUser, user_below, is_live, below, chain_user, one_to_one}
@@ -113,12 +114,12 @@ module _ (s : Site) (t : Machine) (wc : World Held) (f : ℕ) (pr : Option ℕ) 
 
   pub unmoved : (n hi : ℕ) (list : List Sym) (to : Byte) (count answer : ℕ) (held : ℕ → Held) → list ≡ [] → Computes bare s.price wc.inside (Copy f) 0 list to count answer bare_scene → ((k : ℕ) → k < count → Shown s (held k) (byte_at answer k)) → is_own s.q f to count ≡ true →
       Arrives s wc.inside (is_live f pr (below st)) f ps n r m (n + length list) (with_bytes cm to count held) hi
-  unfolding quiet_run quiet_cost
+  unfolding direct_run quiet_cost
   unmoved n hi list to count answer held e c shows own_to =
       let few : c.passes.count ≤ length list = c.passes.few in
       let len : length list ≡ 0 = ap length e in
       let zero_steps : c.passes.count ≡ 0 = omega arith in
-      let end : Some bare_scene ≡ Some c.passes.end = ap (λ k. quiet_run bare wc.inside k bare_scene) (sym zero_steps) ∙ c.passes.run in
+      let end : Some bare_scene ≡ Some c.passes.end = ap (λ k. direct_run bare wc.inside k bare_scene) (sym zero_steps) ∙ c.passes.run in
       let same : (k : ℕ) → k < count → m (number_at (layout s) (behind to k)) ≡ byte_at answer k = λ k lt. ap (λ (x : Scene). x.memory (number_at (layout s) (behind to k))) (inside end) ∙ c.bytes k lt in
       computes_arrive s wc.inside f pr (below st) ps n r m (n + length list) cm to count held hi (one_to_one s f pr st fit.passing fit.chain) fit.agree own_to (record {
         steps = 0;

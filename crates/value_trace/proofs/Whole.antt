@@ -1,10 +1,10 @@
 -- Selection keeps the trace.
 use Rattle.std.proofs.Common.{◌≡◌, Bool, true, false, refl}
 use Rattle.core_code.specs.Operands.{number_left, is_helped}
-use Rattle.select_wide.specs.Links.{Selects}
+use Rattle.select_wide.specs.Links.{Selects, SelectsOpen}
 use Rattle.select_trace.proofs.Sites.{Site}
 use Rattle.select_trace.proofs.Values.{ValuesGo}
-use Rattle.select_trace.proofs.Runs.{selects_law}
+use Rattle.select_trace.proofs.Runs.{selects_law, opens_law}
 use Rattle.value_trace.proofs.Calls.{helped_binary}
 use Rattle.value_trace.proofs.Exact.{cut_holds, unary_holds, widening_holds, plain_binary}
 
@@ -25,3 +25,6 @@ values_go s = record {
 
 pub selection_law : Selects
 selection_law = selects_law values_go
+
+pub open_law : SelectsOpen
+open_law = opens_law values_go

@@ -9,7 +9,7 @@ use Rattle.core_code.specs.declared.code.Byte.{Byte}
 use Rattle.pic_world.specs.declared.Root.{Root}
 use Rattle.sym_code.specs.Selects.{is_select}
 use Rattle.sym_code.specs.Words.{most_words, most_of_one}
-use Rattle.sym_code.specs.declared.code.BitOperation.TheVariants.{Btfsc}
+use Rattle.sym_code.specs.declared.code.BitOperation.TheVariants.{Btfsc, Btfss}
 use Rattle.sym_code.specs.declared.code.FileOperation.TheVariants.{Movf, Iorwf}
 use Rattle.sym_code.specs.declared.code.Into.TheVariants.{W}
 use Rattle.sym_code.specs.declared.code.Label.{Label}
@@ -20,8 +20,8 @@ use Rattle.sym_code.specs.declared.code.Sym.TheVariants as syms
 use Rattle.sym_code.specs.declared.code.Target.{Target}
 use Rattle.sym_code.specs.declared.code.Target.TheVariants as target
 use Rattle.bank_page.specs.Kinds.{is_skip}
-use Rattle.select_code.specs.Pieces.{byte_behind, file_code, flag_bit, flag_code, ors_code, test_code, jump_code, goto_code, label_code, first_label, second_label}
-use Rattle.select_code.specs.Selected.{code_of, parts_code, first_code, IfForm, Jumps, Half, Whole, if_form, if_code, turned, is_exit, short_list}
+use Rattle.select_code.specs.Pieces.{byte_behind, file_code, flag_bit, flag_code, ors_code, test_code, jump_code, unless_code, goto_code, label_code, first_label, second_label}
+use Rattle.select_code.specs.Selected.{code_of, parts_code, first_code, IfForm, Jumps, Leaps, Half, Other, Whole, if_form, if_code, turned, is_exit, short_list}
 use Rattle.select_code.specs.declared.control.Ending.{Ending}
 use Rattle.select_code.specs.declared.pieces.Flag.TheVariants.{Zero}
 use Rattle.select_wide.specs.Selection.{wide_code}
@@ -178,16 +178,31 @@ module _ (list : List FnCopy) (root : Root) (end : Ending) (c : ℕ) where
       flag_free : (has : Bool) → Pays c has false 1 has true (flag_code Btfsc Zero)
       flag_free has = pays_plain c (syms.Bit Btfsc (operands.Register Status) (flag_bit Zero)) has false (refl, refl, refl, refl, refl)
 
+  unless_pays : (label : Label) → Pays c false false 4 false false (unless_code label)
+  unless_pays label = pays_on c false false false true false false 1 3 (flag_code Btfss Zero) (goto_code label) (flag_free false) (goto_pays label false true)
+    where
+      flag_free : (has : Bool) → Pays c has false 1 has true (flag_code Btfss Zero)
+      flag_free has = pays_plain c (syms.Bit Btfss (operands.Register Status) (flag_bit Zero)) has false (refl, refl, refl, refl, refl)
+
   if_pays : (form : IfForm) (at n h f : ℕ) (test : List Sym) (holds fails : ℕ → List Sym) → Pays c false false n false false test → ((k : ℕ) → Pays c false false h false false (holds k)) → ((k : ℕ) → Pays c false false f false false (fails k))
       → Pays c false false (n + 7 + h + f) false false (if_code form at test holds fails)
   if_pays (Jumps to) at n h f test holds fails p q r =
       pays_more c false false false false (n + 4) (n + 7 + h + f) (test ++ jump_code to) (omega arith) (pays_on c false false false false false false n 4 test (jump_code to) p (jump_pays to))
+  if_pays (Leaps to) at n h f test holds fails p q r =
+      pays_more c false false false false (n + 4) (n + 7 + h + f) (test ++ unless_code to) (omega arith) (pays_on c false false false false false false n 4 test (unless_code to) p (unless_pays to))
   if_pays Half at n h f test holds fails p q r =
       let to = second_label at in
       let head = test ++ jump_code to in
       pays_more c false false false false (n + 4 + h + 0) (n + 7 + h + f) (head ++ holds (at + length head) ++ label_code to) (omega arith)
       (pays_on c false false false false false false (n + 4 + h) 0 (head ++ holds (at + length head)) (label_code to)
       (pays_on c false false false false false false (n + 4) h head (holds (at + length head)) (pays_on c false false false false false false n 4 test (jump_code to) p (jump_pays to)) (q (at + length head)))
+      (label_pays to false))
+  if_pays Other at n h f test holds fails p q r =
+      let to = second_label at in
+      let head = test ++ unless_code to in
+      pays_more c false false false false (n + 4 + f + 0) (n + 7 + h + f) (head ++ fails (at + length head) ++ label_code to) (omega arith)
+      (pays_on c false false false false false false (n + 4 + f) 0 (head ++ fails (at + length head)) (label_code to)
+      (pays_on c false false false false false false (n + 4) f head (fails (at + length head)) (pays_on c false false false false false false n 4 test (unless_code to) p (unless_pays to)) (r (at + length head)))
       (label_pays to false))
   if_pays Whole at n h f test holds fails p q r =
       let to = first_label at in

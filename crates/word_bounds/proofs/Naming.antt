@@ -31,8 +31,8 @@ use Rattle.sym_code.specs.declared.code.Label.{Label}
 use Rattle.sym_code.specs.declared.code.Register.TheVariants.{Fsr, Indf}
 use Rattle.sym_code.specs.declared.code.Sym.{Sym}
 use Rattle.ram_place.specs.Helpers.{frame_bytes}
-use Rattle.select_code.specs.Pieces.{byte_behind, file_code, store_code, clear_code, number_code, flag_code, bit_code, is_clearable, set_code, copy_code, ors_code, test_code, first_label, second_label, label_code, goto_code, jump_code, bit_read_code, bit_write_code}
-use Rattle.select_code.specs.Selected.{leave_code, jump_target, goes_to, IfForm, Jumps, Half, Whole, if_form, if_code, short_turn, turned, loop_code, code_of, first_code, parts_code}
+use Rattle.select_code.specs.Pieces.{byte_behind, file_code, store_code, clear_code, number_code, flag_code, bit_code, is_clearable, set_code, copy_code, ors_code, test_code, first_label, second_label, label_code, goto_code, jump_code, unless_code, bit_read_code, bit_write_code}
+use Rattle.select_code.specs.Selected.{leave_code, jump_target, goes_to, IfForm, Jumps, Leaps, Half, Other, Whole, if_form, if_code, short_turn, turned, loop_code, code_of, first_code, parts_code}
 use Rattle.select_code.specs.Sized.{is_cut}
 use Rattle.select_code.specs.declared.control.Ending.{Ending}
 use Rattle.select_code.specs.declared.control.Ending.TheVariants as ending
@@ -435,11 +435,18 @@ module _ (memory : Memory) where
       in_jump : (label : Label) → AreIn (jump_code label)
       in_jump label = in_on (flag_code Btfsc Zero) (goto_code label) (in_flag Btfsc Zero) (in_goto label)
 
+      in_unless : (label : Label) → AreIn (unless_code label)
+      in_unless label = in_on (flag_code Btfss Zero) (goto_code label) (in_flag Btfss Zero) (in_goto label)
+
       in_if : (form : IfForm) (at : ℕ) (test : List Sym) (holds fails : ℕ → List Sym) → AreIn test → ((k : ℕ) → AreIn (holds k)) → ((k : ℕ) → AreIn (fails k)) → AreIn (if_code form at test holds fails)
       in_if (Jumps to) at test holds fails p q r = in_on test (jump_code to) p (in_jump to)
+      in_if (Leaps to) at test holds fails p q r = in_on test (unless_code to) p (in_unless to)
       in_if Half at test holds fails p q r =
           let head = test ++ jump_code (second_label at) in
           in_on (head ++ holds (at + length head)) (label_code (second_label at)) (in_on head (holds (at + length head)) (in_on test (jump_code (second_label at)) p (in_jump (second_label at))) (q (at + length head))) (in_label (second_label at))
+      in_if Other at test holds fails p q r =
+          let head = test ++ unless_code (second_label at) in
+          in_on (head ++ fails (at + length head)) (label_code (second_label at)) (in_on head (fails (at + length head)) (in_on test (unless_code (second_label at)) p (in_unless (second_label at))) (r (at + length head))) (in_label (second_label at))
       in_if Whole at test holds fails p q r =
           let head = test ++ jump_code (first_label at) in
           let middle = head ++ holds (at + length head) ++ goto_code (second_label at) ++ label_code (first_label at) in

@@ -6,6 +6,7 @@ use crate::rows::{Act, Shown};
 use crate::search::bits::Bits;
 use crate::search::effects::{Effect, effect_of, flag_of, no_effect, zero_flag};
 use crate::search::known::Knowledge;
+use crate::search::reach::Reach;
 use crate::shown::bit_of;
 use crate::walk::{is_label, same_label, same_name};
 use core_code::Byte;
@@ -321,7 +322,7 @@ fn last_word(list: &[Sym]) -> usize {
 
 fn places_of(
     alloc: Global,
-    ground: &Ground,
+    reach: &Reach,
     blocks: &[SymBlock],
     variables: &[u64],
     inside: bool,
@@ -332,7 +333,7 @@ fn places_of(
     let mut group = 0;
     let mut skips = false;
     for (at, sym) in list.iter().enumerate() {
-        let effect = effect_of(ground, inside, *sym);
+        let effect = effect_of(reach, inside, *sym);
         let way = way_of(blocks, list, *sym);
         if !skips || is_label(*sym) {
             group = at;
@@ -367,17 +368,17 @@ fn is_inside(ground: &Ground, name: BlockName) -> bool {
 
 fn body_of(
     alloc: Global,
-    ground: &Ground,
+    reach: &Reach,
     blocks: &[SymBlock],
     variables: &[u64],
     block: &SymBlock,
 ) -> Result<Body, AllocError> {
-    let inside = is_inside(ground, block.name);
+    let inside = is_inside(reach.ground, block.name);
     let room = block.list.len();
     Ok(Body {
         name: block.name,
         inside,
-        places: places_of(alloc, ground, blocks, variables, inside, &block.list)?,
+        places: places_of(alloc, reach, blocks, variables, inside, &block.list)?,
         known: vec![in alloc; Knowledge::unreached(); room]?,
         ends: Knowledge::unreached(),
         begins: false,
@@ -389,13 +390,13 @@ fn body_of(
 /// The blocks of a program, before anything is searched for.
 pub fn bodies_of(
     alloc: Global,
-    ground: &Ground,
+    reach: &Reach,
     blocks: &[SymBlock],
     variables: &[u64],
 ) -> Result<Vec<Body>, AllocError> {
     let mut bodies = Vec::new(alloc);
     for block in blocks {
-        bodies.push(body_of(alloc, ground, blocks, variables, block)?)?;
+        bodies.push(body_of(alloc, reach, blocks, variables, block)?)?;
     }
     Ok(bodies)
 }

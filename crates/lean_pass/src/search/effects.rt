@@ -3,7 +3,9 @@
 use crate::behind::{Flags, flags_in, literal_flags};
 use crate::keeping::is_status;
 use crate::operations::{is_retlw, literal_uses, may_skip, uses_c, uses_w};
-use crate::owners::{Aim, Ground};
+use crate::owners::Aim;
+use crate::search::bits::Bits;
+use crate::search::reach::Reach;
 use sym_code::{
     BitOperation, FileOperation, Into, LiteralOperation, Operand, PlainOperation, Sym,
     is_bit_write, is_file,
@@ -13,8 +15,8 @@ use sym_code::{
 #[derive(Clone, Copy)]
 pub struct Effect {
     pub reads: Option<usize>,
-    /// It reads or writes what FSR and IRP point to.
-    pub through: bool,
+    /// The bytes to which FSR and IRP may point, where it reads what they point to.
+    pub reaches: Bits,
     pub uses_w: bool,
     pub uses: Flags,
     pub writes: Option<usize>,
@@ -44,7 +46,7 @@ pub fn zero_flag() -> Flags {
 pub fn no_effect() -> Effect {
     Effect {
         reads: None,
-        through: false,
+        reaches: Bits::none(),
         uses_w: false,
         uses: no_flags(),
         writes: None,
@@ -62,10 +64,10 @@ fn byte_of(aim: Aim) -> Option<usize> {
     }
 }
 
-fn is_through(aim: Aim) -> bool {
+fn reached(reach: &Reach, aim: Aim) -> Bits {
     match aim {
-        Aim::Through => true,
-        _ => false,
+        Aim::Through => reach.open(),
+        _ => Bits::none(),
     }
 }
 
@@ -78,11 +80,11 @@ pub fn flag_of(bit: u8) -> Flags {
     }
 }
 
-fn file_effect(op: FileOperation, aim: Aim, into_file: bool) -> Effect {
+fn file_effect(reach: &Reach, op: FileOperation, aim: Aim, into_file: bool) -> Effect {
     let byte = byte_of(aim);
     Effect {
         reads: byte,
-        through: is_through(aim),
+        reaches: reached(reach, aim),
         uses_w: uses_w(op),
         uses: Flags {
             z: false,
@@ -130,12 +132,12 @@ fn flag_effect(op: BitOperation, bit: u8) -> Effect {
     }
 }
 
-fn bit_effect(op: BitOperation, aim: Aim) -> Effect {
+fn bit_effect(reach: &Reach, op: BitOperation, aim: Aim) -> Effect {
     let byte = byte_of(aim);
     let writes = is_bit_write(op);
     Effect {
         reads: byte,
-        through: is_through(aim),
+        reaches: reached(reach, aim),
         writes: if writes { byte } else { None },
         silent: byte.is_some(),
         skips: !writes,
@@ -171,11 +173,12 @@ fn plain_effect(op: PlainOperation) -> Effect {
 }
 
 /// What an instruction of a block reads and writes.
-pub fn effect_of(ground: &Ground, inside: bool, sym: Sym) -> Effect {
+pub fn effect_of(reach: &Reach, inside: bool, sym: Sym) -> Effect {
+    let ground = reach.ground;
     match sym {
         Sym::File { op, file, into } => {
             let to_file = is_file(into);
-            file_effect(op, ground.aim(inside, to_file, file), to_file)
+            file_effect(reach, op, ground.aim(inside, to_file, file), to_file)
         }
         Sym::Movwf(file) => store_effect(ground.aim(inside, true, file), true),
         Sym::Clrf(file) => store_effect(ground.aim(inside, true, file), false),
@@ -183,7 +186,7 @@ pub fn effect_of(ground: &Ground, inside: bool, sym: Sym) -> Effect {
             if is_status(file) {
                 flag_effect(op, bit)
             } else {
-                bit_effect(op, ground.aim(inside, is_bit_write(op), file))
+                bit_effect(reach, op, ground.aim(inside, is_bit_write(op), file))
             }
         }
         Sym::Literal { op, .. } => literal_effect(op),

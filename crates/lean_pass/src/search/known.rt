@@ -3,9 +3,10 @@
 use crate::behind::{Flags, flags_in, is_number};
 use crate::computing::{computed, file_for, leaves_w, same_known, way_of, way_of_bit};
 use crate::keeping::is_status;
-use crate::owners::{Aim, Ground};
+use crate::owners::Aim;
 use crate::search::bits::Bits;
 use crate::search::bodies::{Place, Span};
+use crate::search::reach::Reach;
 use sym_code::{
     FileOperation, Into, Literal, LiteralOperation, PlainOperation, Sym, is_bit_write, is_file,
 };
@@ -174,7 +175,7 @@ impl Knowledge {
         self.zero = false;
     }
 
-    fn lost(&mut self, aim: Aim) {
+    fn lost(&mut self, reach: &Reach, aim: Aim) {
         match aim {
             Aim::ToByte(byte) => {
                 self.held.take(byte);
@@ -182,11 +183,21 @@ impl Knowledge {
                 self.forget_copies(byte);
             }
             Aim::Through => {
-                self.held = Bits::none();
-                self.known = Bits::none();
-                self.copies = Bits::none();
+                self.held = self.held.meet(reach.hidden);
+                self.known = self.known.meet(reach.hidden);
+                self.forget_open(reach.hidden);
             }
             _ => {}
+        }
+    }
+
+    // A byte that isn't hidden becomes another one.
+    fn forget_open(&mut self, hidden: Bits) {
+        self.copies = self.copies.meet(hidden);
+        for byte in 0..BYTES {
+            if !hidden.has(self.origins[byte] as usize) {
+                self.copies.take(byte);
+            }
         }
     }
 
@@ -257,7 +268,7 @@ impl Knowledge {
     }
 
     // A number that may be known is written.
-    fn written(&mut self, aim: Aim, number: Option<u8>) {
+    fn written(&mut self, reach: &Reach, aim: Aim, number: Option<u8>) {
         self.zero = false;
         match aim {
             Aim::ToByte(byte) => {
@@ -265,11 +276,11 @@ impl Knowledge {
                 self.forget_copies(byte);
                 self.learn(byte, number);
             }
-            _ => self.lost(aim),
+            _ => self.lost(reach, aim),
         }
     }
 
-    fn stored(&mut self, aim: Aim, variables: Span) {
+    fn stored(&mut self, reach: &Reach, aim: Aim, variables: Span) {
         match aim {
             Aim::ToByte(byte) => {
                 self.forget_copies(byte);
@@ -278,7 +289,7 @@ impl Knowledge {
                 let number = self.number;
                 self.learn(byte, number);
             }
-            _ => self.lost(aim),
+            _ => self.lost(reach, aim),
         }
     }
 
@@ -296,12 +307,12 @@ impl Knowledge {
         }
     }
 
-    fn file(&mut self, op: FileOperation, aim: Aim, into: Into) {
+    fn file(&mut self, reach: &Reach, op: FileOperation, aim: Aim, into: Into) {
         match into {
             Into::W => self.to_w(op, aim),
             Into::File => {
                 let number = self.result(op, self.number_at(aim));
-                self.written(aim, number);
+                self.written(reach, aim, number);
                 self.with_bits(flags_in(op));
             }
         }
@@ -321,20 +332,21 @@ impl Knowledge {
     }
 
     /// What is known behind an instruction.
-    pub fn pass(&mut self, ground: &Ground, inside: bool, place: &Place) {
+    pub fn pass(&mut self, reach: &Reach, inside: bool, place: &Place) {
+        let ground = reach.ground;
         match place.sym {
             Sym::File { op, file, into } => {
                 let writes = is_file(into);
-                self.file(op, ground.aim(inside, writes, file), into);
+                self.file(reach, op, ground.aim(inside, writes, file), into);
             }
-            Sym::Movwf(file) => self.stored(ground.aim(inside, true, file), place.variables),
-            Sym::Clrf(file) => self.written(ground.aim(inside, true, file), Some(0)),
+            Sym::Movwf(file) => self.stored(reach, ground.aim(inside, true, file), place.variables),
+            Sym::Clrf(file) => self.written(reach, ground.aim(inside, true, file), Some(0)),
             Sym::Bit { op, file, .. } => {
                 if is_bit_write(op) {
                     if is_status(file) {
                         self.zero = false;
                     } else {
-                        self.lost(ground.aim(inside, true, file));
+                        self.lost(reach, ground.aim(inside, true, file));
                     }
                 }
             }

@@ -1,8 +1,8 @@
 //! What is known at each place of all blocks. Calls and returns take it along.
 
-use crate::owners::Ground;
 use crate::search::bodies::{Body, Place, Way};
 use crate::search::known::Knowledge;
+use crate::search::reach::Reach;
 use std::alloc::{AllocError, Global};
 use sym_code::BlockName;
 
@@ -63,7 +63,7 @@ impl Body {
     }
 
     // What is known at a place goes on to those behind it.
-    fn go_on(&mut self, ground: &Ground, at: usize, place: &Place, ends: &[Knowledge]) -> bool {
+    fn go_on(&mut self, reach: &Reach, at: usize, place: &Place, ends: &[Knowledge]) -> bool {
         let mut known = match self.known.get(at) {
             Some(known) => *known,
             None => return false,
@@ -72,15 +72,15 @@ impl Body {
             return false;
         }
         let way = known.way(place.sym, place.effect.reads);
-        known.pass(ground, self.inside, place);
+        known.pass(reach, self.inside, place);
         self.go_behind(at, place, &known, way, ends)
     }
 
-    fn go_through(&mut self, ground: &Ground, ends: &[Knowledge]) -> bool {
+    fn go_through(&mut self, reach: &Reach, ends: &[Knowledge]) -> bool {
         let mut changed = false;
         for at in 0..self.places.len() {
             if let Some(place) = self.place(at) {
-                changed = self.go_on(ground, at, &place, ends) || changed;
+                changed = self.go_on(reach, at, &place, ends) || changed;
             }
         }
         changed
@@ -148,10 +148,10 @@ fn enter(bodies: &mut [Body], own: usize) -> bool {
     changed
 }
 
-fn learn_round(bodies: &mut [Body], ground: &Ground, ends: &mut [Knowledge]) -> bool {
+fn learn_round(bodies: &mut [Body], reach: &Reach, ends: &mut [Knowledge]) -> bool {
     let mut changed = false;
     for own in 0..bodies.len() {
-        changed = bodies[own].go_through(ground, ends) || changed;
+        changed = bodies[own].go_through(reach, ends) || changed;
         changed = enter(bodies, own) || changed;
         if own < ends.len() {
             ends[own] = bodies[own].ends;
@@ -182,7 +182,7 @@ fn open(bodies: &mut [Body], ends: &mut [Knowledge]) -> bool {
 pub fn learn_all(
     alloc: Global,
     bodies: &mut [Body],
-    ground: &Ground,
+    reach: &Reach,
     handler: Option<u16>,
 ) -> Result<bool, AllocError> {
     let mut ends = vec![in alloc; Knowledge::unreached(); bodies.len()]?;
@@ -192,7 +192,7 @@ pub fn learn_all(
         }
     }
     for _round in 0..ROUNDS {
-        if !learn_round(bodies, ground, &mut ends) && !open(bodies, &mut ends) {
+        if !learn_round(bodies, reach, &mut ends) && !open(bodies, &mut ends) {
             return Ok(true);
         }
     }

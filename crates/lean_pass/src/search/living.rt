@@ -26,9 +26,7 @@ fn before(effect: Effect, after: Live) -> Live {
     if let Some(byte) = effect.reads {
         live.bytes.put(byte);
     }
-    if effect.through {
-        live.bytes = Bits::all();
-    }
+    live.bytes = live.bytes.join(effect.reaches);
     live
 }
 
@@ -141,9 +139,7 @@ impl Body {
             if let Some(byte) = effect.reads {
                 reads.put(byte);
             }
-            if effect.through {
-                reads = Bits::all();
-            }
+            reads = reads.join(effect.reaches);
             if let Way::Call(Some(callee)) = place.way {
                 let other = summary_at(summaries, callee);
                 named = named.join(other.named);

@@ -10,5 +10,6 @@ mod known;
 mod learning;
 mod living;
 mod planning;
+mod reach;
 
 pub use planning::{BlockPlan, Plan, Plans, search};

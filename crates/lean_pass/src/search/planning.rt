@@ -9,6 +9,7 @@ use crate::search::differing::find_differing;
 use crate::search::known::{BYTES, Knowledge};
 use crate::search::learning::learn_all;
 use crate::search::living::{find_live, find_outer};
+use crate::search::reach::{Reach, hidden_in};
 use pic_map::Placed;
 use std::alloc::{AllocError, Global};
 use sym_code::{BlockName, SymBlock};
@@ -296,13 +297,18 @@ pub fn search(
     handler: Option<u16>,
     placed: &Placed,
     variables: &[u64],
+    lent: &[bool],
 ) -> Result<Option<Plans>, AllocError> {
     let ground = grounded(alloc, placed)?;
-    let mut bodies = bodies_of(alloc, &ground, blocks, variables)?;
+    let reach = Reach {
+        ground: &ground,
+        hidden: hidden_in(placed, lent),
+    };
+    let mut bodies = bodies_of(alloc, &reach, blocks, variables)?;
     let mut summaries = vec![in alloc; Summary::nothing(); blocks.len()]?;
     let main = bytes_of(&ground, false);
     let isr = bytes_of(&ground, true);
-    let found = learn_all(alloc, &mut bodies, &ground, handler)?
+    let found = learn_all(alloc, &mut bodies, &reach, handler)?
         && search_all(&mut bodies, &mut summaries)
         && find_outer(&bodies, main, isr, &mut summaries);
     if !found {
@@ -312,8 +318,6 @@ pub fn search(
     Ok(Some(Plans {
         blocks: all_plans(alloc, &bodies, &summaries, main, isr)?,
         rest: set_of(alloc, rest_of(&bodies, &summaries, handler, isr))?,
-        hidden: ByteSet {
-            has: Vec::new(alloc),
-        },
+        hidden: set_of(alloc, reach.hidden)?,
     }))
 }

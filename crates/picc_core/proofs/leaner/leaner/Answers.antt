@@ -8,5 +8,6 @@ handler_of-handler-requires c = copies_low c.args.typed.now c.args.copies.now.li
 
 pub returns-then-fits : goal.returns-then-fits
 returns-then-fits c =
-    lean_lent c.args.typed.now c.args.copies.now.list.items c.args.placed.now c.args.at.now c.requires.founded _ _ _ _ _ _ _ _ _ c.deref.ensures.value c.in_ok-variables.ensures c.deref-3.ensures.value
-    c.deref-2.ensures.value c.deref-5.ensures.value c.handler_of-handler.ensures c.in_ok-blocks.ensures.lean c.in_ok-made.ensures (c.if-fits.ensures.fit refl)
+    lean_lent c.args.typed.now c.args.copies.now.list.items c.args.placed.now c.args.at.now c.requires.founded c.args.core.now c.in-Some.lent.items _ _ _ _ _ _ _ _ _ _
+    (rw (c.deref-2.ensures.value, c.in-Some.is) at c.in_ok-lent.ensures) c.deref-5.ensures.value c.deref.ensures.value c.in_ok-variables.ensures c.deref-4.ensures.value
+    c.deref-3.ensures.value c.deref-7.ensures.value c.handler_of-handler.ensures c.in_ok-blocks.ensures.lean c.in_ok-made.ensures (c.if-fits.ensures.fit refl)

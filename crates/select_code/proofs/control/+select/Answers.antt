@@ -4,8 +4,8 @@ use Rattle.core_code.specs.Tree.{trees_of}
 use Rattle.core_code.specs.View.{tree_of, trees_in}
 use Rattle.core_code.proofs.Views.{tree_many, tree_if, tree_loop}
 use Rattle.select_code.specs.Pieces.{first_label, second_label}
-use Rattle.select_code.specs.Selected.{code_of, parts_code, loop_code, turn_code, short_list, is_nothing}
-use Rattle.select_code.proofs.Chains.{parts_next, parts_length, jump_same, if_jump, if_one, if_both, turn_short, turn_whole, turn_other}
+use Rattle.select_code.specs.Selected.{code_of, parts_code, loop_code, turn_code, short_list}
+use Rattle.select_code.proofs.Chains.{parts_next, parts_length, jump_same, nothing_same, form_jumps, form_leaps, form_half, form_other, form_whole, if_jump, if_leap, if_one, if_other, if_both, turn_short, turn_whole, turn_other}
 use Rattle.select_code.proofs.Others.{no_turn, no_control}
 use Rattle.select_code.proofs.control.+select.Goals as goal
 
@@ -71,36 +71,87 @@ select_turn-returns-in_ok-select_with-in_default g t c =
 
 pub select_with-returns-in-Some-clause-put : goal.select_with-returns-in-Some-clause-put
 select_with-returns-in-Some-clause-put g t c =
+    let w = g.W.Wide.code c.args.wide.now in
+    let items = c.args.loops.now.starts.items in
+    let loops = reverse items in
+    let o = c.args.out.now.list.items in
     let k = c.in-If in
     on_ok_weaker c.put_jump_if_zero.result
-    (λ h. if_jump (g.W.Wide.code c.args.wide.now) c.args.ending (reverse c.args.loops.now.starts.items) (trees_in c.args.before.now) (tree_of c.args.c.now) (tree_of k.yes.value) (tree_of k.no.value) k.test k.size
-    c.args.out.now.list.items c.put_test.new.out.list.items c.put_jump_if_zero.new.out.list.items c.in-Some.label
+    (λ h. if_jump w c.args.ending loops (trees_in c.args.before.now) (tree_of c.args.c.now) (tree_of k.yes.value) (tree_of k.no.value) k.test k.size
+    o c.put_test.new.out.list.items c.put_jump_if_zero.new.out.list.items c.in-Some.label
     (ap tree_of k.is ∙ tree_if k.test k.size k.yes k.no)
-    (jump_same c.args.loops.now.starts.items c.deref-in-If.result.now k.yes.value c.deref-in-If-2.result.now k.no.value c.short_jump.result c.short_jump.ensures c.deref-in-If.ensures c.deref-in-If-2.ensures ∙ c.in-Some.is)
+    (form_jumps loops (tree_of k.yes.value) (tree_of k.no.value) c.in-Some.label
+    (jump_same items c.deref-in-If.result.now k.yes.value c.deref-in-If-2.result.now k.no.value c.short_jump.result c.short_jump.ensures c.deref-in-If.ensures c.deref-in-If-2.ensures ∙ c.in-Some.is))
     c.in_ok-put_test-in-If.ensures.put h)
     c.put_jump_if_zero.ensures.put
+
+pub select_with-returns-in-Some-short_jump-clause-put : goal.select_with-returns-in-Some-short_jump-clause-put
+select_with-returns-in-Some-short_jump-clause-put g t c =
+    let w = g.W.Wide.code c.args.wide.now in
+    let items = c.args.loops.now.starts.items in
+    let loops = reverse items in
+    let o = c.args.out.now.list.items in
+    let k = c.in-If in
+    on_ok_weaker c.put_jump_unless_zero.result
+    (λ h. if_leap w c.args.ending loops (trees_in c.args.before.now) (tree_of c.args.c.now) (tree_of k.yes.value) (tree_of k.no.value) k.test k.size
+    o c.put_test.new.out.list.items c.put_jump_unless_zero.new.out.list.items c.in-Some-short_jump.label
+    (ap tree_of k.is ∙ tree_if k.test k.size k.yes k.no)
+    (form_leaps loops (tree_of k.yes.value) (tree_of k.no.value) c.in-Some-short_jump.label
+    (jump_same items c.deref-in-If.result.now k.yes.value c.deref-in-If-2.result.now k.no.value c.short_jump.result c.short_jump.ensures c.deref-in-If.ensures c.deref-in-If-2.ensures ∙ c.in_default-short_jump.is)
+    (jump_same items c.deref-in-If-3.result.now k.no.value c.deref-in-If-4.result.now k.yes.value c.short_jump-in-If.result c.short_jump-in-If.ensures c.deref-in-If-3.ensures c.deref-in-If-4.ensures ∙ c.in-Some-short_jump.is))
+    c.in_ok-put_test-in-If.ensures.put h)
+    c.put_jump_unless_zero.ensures.put
 
 pub select_with-returns-then-is_empty-clause-put : goal.select_with-returns-then-is_empty-clause-put
 select_with-returns-then-is_empty-clause-put g t c =
     let w = g.W.Wide.code c.args.wide.now in
-    let loops = reverse c.args.loops.now.starts.items in
+    let items = c.args.loops.now.starts.items in
+    let loops = reverse items in
     let o = c.args.out.now.list.items in
-    let q = c.put_jump_if_zero-then-is_empty.new.out.list.items in
     let k = c.in-If in
+    let q = c.put_jump_if_zero-then-is_empty.new.out.list.items in
     let counted = c.args.out.now.list.ok.0 in
     let here : c.len-at.result ≡ length o = omega (arith, c.len-at.ensures, counted) in
     on_ok_weaker c.put_label.result
     (λ h. if_one w c.args.ending loops (trees_in c.args.before.now) (tree_of c.args.c.now) (tree_of k.yes.value) (tree_of k.no.value) k.test k.size
     o c.put_test.new.out.list.items q c.select_with.new.out.list.items c.put_label.new.out.list.items c.make_second_label-end.result
     (ap tree_of k.is ∙ tree_if k.test k.size k.yes k.no)
-    (jump_same c.args.loops.now.starts.items c.deref-in-If.result.now k.yes.value c.deref-in-If-2.result.now k.no.value c.short_jump.result c.short_jump.ensures c.deref-in-If.ensures c.deref-in-If-2.ensures ∙ c.in_default-short_jump.is)
-    (sym (c.is_empty.ensures ∙ ap (λ v. is_nothing (tree_of v)) c.deref-in-If-3.ensures) ∙ c.if-is_empty.true)
+    (form_half loops (tree_of k.yes.value) (tree_of k.no.value)
+    (jump_same items c.deref-in-If.result.now k.yes.value c.deref-in-If-2.result.now k.no.value c.short_jump.result c.short_jump.ensures c.deref-in-If.ensures c.deref-in-If-2.ensures ∙ c.in_default-short_jump.is)
+    (jump_same items c.deref-in-If-3.result.now k.no.value c.deref-in-If-4.result.now k.yes.value c.short_jump-in-If.result c.short_jump-in-If.ensures c.deref-in-If-3.ensures c.deref-in-If-4.ensures ∙ c.in_default-short_jump-2.is)
+    (nothing_same c.deref-in-If-5.result.now k.no.value c.is_empty.result c.is_empty.ensures c.deref-in-If-5.ensures ∙ c.if-is_empty.true))
     (c.make_second_label-end.ensures ∙ ap second_label here)
     c.in_ok-put_test-in-If.ensures.put
     c.in_ok-put_jump_if_zero-in-If.ensures.put
     (c.in_ok-select_with-in-If.ensures.put ∙ ap (λ v. q ++ code_of w c.args.ending loops (length q) [] (tree_of v)) c.deref-then-is_empty.ensures)
     h)
     c.put_label.ensures.put
+
+pub select_with-returns-then-is_empty-2-clause-put : goal.select_with-returns-then-is_empty-2-clause-put
+select_with-returns-then-is_empty-2-clause-put g t c =
+    let w = g.W.Wide.code c.args.wide.now in
+    let items = c.args.loops.now.starts.items in
+    let loops = reverse items in
+    let o = c.args.out.now.list.items in
+    let k = c.in-If in
+    let q = c.put_jump_unless_zero-then-is_empty-2.new.out.list.items in
+    let counted = c.args.out.now.list.ok.0 in
+    let here : c.len-at.result ≡ length o = omega (arith, c.len-at.ensures, counted) in
+    on_ok_weaker c.put_label-then-is_empty-2.result
+    (λ h. if_other w c.args.ending loops (trees_in c.args.before.now) (tree_of c.args.c.now) (tree_of k.yes.value) (tree_of k.no.value) k.test k.size
+    o c.put_test.new.out.list.items q c.select_with-then-is_empty-2.new.out.list.items c.put_label-then-is_empty-2.new.out.list.items c.make_second_label-end.result
+    (ap tree_of k.is ∙ tree_if k.test k.size k.yes k.no)
+    (form_other loops (tree_of k.yes.value) (tree_of k.no.value)
+    (jump_same items c.deref-in-If.result.now k.yes.value c.deref-in-If-2.result.now k.no.value c.short_jump.result c.short_jump.ensures c.deref-in-If.ensures c.deref-in-If-2.ensures ∙ c.in_default-short_jump.is)
+    (jump_same items c.deref-in-If-3.result.now k.no.value c.deref-in-If-4.result.now k.yes.value c.short_jump-in-If.result c.short_jump-in-If.ensures c.deref-in-If-3.ensures c.deref-in-If-4.ensures ∙ c.in_default-short_jump-2.is)
+    (nothing_same c.deref-in-If-5.result.now k.no.value c.is_empty.result c.is_empty.ensures c.deref-in-If-5.ensures ∙ c.if-is_empty.false)
+    (nothing_same c.deref-in-If-6.result.now k.yes.value c.is_empty-in-If.result c.is_empty-in-If.ensures c.deref-in-If-6.ensures ∙ c.if-is_empty-2.true))
+    (c.make_second_label-end.ensures ∙ ap second_label here)
+    c.in_ok-put_test-in-If.ensures.put
+    c.in_ok-put_jump_unless_zero-in-If.ensures.put
+    (c.in_ok-select_with-in-If-2.ensures.put ∙ ap (λ v. q ++ code_of w c.args.ending loops (length q) [] (tree_of v)) c.deref-then-is_empty-2.ensures)
+    h)
+    c.put_label-then-is_empty-2.ensures.put
 
 pub select_with-returns-in-Many-clause-put : goal.select_with-returns-in-Many-clause-put
 select_with-returns-in-Many-clause-put g t c =
@@ -116,14 +167,15 @@ select_with-returns-in-Many-clause-put g t c =
     ∙ ap (λ v. o ++ code_of w c.args.ending loops (length o) (trees_in c.args.before.now) v) (sym (ap tree_of c.in-Many.is ∙ tree_many parts)))
     c.select_parts.ensures.put
 
-pub select_with-returns-in_ok-select_with-in-If-3-clause-put : goal.select_with-returns-in_ok-select_with-in-If-3-clause-put
-select_with-returns-in_ok-select_with-in-If-3-clause-put g t c =
+pub select_with-returns-in_ok-select_with-in-If-4-clause-put : goal.select_with-returns-in_ok-select_with-in-If-4-clause-put
+select_with-returns-in_ok-select_with-in-If-4-clause-put g t c =
     let w = g.W.Wide.code c.args.wide.now in
-    let loops = reverse c.args.loops.now.starts.items in
+    let items = c.args.loops.now.starts.items in
+    let loops = reverse items in
     let o = c.args.out.now.list.items in
+    let k = c.in-If in
     let q = c.put_jump_if_zero-in-If.new.out.list.items in
     let u = c.put_label-in-If.new.out.list.items in
-    let k = c.in-If in
     let counted = c.args.out.now.list.ok.0 in
     let here : c.len-at.result ≡ length o = omega (arith, c.len-at.ensures, counted) in
     on_ok_weaker c.put_label-in-If-2.result
@@ -131,18 +183,21 @@ select_with-returns-in_ok-select_with-in-If-3-clause-put g t c =
     o c.put_test.new.out.list.items q c.select_with-in-If.new.out.list.items c.put_goto.new.out.list.items u c.select_with-in-If-2.new.out.list.items c.put_label-in-If-2.new.out.list.items
     c.make_second_label-end.result c.make_first_label-otherwise.result
     (ap tree_of k.is ∙ tree_if k.test k.size k.yes k.no)
-    (jump_same c.args.loops.now.starts.items c.deref-in-If.result.now k.yes.value c.deref-in-If-2.result.now k.no.value c.short_jump.result c.short_jump.ensures c.deref-in-If.ensures c.deref-in-If-2.ensures ∙ c.in_default-short_jump.is)
-    (sym (c.is_empty.ensures ∙ ap (λ v. is_nothing (tree_of v)) c.deref-in-If-3.ensures) ∙ c.if-is_empty.false)
+    (form_whole loops (tree_of k.yes.value) (tree_of k.no.value)
+    (jump_same items c.deref-in-If.result.now k.yes.value c.deref-in-If-2.result.now k.no.value c.short_jump.result c.short_jump.ensures c.deref-in-If.ensures c.deref-in-If-2.ensures ∙ c.in_default-short_jump.is)
+    (jump_same items c.deref-in-If-3.result.now k.no.value c.deref-in-If-4.result.now k.yes.value c.short_jump-in-If.result c.short_jump-in-If.ensures c.deref-in-If-3.ensures c.deref-in-If-4.ensures ∙ c.in_default-short_jump-2.is)
+    (nothing_same c.deref-in-If-5.result.now k.no.value c.is_empty.result c.is_empty.ensures c.deref-in-If-5.ensures ∙ c.if-is_empty.false)
+    (nothing_same c.deref-in-If-6.result.now k.yes.value c.is_empty-in-If.result c.is_empty-in-If.ensures c.deref-in-If-6.ensures ∙ c.if-is_empty-2.false))
     (c.make_second_label-end.ensures ∙ ap second_label here)
     (c.make_first_label-otherwise.ensures ∙ ap first_label here)
     c.in_ok-put_test-in-If.ensures.put
     c.in_ok-put_jump_if_zero-in-If-2.ensures.put
-    (c.in_ok-select_with-in-If-2.ensures.put ∙ ap (λ v. q ++ code_of w c.args.ending loops (length q) [] (tree_of v)) c.deref-in-If-4.ensures)
+    (c.in_ok-select_with-in-If-3.ensures.put ∙ ap (λ v. q ++ code_of w c.args.ending loops (length q) [] (tree_of v)) c.deref-in-If-7.ensures)
     c.in_ok-put_goto-in-If.ensures.put
     c.in_ok-put_label-in-If.ensures.put
-    (c.in_ok-select_with-in-If-3.ensures.put
-    ∙ ap (λ v. u ++ code_of w c.args.ending (reverse c.select_with-in-If.new.loops.starts.items) (length u) [] (tree_of v)) c.deref-in-If-5.ensures
-    ∙ ap (λ l. u ++ code_of w c.args.ending (reverse l) (length u) [] (tree_of k.no.value)) c.in_ok-select_with-in-If-2.ensures.loops)
+    (c.in_ok-select_with-in-If-4.ensures.put
+    ∙ ap (λ v. u ++ code_of w c.args.ending (reverse c.select_with-in-If.new.loops.starts.items) (length u) [] (tree_of v)) c.deref-in-If-8.ensures
+    ∙ ap (λ l. u ++ code_of w c.args.ending (reverse l) (length u) [] (tree_of k.no.value)) c.in_ok-select_with-in-If-3.ensures.loops)
     h)
     c.put_label-in-If-2.ensures.put
 

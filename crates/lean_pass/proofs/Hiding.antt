@@ -1,0 +1,48 @@
+-- No byte is hidden of objects and of frames that are lent, one after the other.
+use Rattle.std.proofs.Common.{◌≡◌, ℕ, zero, suc, ◌+◌, ◌<◌, ◌≤◌, Bool, true, false, List, [], ◌∷◌, refl, sym, subst, true≢false, arith}
+use Rattle.std.specs.Prelude.{nat_eq, get_or}
+use Rattle.std.proofs.lemmas.Bool.{eqb-true}
+use Rattle.pic_chip.specs.Run.{Range}
+use Rattle.sym_code.specs.Layout.{DataLayout, FrameRange, general_at}
+use Rattle.lean_code.specs.Clear.{IsClearRange, AreClearObjects, AreClearFrames, IsClear}
+use Rattle.lean_code.specs.Links.{is_clear}
+use Rattle.lean_pass.specs.Views.{lent_by}
+
+-- ---- bytes
+pub range_none : (hidden : ℕ → Bool) (address k : ℕ) → k ≡ 0 → IsClearRange hidden address k
+range_none hidden address k none offset l = absurd (omega arith)
+
+less_but : (a k : ℕ) → a < k + 1 → nat_eq a k ≡ false → a < k
+less_but a k l e = grind arith
+
+pub range_more : (hidden : ℕ → Bool) (address k : ℕ) → is_clear hidden (general_at (address + k)) ≡ true → IsClearRange hidden address k → IsClearRange hidden address (k + 1)
+range_more hidden address k here before offset l = by (nat_eq offset k) refl
+  where
+    by : (b : Bool) → nat_eq offset k ≡ b → is_clear hidden (general_at (address + offset)) ≡ true
+    by true e = subst (λ (n : ℕ). is_clear hidden (general_at (address + n)) ≡ true) (sym (eqb-true offset k e)) here
+    by false e = before offset (less_but offset k l e)
+
+pub range_all : (hidden : ℕ → Bool) (address k size : ℕ) → size ≤ k → IsClearRange hidden address k → IsClearRange hidden address size
+range_all hidden address k size past before offset l = before offset (omega arith)
+
+-- ---- objects and frames
+pub objects_none : (hidden : ℕ → Bool) → AreClearObjects hidden []
+objects_none hidden n offset l = absurd (omega arith)
+
+pub objects_more : (hidden : ℕ → Bool) (r : Range) (rs : List Range) → IsClearRange hidden r.address r.size → AreClearObjects hidden rs → AreClearObjects hidden (r ∷ rs)
+objects_more hidden r rs here rest zero = here
+objects_more hidden r rs here rest (suc n) = rest n
+
+pub frames_none : (hidden : ℕ → Bool) (lent : ℕ → Bool) → AreClearFrames hidden lent []
+frames_none hidden lent c is offset l = absurd (omega arith)
+
+unlent : (c : ℕ) → get_or [] c false ≡ true → {A : Type 0} → A
+unlent zero e = absurd (true≢false (sym e))
+unlent (suc c) e = absurd (true≢false (sym e))
+
+pub frames_kept : (hidden : ℕ → Bool) (frames : List FrameRange) → AreClearFrames hidden (lent_by []) frames
+frames_kept hidden frames c is offset l = unlent c is
+
+pub frames_more : (hidden : ℕ → Bool) (is_lent : Bool) (lent : List Bool) (f : FrameRange) (fs : List FrameRange) → (is_lent ≡ true → IsClearRange hidden f.address f.size) → AreClearFrames hidden (lent_by lent) fs → AreClearFrames hidden (lent_by (is_lent ∷ lent)) (f ∷ fs)
+frames_more hidden is_lent lent f fs here rest zero = here
+frames_more hidden is_lent lent f fs here rest (suc c) = rest c
