@@ -1,5 +1,6 @@
-//! Byte code whose operators are done on the low bytes alone, where nothing asks for the others: when a plan of it is right, a test of
-//! drafts of such plans, and what code keeps that is made by one.
+//! Byte code whose operators are done on the low bytes alone, where nothing asks for the others, or where the low bytes stand for the
+//! values, and whose conditions go by these: when a plan of it is right, a test of drafts of such plans, and what code keeps that is made
+//! by one.
 //!
 //! In: nothing; the crate has definitions and their proofs. Out: nothing.
 //! The promise: code that is made by a plan that is right follows the given code, step by step, under every schedule, and costs no more.

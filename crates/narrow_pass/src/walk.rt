@@ -36,7 +36,7 @@ fn stays(c: &Core, lent: &[bool], copy: u16, turns: &Turns, here: &mut Vec<Mark>
     Some(made)
 }
 
-// The same operator on the low bytes, where that may be.
+// The same operator on the low bytes, or what serves as well, where that may be.
 #[tactic(auto, using(crate::proofs::Making::cut_made))]
 fn cut(c: &Core, lent: &[bool], copy: u16, turns: &Turns, here: &mut Vec<Mark>) -> Option<Core>
     ensures made { IfSome result (λ made. IsMade (lent_by lent.now) copy (turns_of turns.now.list.items) (marks_of here.old.items) (tree_of c.now) (tree_of made) (marks_of here.new.items)) }

@@ -105,13 +105,23 @@ fn put_list(block: &mut SymBlock, list: &[Sym]) -> Result<(), AllocError> {
     Ok(())
 }
 
-// What main becomes that has so many bytes of variables.
-fn main_with(alloc: Global, variables: u64, list: &[Sym]) -> Result<Vec<SymBlock>, AllocError> {
+// What main becomes that has so many bytes of variables. Given is whether the frames of copies are lent.
+fn main_by(
+    alloc: Global,
+    variables: u64,
+    lent: &[bool],
+    list: &[Sym],
+) -> Result<Vec<SymBlock>, AllocError> {
     let mut main = SymBlock::new(alloc, BlockName::Copy(0));
     put_list(&mut main, list)?;
     let mut blocks = Vec::new(alloc);
     blocks.push(main)?;
-    lean(alloc, &blocks, None, &placed(alloc)?, &[variables], &[])
+    lean(alloc, &blocks, None, &placed(alloc)?, &[variables], lent)
+}
+
+// The same, where no frame is lent.
+fn main_with(alloc: Global, variables: u64, list: &[Sym]) -> Result<Vec<SymBlock>, AllocError> {
+    main_by(alloc, variables, &[], list)
 }
 
 // What main becomes.
@@ -369,14 +379,18 @@ fn a_copy_of_a_variable_is_not_stored(rt: HostRuntime) -> Result<(), AllocError>
     Ok(())
 }
 
-// `if (a < b)` of two bytes: the difference leaves its carry, and no 0 or 1 is made of it.
-#[test]
-fn a_comparison_decides_by_its_carry(rt: HostRuntime) -> Result<(), AllocError> {
-    let flag = |op: BitOperation, bit: u8| Sym::Bit {
+// A flag of STATUS.
+fn flag(op: BitOperation, bit: u8) -> Sym {
+    Sym::Bit {
         op,
         file: Operand::Register(Register::Status),
         bit,
-    };
+    }
+}
+
+// `if (a < b)` of two bytes: the difference leaves its carry, and no 0 or 1 is made of it.
+#[test]
+fn a_comparison_decides_by_its_carry(rt: HostRuntime) -> Result<(), AllocError> {
     let given = [
         to_w(FileOperation::Movf, temporary(1)),
         to_w(FileOperation::Subwf, temporary(0)),
@@ -412,11 +426,6 @@ fn a_comparison_decides_by_its_carry(rt: HostRuntime) -> Result<(), AllocError> 
 // The same of two ints whose high bytes are 0: the borrow goes on through the high bytes.
 #[test]
 fn a_borrow_of_nothing_is_the_carry(rt: HostRuntime) -> Result<(), AllocError> {
-    let flag = |op: BitOperation, bit: u8| Sym::Bit {
-        op,
-        file: Operand::Register(Register::Status),
-        bit,
-    };
     let given = [
         Sym::Clrf(temporary(4)),
         Sym::Clrf(temporary(5)),
@@ -452,5 +461,34 @@ fn a_borrow_of_nothing_is_the_carry(rt: HostRuntime) -> Result<(), AllocError> {
     ];
     let made = main_with(rt.alloc(), 2, &given)?;
     assert_eq!(rt; code_of(made.get(0)), &wanted[..]);
+    Ok(())
+}
+
+// A store to a temporary byte, and then a read through FSR.
+fn store_before_read() -> [Sym; 5] {
+    [
+        load(5),
+        Sym::Movwf(temporary(0)),
+        to_w(FileOperation::Movf, Operand::Register(Register::Indf)),
+        Sym::Movwf(ticks()),
+        goto(Label::Halt),
+    ]
+}
+
+// No pointer leads to the frame, so the read doesn't reach the byte.
+#[test]
+fn a_temporary_byte_is_dead_where_fsr_is_read(rt: HostRuntime) -> Result<(), AllocError> {
+    let given = store_before_read();
+    let made = main_by(rt.alloc(), 0, &[false], &given)?;
+    assert_eq!(rt; code_of(made.get(0)), &given[2..]);
+    Ok(())
+}
+
+// A pointer may lead there.
+#[test]
+fn a_byte_of_a_lent_frame_is_needed_where_fsr_is_read(rt: HostRuntime) -> Result<(), AllocError> {
+    let given = store_before_read();
+    let made = main_by(rt.alloc(), 0, &[true], &given)?;
+    assert_eq!(rt; code_of(made.get(0)), &given[..]);
     Ok(())
 }
