@@ -170,6 +170,11 @@ flags_w r files.Swapf v = refl
 pub or_none : (a : ℕ) → bit_or a 0 ≡ a
 or_none a = let l = and_le_r a 0 in let z : bit_and a 0 ≡ 0 = omega arith in let e = or_disjoint a 0 z in omega arith
 
+-- OR of W and 0 leaves W, and sets Z by it
+pub or_nothing : (r : Registers) (v : ℕ) → v ≡ 0 → after_row (literal_row literals.Iorlw v) r ≡ record r { w = r.w; z = truth (nat_eq r.w 0) }
+unfolding after_row
+or_nothing r v zero = ap (λ (k : ℕ). after_row (literal_row literals.Iorlw k) r) zero ∙ ap (λ (k : ℕ). record r { w = k; z = truth (nat_eq k 0) }) (or_comm 0 r.w ∙ or_none r.w)
+
 pub no_skip : (r : Registers) (op : FileOperation) (v : ℕ) → may_skip op ≡ false → skips_with r op v ≡ false
 unfolding skips_with
 no_skip r files.Decfsz v e = never (sym e)

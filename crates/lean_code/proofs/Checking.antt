@@ -33,7 +33,7 @@ use Rattle.lean_code.specs.Rows.{Facts, Apart, Note, nothing_known, Act, Keeps, 
 use Rattle.lean_code.specs.Changes.{Ties, no_ties, carries, shows_zero, leaves_carry, same_carry, with_bits, Aim, ToByte, aim, is_own, is_near, lost, without_zero, moved, after_to_w, learned, stored, flags_in, uses_w, uses_c, may_skip, literal_flags, literal_uses, is_retlw, both_set, one_sets, same_w, other_w, same_byte, other_byte, one_moves, one_stores, is_number, same_known, stays, number_at, after_to_file, literal_for, one_works, one_writes, one_clears}
 use Rattle.lean_code.specs.Right as right
 use Rattle.lean_code.specs.Right.{Expects, ExpectsBy, Leads, Same, Comes, Enters, flag_apart, with_flag, after_literal, dropped_literal, literal_apart, KeepsFile, KeepsBit, KeepsPlain, KeepsGoto, KeepsCall, IsKept, DropsToW, DropsToFile, DropsBit, IsDropped, PutsFor, IsPut, IsRight, IsNote, IsRightAt, Begins, BeginsAt}
-use Rattle.lean_code.specs.Checked.{among, all_of, ListedNote, ListedRow, Listed, ListedBlock, Sketch, facts_in, apart_in, note_in, row_in, rows_in, block_in, lean_of, is_twin, gives, covers_flags, covers_bytes, claims, ties, ties_but, ties_left, ties_seen, expects_by, expects, tests_zero, is_tested, runs_on, puts_same, puts_number, puts_byte, drops_carried, drops_move, narrows_for, is_narrowed, clears_for, is_cleared, reads_for, reads_to, tests_for, reads_bit, is_read, carries_near, ahead, leads, comes, enters, same, noted, same_side, is_operation, is_here, keeps_file, keeps_bit, keeps_plain, keeps_goto, keeps_call, is_kept, drops_to_w, drops_to_file, drops_store, drops_clear, drops_change, drops_test, drops_bit, drops_plain, drops_goto, is_left_out, puts_for, is_put, is_right_row, all_known, all_twins, is_note, is_right_at, are_right, is_right_block, are_right_blocks, begins, begins_at, TestIsRight}
+use Rattle.lean_code.specs.Checked.{among, all_of, ListedNote, ListedRow, Listed, ListedBlock, Sketch, facts_in, apart_in, note_in, row_in, rows_in, block_in, lean_of, is_twin, gives, covers_flags, covers_bytes, claims, ties, ties_but, ties_left, ties_seen, expects_by, expects, tests_zero, is_tested, runs_on, puts_same, puts_number, puts_self, puts_byte, drops_carried, drops_move, narrows_for, is_narrowed, clears_for, is_cleared, reads_for, reads_to, tests_for, reads_bit, is_read, carries_near, ahead, leads, comes, enters, same, noted, same_side, is_operation, is_here, keeps_file, keeps_bit, keeps_plain, keeps_goto, keeps_call, is_kept, drops_to_w, drops_to_file, drops_store, drops_clear, drops_change, drops_test, drops_bit, drops_plain, drops_goto, is_left_out, puts_for, is_put, is_right_row, all_known, all_twins, is_note, is_right_at, are_right, is_right_block, are_right_blocks, begins, begins_at, TestIsRight}
 use Rattle.lean_code.proofs.Lists.{never}
 use Rattle.lean_code.proofs.Facts.{not_false, some_is}
 use Rattle.lean_code.proofs.Tested.{and_l, and_r, is_not, not_both, sides, all_is, all_not, number_is, known_all, twins_all, gives_is, flags_are, bytes_are, claims_are, expects_by_is, expects_is, ahead_is, drop_is, expects_at, expects_by_at, leads_is, passes_is, passes_both_is, same_is, enters_is, comes_is, within_same, within_other, within_more, within_flag, some_operation, Within}
@@ -343,7 +343,22 @@ module _ (k : Sketch) (limit : Bool → ℕ) (old_page new_page : BlockName → 
         expects_at rest (after_to_w op (ToByte i) f) (same_w (one_sets (flags_in op) d)) bytes (λ b h. h) (and_r two three more),
       )
 
+  puts_self_is : (rest : List ListedRow) (i v : ℕ) → puts_self k block n rest i v ≡ true → right.PutsSelf x own inside (note_in n) (rows_in rest) i v
+  puts_self_is rest i v e =
+      let one = nat_eq v 0 in
+      let two = f.held i in
+      let three = not n.apart.w in
+      let four = expects (ahead rest) (moved (ToByte i) f) (record d { w = false; z = false }) bytes in
+      let b = and_r one (two && (three && four)) e in
+      let c = and_r two (three && four) b in (
+        eqb-true v 0 (and_l one (two && (three && four)) e),
+        and_l two (three && four) b,
+        is_not n.apart.w (and_l three four c),
+        expects_at rest (moved (ToByte i) f) (record d { w = false; z = false }) bytes (λ b h. h) (and_r three four c),
+      )
+
   puts_byte_is : (rest : List ListedRow) (op : FileOperation) (i : ℕ) (new : LiteralOperation) (v : ℕ) → puts_byte k block n rest op i new v ≡ true → right.PutsByte x own inside (note_in n) (rows_in rest) op i new v
+  puts_byte_is rest files.Movf i literals.Iorlw v e = puts_self_is rest i v e
   puts_byte_is rest files.Movf i new v e = puts_same_is rest files.Movf i new v e
   puts_byte_is rest op i literals.Movlw v e = puts_number_is rest op i v e
   puts_byte_is rest op i new v e = puts_same_is rest op i new v e

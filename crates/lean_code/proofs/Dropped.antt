@@ -30,7 +30,7 @@ use Rattle.sym_code.specs.declared.code.Target.{Target}
 use Rattle.sym_code.specs.declared.code.Target.TheVariants as targets
 use Rattle.lean_code.specs.Computed.{computed, file_for, way_of, way_of_bit}
 use Rattle.lean_code.specs.Rows.{Carry, Zero, Sees, Facts, Apart, Note, Row, olds, place_in, note_ahead, past, drops_first, Lean, old_program, old_setting}
-use Rattle.lean_code.specs.Changes.{Ties, IsShown, sees, leaves_carry, same_carry, is_number, same_known, leaves_w, stays, one_works, one_writes, one_clears, Holds, Alike, Aim, ToByte, aim, lost, without_zero, moved, after_to_w, after_to_file, learned, stored, flags_in, is_retlw, one_sets, other_w, other_byte, one_moves, one_stores}
+use Rattle.lean_code.specs.Changes.{Ties, IsShown, sees, leaves_carry, same_carry, is_number, same_known, leaves_w, is_in_w, stays, one_works, one_writes, one_clears, Holds, Alike, Aim, ToByte, aim, lost, without_zero, moved, after_to_w, after_to_file, learned, stored, flags_in, is_retlw, one_sets, other_w, other_byte, one_moves, one_stores}
 use Rattle.lean_code.specs.Right.{Passes, noted, with_flag, after_literal, dropped_number, dropped_literal, ExpectsBy, PassesBoth, carry_but, ties, ties_but, ties_left, ties_seen, DropsCarried, DropsMove, DropsToW, DropsToFile, DropsStore, DropsClear, DropsChange, DropsTest, DropsBit, DropsPlain, DropsGoto, IsDropped, IsSound}
 use Rattle.lean_code.specs.Links.{clears}
 use Rattle.lean_code.proofs.Lists.{never, dropped_at}
@@ -241,13 +241,21 @@ module _ (x : Lean) (sound : IsSound x) (inside : Bool) (rest : ℕ → Bool) (s
   z_if true false b v same zero l e = never (sym e)
   z_if false g b v same zero l e = never (sym e)
 
+  -- W is what is read
+  in_w : (j i : ℕ) → j ≡ i → is_in_w f j ≡ true → r.w ≡ m i
+  in_w j i is e = by_case (f.held j) refl e
+    where
+      by_case : (c : Bool) → f.held j ≡ c → (c || same_known f.number (f.known j)) ≡ true → r.w ≡ m i
+      by_case true h e = scene.holds.held j h ∙ ap m is
+      by_case false h e = same_known_is f.number (f.known j) r.w (m i) scene.holds.number (known_says j i is) e
+
   move_alone : (j i : ℕ) → j ≡ i → ExpectsBy (ties_left x p.block inside n None (f.held j)) (note_ahead list) (moved (ToByte j) f) (one_moves f j d) → Lone (file_to_w (old_program x) p first m files.Movf (Silent i))
   unfolding skips_with result_with
   move_alone j i is l =
       let same : f.held j ≡ true → r.w ≡ m i = λ e. scene.holds.held j e ∙ ap m is in (
         moves (ties_left x p.block inside n None (f.held j)) (moved (ToByte j) f) (one_moves f j d) l (record (flags_with r files.Movf (m i)) { w = result_with r files.Movf (m i) }) m
             (subst (λ (t : Registers). Alike (one_moves f j d) t s) (sym (move_is r (m i)))
-            (record { w = λ e. w_if (f.held j) d.w (m i) r.w same scene.alike.w e; z = λ e. z_if (f.held j) f.zero d.z (m i) same scene.holds.zero scene.alike.z e; dc = scene.alike.dc; c = scene.alike.c; fsr = scene.alike.fsr; irp = scene.alike.irp }))
+            (record { w = λ e. w_if (is_in_w f j) d.w (m i) r.w (in_w j i is) scene.alike.w e; z = λ e. z_if (is_in_w f j) f.zero d.z (m i) (in_w j i is) scene.holds.zero scene.alike.z e; dc = scene.alike.dc; c = scene.alike.c; fsr = scene.alike.fsr; irp = scene.alike.irp }))
             (to_w_holds f r m scene.holds files.Movf (ToByte j) (m i) (λ h e. ap m (sym is ∙ aim_eq j h e))) scene.still (tied_left None (f.held j) (record (flags_with r files.Movf (m i)) { w = result_with r files.Movf (m i) }) m (none_carried m) (λ e. sym (same e))),
         tt,
       )
@@ -267,7 +275,7 @@ module _ (x : Lean) (sound : IsSound x) (inside : Bool) (rest : ℕ → Bool) (s
       let same : f.held j ≡ true → r.w ≡ m i = λ e. scene.holds.held j e ∙ ap m is in (
         moves (ties_left x p.block inside n (Some c) (f.held j)) (moved (ToByte j) f) (one_moves f j d) l (record (flags_with r files.Movf (m i)) { w = result_with r files.Movf (m i) }) m
             (subst (λ (t : Registers). Alike (one_moves f j d) t s) (sym (move_is r (m i)))
-            (record { w = λ e. w_if (f.held j) d.w (m i) r.w same scene.alike.w e; z = λ e. z_if (f.held j) f.zero d.z (m i) same scene.holds.zero scene.alike.z e; dc = scene.alike.dc; c = scene.alike.c; fsr = scene.alike.fsr; irp = scene.alike.irp }))
+            (record { w = λ e. w_if (is_in_w f j) d.w (m i) r.w (in_w j i is) scene.alike.w e; z = λ e. z_if (is_in_w f j) f.zero d.z (m i) (in_w j i is) scene.holds.zero scene.alike.z e; dc = scene.alike.dc; c = scene.alike.c; fsr = scene.alike.fsr; irp = scene.alike.irp }))
             (to_w_holds f r m scene.holds files.Movf (ToByte j) (m i) (λ h e. ap m (sym is ∙ aim_eq j h e))) scene.still
             (tied_left (Some c) (f.held j) (record (flags_with r files.Movf (m i)) { w = result_with r files.Movf (m i) }) m (λ h e. scene.ties.carry h (carried ∙ e)) (λ e. sym (same e))),
         tt,

@@ -15,13 +15,13 @@ use Rattle.sym_code.specs.declared.code.LiteralOperation.TheVariants as literals
 use Rattle.sym_code.specs.declared.code.Sym.{Sym}
 use Rattle.sym_code.specs.declared.code.Sym.TheVariants as syms
 use Rattle.lean_code.specs.Rows.{Facts, Apart, Note, Row, Lean, old_program, new_program, old_setting, new_setting}
-use Rattle.lean_code.specs.Changes.{Alike, Aim, ToByte, aim, after_to_w, flags_in, uses_w, may_skip, literal_flags, literal_uses, is_retlw, literal_for, both_set, one_sets, same_w}
-use Rattle.lean_code.specs.Right.{literal_apart, PutsSame, PutsNumber, PutsByte, PutsFor, IsPut, IsSound}
+use Rattle.lean_code.specs.Changes.{Alike, Aim, ToByte, aim, moved, after_to_w, flags_in, uses_w, may_skip, literal_flags, literal_uses, is_retlw, literal_for, both_set, one_sets, same_w}
+use Rattle.lean_code.specs.Right.{literal_apart, PutsSame, PutsNumber, PutsSelf, PutsByte, PutsFor, IsPut, IsSound}
 use Rattle.lean_code.specs.Links.{clears}
 use Rattle.lean_code.proofs.Lists.{never, stands_at}
 use Rattle.lean_code.proofs.Places.{under, row_at}
 use Rattle.lean_code.proofs.Computing.{Says, computed_is, way_is}
-use Rattle.lean_code.proofs.Alike.{flags_alone, literal_is, literal_same, move_is, moved_w, no_skip}
+use Rattle.lean_code.proofs.Alike.{flags_alone, literal_is, literal_same, move_is, moved_w, or_nothing, no_skip}
 use Rattle.lean_code.proofs.Facts.{to_w_holds}
 use Rattle.lean_code.proofs.Accesses.{Aims, access_aims}
 use Rattle.lean_code.proofs.Relation.{apart_of, Goes, Match}
@@ -101,6 +101,13 @@ module _ (x : Lean) (sound : IsSound x) (inside : Bool) (rest : ℕ → Bool) (s
         irp = scene.alike.irp;
       }))
 
+  -- W is on both what is read
+  self_alike : (i v : ℕ) → v ≡ 0 → m i ≡ s.w → Alike (record d { w = false; z = false }) (record (flags_with r files.Movf (m i)) { w = result_with r files.Movf (m i) }) (after_row (literal_row literals.Iorlw v) s)
+  self_alike i v zero same =
+      subst (λ (t : Registers). Alike (record d { w = false; z = false }) t (after_row (literal_row literals.Iorlw v) s)) (sym (move_is r (m i)))
+      (subst (λ (u : Registers). Alike (record d { w = false; z = false }) (record r { w = m i; z = truth (nat_eq (m i) 0) }) u) (sym (or_nothing s v zero))
+      (record { w = λ e. same; z = λ e. ap (λ (k : ℕ). truth (nat_eq k 0)) same; dc = scene.alike.dc; c = scene.alike.c; fsr = scene.alike.fsr; irp = scene.alike.irp }))
+
   other_alike : (op : FileOperation) (new : LiteralOperation) (i v : ℕ) → literal_for op ≡ Some new → (new ≡ literals.Movlw → ⊥) → is_retlw new ≡ false → literal_flags new ≡ flags_in op → (literal_uses new ≡ true → d.w ≡ false) → m i ≡ v
       → Alike (same_w (both_set (flags_in op) d)) (record (flags_with r op (m i)) { w = result_with r op (m i) }) (after_row (literal_row new v) s)
   other_alike op new i v is no_move plain same_flags uses e =
@@ -144,6 +151,20 @@ module _ (x : Lean) (sound : IsSound x) (inside : Bool) (rest : ℕ → Bool) (s
       apart_bytes files.Movf j a = refl
       apart_bytes op j a = refl
 
+  -- a test of W in place of a read of what it holds
+  put_self : (v j i : ℕ) → j ≡ i → PutsSelf x p.block inside n list j v → Both (file_to_w (old_program x) p first m files.Movf (Silent i)) (new_effect literals.Iorlw v)
+  put_self v j i is e =
+      let t = record (flags_with r files.Movf (m i)) { w = result_with r files.Movf (m i) } in
+      let same : m i ≡ s.w = sym (scene.holds.held j e.1 ∙ ap m is) ∙ scene.alike.w e.2 in (
+        subst (λ (c : Bool). Goes x inside rest (goes first (onward (old_program x) p c) t) (goes second (behind (new_program x) (under x p)) (after_row (literal_row literals.Iorlw v) s)) m scene.k) (sym (no_skip r files.Movf (m i) refl))
+            (next x sound inside rest scene stands (moved (ToByte j) f) (record d { w = false; z = false }) e.3 None None refl tt t (after_row (literal_row literals.Iorlw v) s) m scene.k
+            (self_alike i v e.0 same) (to_w_holds f r m scene.holds files.Movf (ToByte j) (m i) (λ h z. ap m (sym is ∙ aim_eq j h z))) scene.still),
+        tt,
+      )
+    where
+      aim_eq : (j h : ℕ) → ToByte j ≡ ToByte h → j ≡ h
+      aim_eq j h e = cc
+
   -- the number that the operation makes
   put_number : (op : FileOperation) (v j i : ℕ) → j ≡ i → PutsNumber x p.block inside n list op j v → Both (file_to_w (old_program x) p first m op (Silent i)) (new_effect literals.Movlw v)
   put_number op v j i is e =
@@ -163,11 +184,13 @@ module _ (x : Lean) (sound : IsSound x) (inside : Bool) (rest : ℕ → Bool) (s
       aim_eq j h e = cc
 
   put_byte : (op : FileOperation) (new : LiteralOperation) (v j i : ℕ) → j ≡ i → PutsByte x p.block inside n list op j new v → Both (file_to_w (old_program x) p first m op (Silent i)) (new_effect new v)
+  put_byte files.Movf literals.Iorlw v j i is e = put_self v j i is e
   put_byte files.Movf new v j i is e = put_quiet files.Movf new v j i is e
   put_byte op literals.Movlw v j i is e = put_number op v j i is e
   put_byte op new v j i is e = put_quiet op new v j i is e
 
   plain_byte : (op : FileOperation) (j : ℕ) (new : LiteralOperation) (v : ℕ) → PutsByte x p.block inside n list op j new v → is_retlw new ≡ false
+  plain_byte files.Movf j literals.Iorlw v e = refl
   plain_byte files.Movf j new v e = (like files.Movf new e.0).plain
   plain_byte op j literals.Movlw v e = refl
   plain_byte op j new v e = (like op new e.0).plain

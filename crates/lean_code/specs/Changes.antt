@@ -267,9 +267,13 @@ same_byte aim d = d
 abbrev pub other_byte : ℕ → Apart → Apart
 other_byte k d = record d { bytes = λ a. if nat_eq a k then true else d.bytes a }
 
+-- W is known to be what byte k holds: as a byte that it is, or by the number of both
+abbrev pub is_in_w : Facts → ℕ → Bool
+is_in_w f k = f.held k || same_known f.number (f.known k)
+
 -- Only one of them reads byte k to W: W differs, unless it was what that holds, and Z, unless it said so.
 abbrev pub one_moves : Facts → ℕ → Apart → Apart
-one_moves f k d = record d { w = if f.held k then d.w else true; z = if f.held k && f.zero then d.z else true }
+one_moves f k d = record d { w = if is_in_w f k then d.w else true; z = if is_in_w f k && f.zero then d.z else true }
 
 -- only one of them stores W in byte k
 abbrev pub one_stores : Facts → ℕ → Apart → Apart

@@ -411,7 +411,11 @@ module _ (k : Sketch) (block : ListedBlock) (n : ListedNote) where
   abbrev pub puts_number : List ListedRow → FileOperation → ℕ → ℕ → Bool
   puts_number rest op i v = runs_on (way_of op (f.known i)) && (is_number (computed op f.number (f.known i)) v && expects (ahead rest) (after_to_w op (ToByte i) f) (same_w (one_sets (flags_in op) d)) here_bytes)
 
+  abbrev pub puts_self : List ListedRow → ℕ → ℕ → Bool
+  puts_self rest i v = nat_eq v 0 && (f.held i && (not n.apart.w && expects (ahead rest) (moved (ToByte i) f) (record d { w = false; z = false }) here_bytes))
+
   abbrev pub puts_byte : List ListedRow → FileOperation → ℕ → LiteralOperation → ℕ → Bool
+  puts_byte rest files.Movf i literals.Iorlw v = puts_self rest i v
   puts_byte rest files.Movf i new v = puts_same rest files.Movf i new v
   puts_byte rest op i literals.Movlw v = puts_number rest op i v
   puts_byte rest op i new v = puts_same rest op i new v

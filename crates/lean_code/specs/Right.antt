@@ -289,7 +289,12 @@ module _ (x : Lean) (own : BlockName) (inside : Bool) (n : Note) where
   abbrev pub PutsNumber : List Row → FileOperation → ℕ → ℕ → Type 0
   PutsNumber rest op k v = (way_of op (f.known k) ≡ Some false) × (computed op f.number (f.known k) ≡ Some v) × Expects (note_ahead rest) (after_to_w op (ToByte k) f) (same_w (one_sets (flags_in op) d))
 
+  -- W is what the byte holds, on both machines, and only Z is set by it
+  abbrev pub PutsSelf : List Row → ℕ → ℕ → Type 0
+  PutsSelf rest k v = (v ≡ 0) × (f.held k ≡ true) × (d.w ≡ false) × Expects (note_ahead rest) (moved (ToByte k) f) (record d { w = false; z = false })
+
   abbrev pub PutsByte : List Row → FileOperation → ℕ → LiteralOperation → ℕ → Type 0
+  PutsByte rest files.Movf k literals.Iorlw v = PutsSelf rest k v
   PutsByte rest files.Movf k new v = PutsSame rest files.Movf k new v
   PutsByte rest op k literals.Movlw v = PutsNumber rest op k v
   PutsByte rest op k new v = PutsSame rest op k new v

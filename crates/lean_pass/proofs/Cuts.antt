@@ -15,7 +15,7 @@ use Rattle.sym_code.specs.declared.code.Register.TheVariants.{Indf, Status, Fsr,
 use Rattle.sym_code.specs.declared.code.Sym.TheVariants as syms
 use Rattle.sym_code.specs.declared.code.Target.TheVariants as targets
 use Rattle.lean_code.specs.Changes.{Aim, ToFsr, ToEvent, ToByte, Through, Nowhere}
-use Rattle.lean_code.specs.Checked.{ListedBlock, ListedNote, ListedRow, Sketch, block_in, keeps_bit, keeps_call, drops_bit, drops_to_w, is_left_out, is_tested, narrows_for, same_operation, puts_same, puts_number, puts_byte}
+use Rattle.lean_code.specs.Checked.{ListedBlock, ListedNote, ListedRow, Sketch, block_in, keeps_bit, keeps_call, drops_bit, drops_to_w, is_left_out, is_tested, narrows_for, same_operation, puts_same, puts_self, puts_number, puts_byte}
 use Rattle.lean_code.specs.Rows.{FlagName}
 use Rattle.lean_pass.specs.Rules.{is_move, aim_byte, calls, keeps_bit_by, drops_bit_by, drops_file, tests_bit, on_byte, on_bytes}
 
@@ -136,7 +136,7 @@ module _ (k : Sketch) (block : ListedBlock) (n : ListedNote) where
   drops_to_w_is rest files.Xorwf Nowhere = refl
 
   pub puts_byte_is : (rest : List ListedRow) (op : FileOperation) (i : ℕ) (new : LiteralOperation) (v : ℕ)
-      → puts_byte k block n rest op i new v ≡ (if same_operation literals.Movlw new && not (is_move op) then puts_number k block n rest op i v else puts_same k block n rest op i new v)
+      → puts_byte k block n rest op i new v ≡ (if is_move op && same_operation literals.Iorlw new then puts_self k block n rest i v else (if same_operation literals.Movlw new && not (is_move op) then puts_number k block n rest op i v else puts_same k block n rest op i new v))
   puts_byte_is rest files.Addwf i literals.Addlw v = refl
   puts_byte_is rest files.Addwf i literals.Andlw v = refl
   puts_byte_is rest files.Addwf i literals.Iorlw v = refl

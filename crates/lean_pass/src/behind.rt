@@ -320,15 +320,22 @@ impl<'a> Here<'a> {
         }
     }
 
+    /// Whether W is known to be what a byte holds.
+    fn is_in_w(&self, byte: usize) -> bool
+        ensures { result ≡ changes.is_in_w (facts_at self.now) byte }
+    {
+        self.is_held(byte) || same_known(self.note.facts.number, self.number_of(byte))
+    }
+
     /// Only one of them reads a byte to W.
     pub fn one_moves(&self, byte: usize) -> Differs
         ensures { apart_by (apart_at self.now) result ≡ changes.one_moves (facts_at self.now) byte (apart_at self.now) }
     {
-        let held = self.is_held(byte);
+        let is_in_w = self.is_in_w(byte);
         let marks = self.marks();
         self.differing(Marks {
-            w: if held { marks.w } else { true },
-            z: if held && self.note.facts.zero {
+            w: if is_in_w { marks.w } else { true },
+            z: if is_in_w && self.note.facts.zero {
                 marks.z
             } else {
                 true

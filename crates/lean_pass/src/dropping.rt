@@ -514,6 +514,23 @@ impl<'a> Here<'a> {
                     )))
     }
 
+    // W is what the byte holds, on both machines, and only Z is set by it.
+    fn puts_self(&self, rest: &[Row], byte: usize, value: u8) -> bool
+        ensures { result ≡ listed.puts_self (sketch_at self.now) (block_at self.now) (note_at self.now) (rows_of rest.now) byte value }
+    {
+        let marks = self.marks();
+        let apart = self.differing(Marks {
+            w: false,
+            z: false,
+            dc: marks.dc,
+            c: marks.c,
+        });
+        value == 0
+            && (self.is_held(byte)
+                && (!self.note.apart.w
+                    && self.expects(rest, self.moved(Aim::ToByte(byte)), apart)))
+    }
+
     // The number that the operation makes, where it is known.
     fn puts_number(&self, rest: &[Row], op: FileOperation, byte: usize, value: u8) -> bool
         ensures { result ≡ listed.puts_number (sketch_at self.now) (block_at self.now) (note_at self.now) (rows_of rest.now) op byte value }
@@ -536,7 +553,9 @@ impl<'a> Here<'a> {
     ) -> bool
         ensures { result ≡ listed.puts_byte (sketch_at self.now) (block_at self.now) (note_at self.now) (rows_of rest.now) op byte new value }
     {
-        if is_movlw(new) && !is_move(op) {
+        if is_move(op) && is_iorlw(new) {
+            self.puts_self(rest, byte, value)
+        } else if is_movlw(new) && !is_move(op) {
             self.puts_number(rest, op, byte, value)
         } else {
             self.puts_same(rest, op, byte, new, value)

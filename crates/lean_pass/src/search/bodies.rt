@@ -166,6 +166,7 @@ impl Place {
                 },
                 _ => Effect {
                     reads: None,
+                    uses_w: true,
                     ..self.effect
                 },
             },

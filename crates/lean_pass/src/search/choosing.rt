@@ -38,7 +38,9 @@ pub enum Aims {
 // An operation on a byte that leaves W as it is.
 fn leaves_w(op: FileOperation, byte: usize, known: &Knowledge) -> bool {
     match op {
-        FileOperation::Movf => known.held.has(byte),
+        FileOperation::Movf => {
+            known.held.has(byte) || same_known(known.number, known.value(byte))
+        }
         _ => known.stays(op, known.value(byte)),
     }
 }
@@ -124,6 +126,18 @@ fn put_for(op: FileOperation, byte: usize, known: &Knowledge, after: Live) -> Op
     Some(Act::Puts { op: new, value })
 }
 
+// What W holds already may be moved to it without the byte, for Z.
+fn test_for(byte: usize, known: &Knowledge, differs: Live, after: Live) -> Option<Act> {
+    if known.held.has(byte) && !differs.w && after.z && !after.bytes.has(byte) {
+        Some(Act::Puts {
+            op: LiteralOperation::Iorlw,
+            value: 0,
+        })
+    } else {
+        None
+    }
+}
+
 // The byte may be cleared where 0 is stored.
 fn clear_for(file: Operand, known: &Knowledge, after: Live) -> Option<Act> {
     if may_clear(file) && is_number(known.number, 0) && !after.z {
@@ -133,14 +147,22 @@ fn clear_for(file: Operand, known: &Knowledge, after: Live) -> Option<Act> {
     }
 }
 
-fn put_at(place: &Place, known: &Knowledge, after: Live) -> Option<Act> {
+fn put_at(place: &Place, known: &Knowledge, differs: Live, after: Live) -> Option<Act> {
     match place.sym {
         Sym::File { op, into, .. } => match into {
             Into::File => None,
-            Into::W => match number_for(place, op, known, after) {
-                Some(act) => Some(act),
-                None => put_for(op, place.effect.reads?, known, after),
-            },
+            Into::W => {
+                let byte = place.effect.reads?;
+                if op == FileOperation::Movf && !place.fixed {
+                    if let Some(act) = test_for(byte, known, differs, after) {
+                        return Some(act);
+                    }
+                }
+                match number_for(place, op, known, after) {
+                    Some(act) => Some(act),
+                    None => put_for(op, byte, known, after),
+                }
+            }
         },
         Sym::Movwf(file) => clear_for(file, known, after),
         _ => None,
@@ -264,7 +286,7 @@ impl Body {
 
     // Another operation stands in its place.
     fn put(&mut self, at: usize, place: &Place, after: Live) -> bool {
-        match put_at(place, &self.known_at(at), after) {
+        match put_at(place, &self.known_at(at), self.differs_at(at), after) {
             Some(act) => {
                 self.act(at, act);
                 self.part(at, place.group);
@@ -389,6 +411,68 @@ impl Body {
                 }
             }
             self.renew(at, own, summaries);
+        }
+        changed
+    }
+
+    // Whether no word of the code that is made stands from a place up to another one.
+    fn is_empty_between(&self, from: usize, to: usize) -> bool {
+        for between in from..to {
+            match self.place(between) {
+                Some(place) => {
+                    if !place.is_label() && !place.is_dropped() {
+                        return false;
+                    }
+                }
+                None => return false,
+            }
+        }
+        from <= to
+    }
+
+    // Leaves out a jump to the next word of the code that is made, with a test in front of it.
+    fn hop_at(&mut self, at: usize) -> bool {
+        let Some(place) = self.place(at) else {
+            return false;
+        };
+        let Way::Goto(Some(target)) = place.way else {
+            return false;
+        };
+        let open = place.act == Act::Keeps && !place.fixed && self.comes_to(at);
+        if !open || !self.is_empty_between(at.saturating_add(1), target) {
+            return false;
+        }
+        if place.group == at {
+            self.act(at, Act::Drops);
+            return true;
+        }
+        let pair = at == place.group.saturating_add(1) && self.is_plain_test(place.group);
+        if pair {
+            self.drop_group(place.group, at);
+        }
+        pair
+    }
+
+    // A test that may go, whichever way it leads.
+    fn is_plain_test(&self, at: usize) -> bool {
+        match self.place(at) {
+            Some(place) => {
+                !place.fixed
+                    && place.act == Act::Keeps
+                    && place.effect.silent
+                    && place.effect.skips
+                    && place.effect.writes.is_none()
+                    && !place.effect.to_w
+            }
+            None => false,
+        }
+    }
+
+    /// Leaves out jumps to the next word. Answers whether any went.
+    pub fn hop(&mut self) -> bool {
+        let mut changed = false;
+        for at in (0..self.places.len()).rev() {
+            changed = self.hop_at(at) || changed;
         }
         changed
     }

@@ -211,6 +211,7 @@ fn search_once(bodies: &mut [Body], summaries: &mut [Summary]) -> bool {
         || (find_differing(bodies, summaries)
             && (improve_all(bodies, Aims::Same, summaries)
                 || improve_all(bodies, Aims::SameZero, summaries)))
+        || hop_all(bodies)
         || decide_all(bodies, summaries)
         || narrow_all(bodies, summaries, true)
         || narrow_all(bodies, summaries, false)
@@ -221,6 +222,16 @@ fn improve_all(bodies: &mut [Body], aims: Aims, summaries: &[Summary]) -> bool {
     for own in 0..bodies.len() {
         if is_searched(bodies[own].name) {
             changed = bodies[own].improve(own, aims, summaries) || changed;
+        }
+    }
+    changed
+}
+
+fn hop_all(bodies: &mut [Body]) -> bool {
+    let mut changed = false;
+    for own in 0..bodies.len() {
+        if is_searched(bodies[own].name) {
+            changed = bodies[own].hop() || changed;
         }
     }
     changed
