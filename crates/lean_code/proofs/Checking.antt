@@ -30,7 +30,7 @@ use Rattle.sym_code.specs.declared.code.Target.TheVariants as targets
 use Rattle.lean_code.specs.Computed.{computed, file_for, way_of, way_of_bit}
 use Rattle.lean_code.specs.Rows as rows_of
 use Rattle.lean_code.specs.Rows.{Facts, Apart, Note, nothing_known, Act, Keeps, Drops, Puts, Narrows, Clears, Reads, Tests, FlagName, may_clear, operand_before, Row, At, olds, place_in, note_ahead, Lean}
-use Rattle.lean_code.specs.Changes.{Ties, no_ties, carries, shows_zero, leaves_carry, same_carry, with_bits, Aim, ToByte, aim, is_own, is_near, lost, without_zero, moved, after_to_w, learned, stored, flags_in, uses_w, uses_c, may_skip, literal_flags, literal_uses, is_retlw, both_set, one_sets, same_w, other_w, same_byte, other_byte, one_moves, one_stores, is_number, same_known, stays, number_at, after_to_file, literal_for, one_works, one_writes, one_clears}
+use Rattle.lean_code.specs.Changes.{Ties, no_ties, carries, reports, shows_zero, leaves_carry, same_carry, with_bits, Aim, ToByte, aim, is_own, is_near, lost, without_zero, moved, after_to_w, learned, stored, flags_in, uses_w, uses_c, may_skip, literal_flags, literal_uses, is_retlw, both_set, one_sets, same_w, other_w, same_byte, other_byte, one_moves, one_stores, is_number, same_known, stays, number_at, after_to_file, literal_for, one_works, one_writes, one_clears}
 use Rattle.lean_code.specs.Right as right
 use Rattle.lean_code.specs.Right.{Expects, ExpectsBy, Leads, Same, Comes, Enters, flag_apart, with_flag, after_literal, dropped_literal, literal_apart, KeepsFile, KeepsBit, KeepsPlain, KeepsGoto, KeepsCall, IsKept, DropsToW, DropsToFile, DropsBit, IsDropped, PutsFor, IsPut, IsRight, IsNote, IsRightAt, Begins, BeginsAt}
 use Rattle.lean_code.specs.Checked.{among, all_of, ListedNote, ListedRow, Listed, ListedBlock, Sketch, facts_in, apart_in, note_in, row_in, rows_in, block_in, lean_of, is_twin, gives, covers_flags, covers_bytes, claims, ties, ties_but, ties_left, ties_seen, expects_by, expects, tests_zero, is_tested, runs_on, puts_same, puts_number, puts_self, puts_byte, drops_carried, drops_move, narrows_for, is_narrowed, clears_for, is_cleared, reads_for, reads_to, tests_for, reads_bit, is_read, carries_near, ahead, leads, comes, enters, same, noted, same_side, is_operation, is_here, keeps_file, keeps_bit, keeps_plain, keeps_goto, keeps_call, is_kept, drops_to_w, drops_to_file, drops_store, drops_clear, drops_change, drops_test, drops_bit, drops_plain, drops_goto, is_left_out, puts_for, is_put, is_right_row, all_known, all_twins, is_note, is_right_at, are_right, is_right_block, are_right_blocks, begins, begins_at, TestIsRight}
@@ -208,7 +208,7 @@ module _ (k : Sketch) (limit : Bool → ℕ) (old_page new_page : BlockName → 
       by_case false = within_other i (one_sets (flags_in op) d) bytes (λ b h. h)
 
   drops_carried_is : (rest : List ListedRow) (i c : ℕ) (q : Bool) → drops_carried k block n rest i c q ≡ true → right.DropsCarried x own inside (note_in n) (rows_in rest) i c q
-  drops_carried_is rest i c true e = expects_by_at (ties_left k block n None (f.held i)) rest (moved (ToByte i) f) (record d { w = false; z = true }) bytes (λ b h. h) e
+  drops_carried_is rest i c true e = expects_by_at (ties_left k block n None (f.held i)) rest (moved (ToByte i) f) (record d { w = false; z = not (reports n.shown) }) bytes (λ b h. h) e
   drops_carried_is rest i c false e = expects_by_at (ties_left k block n (Some c) (f.held i)) rest (moved (ToByte i) f) (one_moves f i d) bytes (λ b h. h) e
 
   drops_move_is : (rest : List ListedRow) (i : ℕ) (o : Option ℕ) → drops_move k block n rest i o ≡ true → right.DropsMove x own inside (note_in n) (rows_in rest) i o
@@ -380,7 +380,7 @@ module _ (k : Sketch) (limit : Bool → ℕ) (old_page new_page : BlockName → 
       let two = same k.hidden (ToByte i) bytes block.outer in
       let three = not (may_skip op) in
       let four = nat_eq j i in
-      let five = expects_by (carries i) (ahead rest) g h (i ∷ bytes) in
+      let five = expects_by (carries op i) (ahead rest) g h (i ∷ bytes) in
       let b = and_r one (two && (three && (four && five))) e in
       let c = and_r two (three && (four && five)) b in
       let w = and_r three (four && five) c in (
@@ -388,7 +388,7 @@ module _ (k : Sketch) (limit : Bool → ℕ) (old_page new_page : BlockName → 
         same_at (ToByte i) (and_l two (three && (four && five)) b),
         is_not (may_skip op) (and_l three (four && five) c),
         eqb-true j i (and_l four five w),
-        expects_by_at (carries i) rest g h (i ∷ bytes) (within_other i (both_set (flags_in op) d) bytes (λ z o. o)) (and_r four five w),
+        expects_by_at (carries op i) rest g h (i ∷ bytes) (within_other i (both_set (flags_in op) d) bytes (λ z o. o)) (and_r four five w),
       )
   narrows_for_is rest op a b e = never e
 
@@ -438,7 +438,7 @@ module _ (k : Sketch) (limit : Bool → ℕ) (old_page new_page : BlockName → 
       let three = same k.hidden (ToByte j) bytes block.outer in
       let four = not (may_skip op) in
       let five = nat_eq h i in
-      let six = expects_by (carries i) (ahead rest) g u (i ∷ bytes) in
+      let six = expects_by (carries op i) (ahead rest) g u (i ∷ bytes) in
       let b = and_r one (two && (three && (four && (five && six)))) e in
       let c = and_r two (three && (four && (five && six))) b in
       let v = and_r three (four && (five && six)) c in
@@ -448,7 +448,7 @@ module _ (k : Sketch) (limit : Bool → ℕ) (old_page new_page : BlockName → 
         same_at (ToByte j) (and_l three (four && (five && six)) c),
         is_not (may_skip op) (and_l four (five && six) v),
         eqb-true h i (and_l five six w),
-        expects_by_at (carries i) rest g u (i ∷ bytes) (within_other i (both_set (flags_in op) d) bytes (λ z o. o)) (and_r five six w),
+        expects_by_at (carries op i) rest g u (i ∷ bytes) (within_other i (both_set (flags_in op) d) bytes (λ z o. o)) (and_r five six w),
       )
   reads_to_is rest op a b c e = never e
 

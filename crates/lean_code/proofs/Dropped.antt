@@ -30,7 +30,7 @@ use Rattle.sym_code.specs.declared.code.Target.{Target}
 use Rattle.sym_code.specs.declared.code.Target.TheVariants as targets
 use Rattle.lean_code.specs.Computed.{computed, file_for, way_of, way_of_bit}
 use Rattle.lean_code.specs.Rows.{Carry, Zero, Sees, Facts, Apart, Note, Row, olds, place_in, note_ahead, past, drops_first, Lean, old_program, old_setting}
-use Rattle.lean_code.specs.Changes.{Ties, IsShown, sees, leaves_carry, same_carry, is_number, same_known, leaves_w, is_in_w, stays, one_works, one_writes, one_clears, Holds, Alike, Aim, ToByte, aim, lost, without_zero, moved, after_to_w, after_to_file, learned, stored, flags_in, is_retlw, one_sets, other_w, other_byte, one_moves, one_stores}
+use Rattle.lean_code.specs.Changes.{Ties, IsShown, reports, sees, leaves_carry, same_carry, is_number, same_known, leaves_w, is_in_w, stays, one_works, one_writes, one_clears, Holds, Alike, Aim, ToByte, aim, lost, without_zero, moved, after_to_w, after_to_file, learned, stored, flags_in, is_retlw, one_sets, other_w, other_byte, one_moves, one_stores}
 use Rattle.lean_code.specs.Right.{Passes, noted, with_flag, after_literal, dropped_number, dropped_literal, ExpectsBy, PassesBoth, carry_but, ties, ties_but, ties_left, ties_seen, DropsCarried, DropsMove, DropsToW, DropsToFile, DropsStore, DropsClear, DropsChange, DropsTest, DropsBit, DropsPlain, DropsGoto, IsDropped, IsSound}
 use Rattle.lean_code.specs.Links.{clears}
 use Rattle.lean_code.proofs.Lists.{never, dropped_at}
@@ -38,7 +38,7 @@ use Rattle.lean_code.proofs.Places.{under, row_at, to_behind, to_past, to_label,
 use Rattle.lean_code.proofs.Alike.{flags_alone, literal_alone, literal_is, clear_alone, move_is, moved_w, flags_w}
 use Rattle.lean_code.proofs.Computing.{Says, computed_is, left_is, zero_is, zero_stays, same_known_is, way_is, bit_way_is, file_is, no_move}
 use Rattle.lean_code.proofs.Bits.{truth_small, carry_set, zero_set, status_carry, status_zero}
-use Rattle.lean_code.proofs.Shown.{AreTied, carry_alike, left_shown, same_shown, is_off, is_on, not_off, not_on}
+use Rattle.lean_code.proofs.Shown.{AreTied, carry_alike, reports_is, left_shown, same_shown, is_off, is_on, not_off, not_on}
 use Rattle.lean_code.proofs.Facts.{bits_hold, some_is, number_of, own_other, lose_zero, to_w_holds, flags_hold, lost_byte, learned_byte, learned_says, stored_byte}
 use Rattle.lean_code.proofs.Flags.{set_alone}
 use Rattle.lean_code.proofs.Accesses.{Told, Aims, access_told, access_aims}
@@ -260,13 +260,17 @@ module _ (x : Lean) (sound : IsSound x) (inside : Bool) (rest : ℕ → Bool) (s
         tt,
       )
 
+  bound : (v : ℕ) (b : Bool) → not b ≡ false → (b ≡ true → v ≡ s.z) → v ≡ s.z
+  bound v true e f = f refl
+  bound v false e f = never (sym e)
+
   -- W of the other machine is what is read
   carry_alone : (j i c : ℕ) → j ≡ i → n.carry ≡ Some c → (q : Bool) → nat_eq c j ≡ q → DropsCarried x p.block inside n list j c q → Lone (file_to_w (old_program x) p first m files.Movf (Silent i))
   unfolding skips_with result_with
   carry_alone j i c is carried true q l = (
-    moves (ties_left x p.block inside n None (f.held j)) (moved (ToByte j) f) (record d { w = false; z = true }) l (record (flags_with r files.Movf (m i)) { w = result_with r files.Movf (m i) }) m
-        (subst (λ (t : Registers). Alike (record d { w = false; z = true }) t s) (sym (move_is r (m i)))
-        (record { w = λ e. ap m (sym (eqb-true c j q ∙ is)) ∙ scene.ties.carry c carried; z = λ e. never (sym e); dc = scene.alike.dc; c = scene.alike.c; fsr = scene.alike.fsr; irp = scene.alike.irp }))
+    moves (ties_left x p.block inside n None (f.held j)) (moved (ToByte j) f) (record d { w = false; z = not (reports n.shown) }) l (record (flags_with r files.Movf (m i)) { w = result_with r files.Movf (m i) }) m
+        (subst (λ (t : Registers). Alike (record d { w = false; z = not (reports n.shown) }) t s) (sym (move_is r (m i)))
+        (record { w = λ e. ap m (sym (eqb-true c j q ∙ is)) ∙ scene.ties.carry c carried; z = λ e. bound (truth (nat_eq (m i) 0)) (reports n.shown) e (λ h. ap (λ (v : ℕ). truth (nat_eq v 0)) (ap m (sym (eqb-true c j q ∙ is)) ∙ scene.ties.carry c carried) ∙ sym (reports_is n.shown r.w s h scene.ties.shown)); dc = scene.alike.dc; c = scene.alike.c; fsr = scene.alike.fsr; irp = scene.alike.irp }))
         (to_w_holds f r m scene.holds files.Movf (ToByte j) (m i) (λ h e. ap m (sym is ∙ aim_eq j h e))) scene.still
         (tied_left None (f.held j) (record (flags_with r files.Movf (m i)) { w = result_with r files.Movf (m i) }) m (none_carried m) (λ e. sym (scene.holds.held j e ∙ ap m is))),
     tt,

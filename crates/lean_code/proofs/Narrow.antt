@@ -15,6 +15,7 @@ use Rattle.lean_code.specs.Rows.{Facts, Apart, Note, Row, narrowed, note_ahead, 
 use Rattle.lean_code.specs.Changes.{carries, with_bits, Holds, Aim, ToByte, aim, is_own, lost, without_zero, flags_in, may_skip, both_set, other_w, other_byte}
 use Rattle.lean_code.specs.Right.{ExpectsBy, Uses, NarrowsFor, IsNarrowed, IsSound}
 use Rattle.lean_code.specs.Links.{clears}
+use Rattle.lean_code.proofs.Shown.{reported}
 use Rattle.lean_code.proofs.Lists.{never, stands_at}
 use Rattle.lean_code.proofs.Places.{under, row_at, to_behind, under_behind}
 use Rattle.lean_code.proofs.Alike.{result_same, flags_same, no_skip}
@@ -63,7 +64,7 @@ module _ (x : Lean) (sound : IsSound x) (inside : Bool) (rest : ℕ → Bool) (s
   Both = Match x inside rest (apart_of n scene.ks) m k
 
   abbrev pub IsBehind : FileOperation → ℕ → Type 0
-  IsBehind op j = ExpectsBy (carries j) (note_ahead list) (with_bits (flags_in op) (lost x.hidden (ToByte j) (without_zero f))) (other_w (other_byte j (both_set (flags_in op) d)))
+  IsBehind op j = ExpectsBy (carries op j) (note_ahead list) (with_bits (flags_in op) (lost x.hidden (ToByte j) (without_zero f))) (other_w (other_byte j (both_set (flags_in op) d)))
 
   pub narrow_goes : (op : FileOperation) (j i : ℕ) → j ≡ i → is_own inside (owner x.layout i) ≡ true → Uses x p.block inside n op → may_skip op ≡ false → IsBehind op j → (y : ℕ) → m i ≡ y
       → Goes x inside rest (goes first (onward (old_program x) p (skips_with r op (m i))) (flags_with r op (m i)))
@@ -78,11 +79,11 @@ module _ (x : Lean) (sound : IsSound x) (inside : Bool) (rest : ℕ → Bool) (s
       let h = other_w (other_byte j (both_set (flags_in op) d)) in
       subst (λ (c : Bool). Goes x inside rest (goes first (onward (old_program x) p c) t) (goes second (onward (new_program x) (under x p) (skips_with s op y)) u) a k) (sym (no_skip r op (m i) plain))
       (subst (λ (c : Bool). Goes x inside rest (goes first (behind (old_program x) p) t) (goes second (onward (new_program x) (under x p) c) u) a k) (sym (no_skip s op y plain))
-      (go_by x sound inside rest scene (carries j) (note_ahead list) (with_bits (flags_in op) g) h (behind (old_program x) p) (behind (new_program x) (under x p)) (to_behind x p) (under_behind x p stands) behind_it None None refl tt t u a k
+      (go_by x sound inside rest scene (carries op j) (note_ahead list) (with_bits (flags_in op) g) h (behind (old_program x) p) (behind (new_program x) (under x p)) (to_behind x p) (under_behind x p stands) behind_it None None refl tt t u a k
       (record { w = λ z. never (sym z); z = al.z; dc = al.dc; c = al.c; fsr = al.fsr; irp = al.irp })
       (bits_hold (flags_in op) g t a (λ z. carry_set op r (m i) z) (λ z. zero_set op r (m i) z) (subst (λ (z : ℕ). Holds (lost x.hidden (ToByte z) (without_zero f)) t a) (sym is) (lost_byte (without_zero f) t m (flags_hold f r m scene.holds op (m i)) x.hidden i (result_with r op (m i)))))
       (λ z o w q. byte_one (nat_eq z i) (d.bytes z) (result_with r op (m i)) (m z) (k z) (λ b. scene.still z b w q) (subst (λ (b : ℕ). (if nat_eq z b then true else d.bytes z) ≡ false) is o))
-      (record { carry = λ z c. carried z (sym (some_is j z c) ∙ is) ∙ res; shown = tt })))
+      (record { carry = λ z c. carried z (sym (some_is j z c) ∙ is) ∙ res; shown = reported op t.w y s })))
     where
       carried : (z : ℕ) → z ≡ i → with_byte m i (result_with r op (m i)) z ≡ result_with r op (m i)
       carried z e = ap (λ (c : Bool). if c then result_with r op (m i) else m z) (eq-eqb z i e)

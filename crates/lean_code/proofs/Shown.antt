@@ -5,13 +5,13 @@ use Rattle.std.proofs.lemmas.Bool.{eqb-true}
 use Rattle.std.proofs.lemmas.Option.{none-some}
 use Rattle.pic_world.specs.Bits.{truth}
 use Rattle.sym_code.specs.Effect.{Memory}
-use Rattle.sym_code.specs.Registers.{Registers, flags_with}
+use Rattle.sym_code.specs.Registers.{Registers, flags_with, result_with}
 use Rattle.sym_code.specs.declared.code.FileOperation.{FileOperation}
 use Rattle.sym_code.specs.declared.code.FileOperation.TheVariants as files
-use Rattle.lean_code.specs.Rows.{Note, FlagName, Carry, Zero, Shown, Unshown, Sees, Chooses}
-use Rattle.lean_code.specs.Changes.{Ties, no_ties, is_number, flag_of, IsShown, same_flag, same_truth, shows, left, leaves_carry}
+use Rattle.lean_code.specs.Rows.{Note, FlagName, Carry, Zero, Shown, Unshown, Sees, Reports, Chooses}
+use Rattle.lean_code.specs.Changes.{Ties, no_ties, is_number, flags_in, flag_of, IsShown, same_flag, same_truth, shows, reports, left, leaves_carry}
 use Rattle.lean_code.specs.Right.{Claims}
-use Rattle.lean_code.proofs.Computing.{Says, says_number}
+use Rattle.lean_code.proofs.Computing.{Says, says_number, zero_is}
 use Rattle.lean_code.proofs.Lists.{never}
 
 -- what is carried and shown, of registers of both machines
@@ -52,6 +52,10 @@ shown_is (Sees flag v) number Unshown w s says e x = never e
 shown_is (Sees flag v) number (Sees g u) w s says e x =
     ap (λ (h : FlagName). flag_of h s) (flag_is flag g (and_l (same_flag flag g) (same_truth v u) e)) ∙ x ∙ ap truth (sym (truth_is v u (and_r (same_flag flag g) (same_truth v u) e)))
 shown_is (Sees flag v) number (Chooses g c d) w s says e x = never e
+shown_is (Sees flag v) number Reports w s says e x = never e
+shown_is Reports number Reports w s says e x = x
+shown_is Reports number has w s says e x = never e
+shown_is (Chooses flag a b) number Reports w s says e x = never e
 shown_is (Chooses flag a b) number Unshown w s says e x = never e
 shown_is (Chooses flag a b) number (Sees g v) w s says e x =
     let n = if v then a else b in
@@ -73,19 +77,35 @@ untied n number c = record { carry = c.carry; shown = by_shown n.shown c.shown }
     by_shown : (said : Shown) → shows said None Unshown ≡ true → shows said number Unshown ≡ true
     by_shown Unshown e = refl
     by_shown (Sees flag v) e = never e
+    by_shown Reports e = never e
     by_shown (Chooses flag a b) e = never e
 
 -- where W stays, or not
 pub left_shown : (kept : Bool) (shown : Shown) (w y : ℕ) (s : Registers) → (kept ≡ true → y ≡ w) → IsShown shown w s → IsShown (left kept shown) y s
 left_shown true Unshown w y s same x = tt
 left_shown true (Sees flag v) w y s same x = x
+left_shown true Reports w y s same x = x
 left_shown true (Chooses flag a b) w y s same x = (x.0, x.1, same refl ∙ x.2)
 left_shown false Unshown w y s same x = tt
 left_shown false (Sees flag v) w y s same x = x
+left_shown false Reports w y s same x = x
 left_shown false (Chooses flag a b) w y s same x = tt
 
 pub same_shown : (shown : Shown) (w y : ℕ) (s : Registers) → y ≡ w → IsShown shown w s → IsShown shown y s
 same_shown shown w y s same x = left_shown true shown w y s (λ e. same) x
+
+-- Z says whether the result is 0 that went to W
+pub reported : (op : FileOperation) (w y : ℕ) (s : Registers) → IsShown (if (flags_in op).z then Reports else Unshown) w (record (flags_with s op y) { w = result_with s op y })
+reported op w y s = by_flags (flags_in op).z refl
+  where
+    by_flags : (b : Bool) → (flags_in op).z ≡ b → IsShown (if b then Reports else Unshown) w (record (flags_with s op y) { w = result_with s op y })
+    by_flags true e = zero_is op s y e
+    by_flags false e = tt
+
+-- where that is shown
+pub reports_is : (shown : Shown) (w : ℕ) (s : Registers) → reports shown ≡ true → IsShown shown w s → s.z ≡ truth (nat_eq s.w 0)
+reports_is Reports w s e x = x
+reports_is shown w s e x = never e
 
 -- a flag that is a bit
 pub is_off : (i : ℕ) → nat_eq i 0 ≡ true → i ≡ truth false

@@ -11,7 +11,7 @@ use Rattle.sym_code.specs.declared.code.Operand.TheVariants as operands
 use Rattle.sym_code.specs.declared.code.Register.TheVariants.{Status}
 use Rattle.sym_code.specs.declared.code.Sym.{Sym}
 use Rattle.sym_code.specs.declared.code.Sym.TheVariants as syms
-use Rattle.lean_code.specs.Rows.{FlagName, Carry, Zero, Shown, Unshown, Sees, Chooses, bit_of, Facts, Apart, Note, Row, tests_flag, Lean, old_program, new_program, old_setting, new_setting}
+use Rattle.lean_code.specs.Rows.{FlagName, Carry, Zero, Shown, Unshown, Sees, Reports, Chooses, bit_of, Facts, Apart, Note, Row, tests_flag, Lean, old_program, new_program, old_setting, new_setting}
 use Rattle.lean_code.specs.Changes.{flag_of, same_flag, IsShown, shows_zero}
 use Rattle.lean_code.specs.Right.{Leads, TestsZero, IsTested, IsSound}
 use Rattle.lean_code.proofs.Lists.{never, stands_at}
@@ -48,6 +48,7 @@ chosen false false a b w e k = ap (λ (z : ℕ). nat_eq z 0) e ∙ is_not (nat_e
 zero_by : (shown : Shown) (flag : FlagName) (turned : Bool) (w z : ℕ) (s : Registers) → z ≡ truth (nat_eq w 0) → shows_zero shown flag turned ≡ true → IsShown shown w s → (u : Bool) × (flag_of flag s ≡ truth u) × (z ≡ truth (opposite turned u))
 zero_by Unshown flag turned w z s is e x = never e
 zero_by (Sees g v) flag turned w z s is e x = never e
+zero_by Reports flag turned w z s is e x = never e
 zero_by (Chooses g a b) flag turned w z s is e x =
     let by = if turned then not (nat_eq a 0) && nat_eq b 0 else nat_eq a 0 && not (nat_eq b 0) in
     (x.0, ap (λ (h : FlagName). flag_of h s) (sym (flag_is g flag (and_l (same_flag g flag) by e))) ∙ x.1, is ∙ ap truth (chosen turned x.0 a b w x.2 (and_r (same_flag g flag) by e)))

@@ -14,7 +14,7 @@ use Rattle.sym_code.specs.declared.code.Operand.{Operand}
 use Rattle.sym_code.specs.declared.code.Operand.TheVariants as operands
 use Rattle.sym_code.specs.declared.code.Register.TheVariants.{Indf, Fsr}
 use Rattle.lean_code.specs.Computed.{computed}
-use Rattle.lean_code.specs.Rows.{Facts, Apart, FlagName, Carry, Zero, Shown, Unshown, Sees, Chooses}
+use Rattle.lean_code.specs.Rows.{Facts, Apart, FlagName, Carry, Zero, Shown, Unshown, Sees, Reports, Chooses}
 
 -- ---- what is said
 pub record Holds (f : Facts) (r : Registers) (m : Memory) : Type 0 where
@@ -304,8 +304,9 @@ pub record Ties : Type 0 where
 abbrev pub no_ties : Ties
 no_ties = record { carry = None; shown = Unshown }
 
-abbrev pub carries : ℕ → Ties
-carries k = record { carry = Some k; shown = Unshown }
+-- behind an operation whose result went to W in place of byte k
+abbrev pub carries : FileOperation → ℕ → Ties
+carries op k = record { carry = Some k; shown = if (flags_in op).z then Reports else Unshown }
 
 abbrev pub flag_of : FlagName → Registers → ℕ
 flag_of Carry r = r.c
@@ -315,6 +316,7 @@ flag_of Zero r = r.z
 abbrev pub IsShown : Shown → ℕ → Registers → Type 0
 IsShown Unshown w s = Unit {0}
 IsShown (Sees flag v) w s = flag_of flag s ≡ truth v
+IsShown Reports w s = s.z ≡ truth (nat_eq s.w 0)
 IsShown (Chooses flag a b) w s = (v : Bool) × (flag_of flag s ≡ truth v) × (w ≡ (if v then a else b))
 
 abbrev pub same_flag : FlagName → FlagName → Bool
@@ -332,9 +334,17 @@ abbrev pub shows : Shown → Option ℕ → Shown → Bool
 shows Unshown number has = true
 shows (Sees flag v) number (Sees g u) = same_flag flag g && same_truth v u
 shows (Sees flag v) number has = false
+shows Reports number Reports = true
+shows Reports number has = false
 shows (Chooses flag a b) number Unshown = false
+shows (Chooses flag a b) number Reports = false
 shows (Chooses flag a b) number (Sees g v) = same_flag flag g && is_number number (if v then a else b)
 shows (Chooses flag a b) number (Chooses g c e) = same_flag flag g && (nat_eq a c && nat_eq b e)
+
+-- Z says whether W of that machine is 0
+abbrev pub reports : Shown → Bool
+reports Reports = true
+reports shown = false
 
 -- what is shown where W stays, or not
 abbrev pub left : Bool → Shown → Shown

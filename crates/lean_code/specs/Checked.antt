@@ -27,7 +27,7 @@ use Rattle.sym_code.specs.declared.code.Target.{Target}
 use Rattle.sym_code.specs.declared.code.Target.TheVariants as targets
 use Rattle.lean_code.specs.Computed.{computed, way_of, way_of_bit}
 use Rattle.lean_code.specs.Rows.{Facts, Apart, Note, nothing_known, Act, Keeps, Drops, Puts, Narrows, Clears, Reads, Tests, FlagName, Shown, Unshown, may_clear, operand_before, Row, At, olds, puts, is_label, place_in, drops_first, keeps_first, goes_on, Lean, old_program}
-use Rattle.lean_code.specs.Changes.{Ties, no_ties, carries, shows, left, sees, shows_zero, leaves_carry, same_carry, stays, with_bits, Aim, ToByte, Through, aim, is_own, is_near, lost, without_zero, moved, after_to_w, number_at, learned, after_to_file, stored, flags_in, uses_w, uses_c, may_skip, literal_flags, literal_uses, is_retlw, literal_for, both_set, one_sets, same_w, other_w, same_byte, other_byte, one_moves, one_stores, is_number, one_works, one_writes, one_clears}
+use Rattle.lean_code.specs.Changes.{Ties, no_ties, carries, shows, reports, left, sees, shows_zero, leaves_carry, same_carry, stays, with_bits, Aim, ToByte, Through, aim, is_own, is_near, lost, without_zero, moved, after_to_w, number_at, learned, after_to_file, stored, flags_in, uses_w, uses_c, may_skip, literal_flags, literal_uses, is_retlw, literal_for, both_set, one_sets, same_w, other_w, same_byte, other_byte, one_moves, one_stores, is_number, one_works, one_writes, one_clears}
 use Rattle.lean_code.specs.Right as right
 use Rattle.lean_code.specs.Right.{flag_apart, with_flag}
 
@@ -343,7 +343,7 @@ module _ (k : Sketch) (block : ListedBlock) (n : ListedNote) where
   is_kept rest (syms.SelectPage bit target) = expects (ahead rest) f d here_bytes
 
   abbrev pub drops_carried : List ListedRow → ℕ → ℕ → Bool → Bool
-  drops_carried rest i c true = expects_by (ties_left None (f.held i)) (ahead rest) (moved (ToByte i) f) (record d { w = false; z = true }) here_bytes
+  drops_carried rest i c true = expects_by (ties_left None (f.held i)) (ahead rest) (moved (ToByte i) f) (record d { w = false; z = not (reports n.shown) }) here_bytes
   drops_carried rest i c false = expects_by (ties_left (Some c) (f.held i)) (ahead rest) (moved (ToByte i) f) (one_moves f i d) here_bytes
 
   abbrev pub drops_move : List ListedRow → ℕ → Option ℕ → Bool
@@ -432,7 +432,7 @@ module _ (k : Sketch) (block : ListedBlock) (n : ListedNote) where
   abbrev pub narrows_for : List ListedRow → FileOperation → Aim → Aim → Bool
   narrows_for rest op (ToByte i) (ToByte j) =
       uses op && (is_same (ToByte i) && (not (may_skip op) && (nat_eq j i
-      && expects_by (carries i) (ahead rest) (with_bits (flags_in op) (lost k.hidden (ToByte i) (without_zero f))) (other_w (other_byte i (both_set (flags_in op) d))) (i ∷ here_bytes))))
+      && expects_by (carries op i) (ahead rest) (with_bits (flags_in op) (lost k.hidden (ToByte i) (without_zero f))) (other_w (other_byte i (both_set (flags_in op) d))) (i ∷ here_bytes))))
   narrows_for rest op a b = false
 
   abbrev pub is_narrowed : List ListedRow → Sym → Bool
@@ -456,7 +456,7 @@ module _ (k : Sketch) (block : ListedBlock) (n : ListedNote) where
   abbrev pub reads_to : List ListedRow → FileOperation → Aim → Aim → Aim → Bool
   reads_to rest op (ToByte i) (ToByte h) (ToByte j) =
       uses op && (is_twin n.facts.twins i j && (is_same (ToByte j) && (not (may_skip op) && (nat_eq h i
-      && expects_by (carries i) (ahead rest) (with_bits (flags_in op) (lost k.hidden (ToByte i) (without_zero f))) (other_w (other_byte i (both_set (flags_in op) d))) (i ∷ here_bytes)))))
+      && expects_by (carries op i) (ahead rest) (with_bits (flags_in op) (lost k.hidden (ToByte i) (without_zero f))) (other_w (other_byte i (both_set (flags_in op) d))) (i ∷ here_bytes)))))
   reads_to rest op a b c = false
 
   abbrev pub tests_for : List ListedRow → BitOperation → ℕ → Aim → Aim → Bool

@@ -28,7 +28,7 @@ use Rattle.sym_code.specs.declared.code.Target.{Target}
 use Rattle.sym_code.specs.declared.code.Target.TheVariants as targets
 use Rattle.lean_code.specs.Computed.{computed, file_for, way_of, way_of_bit}
 use Rattle.lean_code.specs.Rows.{Facts, Apart, Note, nothing_known, Row, At, Act, Keeps, Drops, Puts, Narrows, Clears, Reads, Tests, FlagName, may_clear, operand_before, olds, place_in, note_ahead, past, drops_first, keeps_first, goes_on, Lean, old_program}
-use Rattle.lean_code.specs.Changes.{Ties, no_ties, carries, shows, left, sees, shows_zero, leaves_carry, same_carry, stays, with_bits, Weaker, CoversFlags, Covers, Aim, ToByte, Through, aim, is_own, is_near, lost, without_zero, without_w, moved, after_to_w, number_at, worked, learned, after_to_file, stored, flags_in, uses_w, uses_c, may_skip, literal_flags, literal_uses, is_retlw, literal_for, both_set, one_sets, same_w, other_w, same_byte, other_byte, one_moves, one_stores, is_number, one_works, one_writes, one_clears}
+use Rattle.lean_code.specs.Changes.{Ties, no_ties, carries, shows, reports, left, sees, shows_zero, leaves_carry, same_carry, stays, with_bits, Weaker, CoversFlags, Covers, Aim, ToByte, Through, aim, is_own, is_near, lost, without_zero, without_w, moved, after_to_w, number_at, worked, learned, after_to_file, stored, flags_in, uses_w, uses_c, may_skip, literal_flags, literal_uses, is_retlw, literal_for, both_set, one_sets, same_w, other_w, same_byte, other_byte, one_moves, one_stores, is_number, one_works, one_writes, one_clears}
 
 -- ---- where the code goes on
 -- With these facts, and this apart, where something stands.
@@ -219,7 +219,7 @@ module _ (x : Lean) (own : BlockName) (inside : Bool) (n : Note) where
   -- ---- only the given code has it
   -- W may be on the other machine already what is read
   abbrev pub DropsCarried : List Row → ℕ → ℕ → Bool → Type 0
-  DropsCarried rest k c true = ExpectsBy (ties_left None (f.held k)) (note_ahead rest) (moved (ToByte k) f) (record d { w = false; z = true })
+  DropsCarried rest k c true = ExpectsBy (ties_left None (f.held k)) (note_ahead rest) (moved (ToByte k) f) (record d { w = false; z = not (reports n.shown) })
   DropsCarried rest k c false = ExpectsBy (ties_left (Some c) (f.held k)) (note_ahead rest) (moved (ToByte k) f) (one_moves f k d)
 
   abbrev pub DropsMove : List Row → ℕ → Option ℕ → Type 0
@@ -311,7 +311,7 @@ module _ (x : Lean) (own : BlockName) (inside : Bool) (n : Note) where
   -- ---- a result that goes to W in place of its byte
   abbrev pub NarrowsFor : List Row → FileOperation → Aim → Aim → Type 0
   NarrowsFor rest op (ToByte k) (ToByte j) =
-      Uses op × IsSame (ToByte k) × (may_skip op ≡ false) × (j ≡ k) × ExpectsBy (carries k) (note_ahead rest) (with_bits (flags_in op) (lost x.hidden (ToByte k) (without_zero f))) (other_w (other_byte k (both_set (flags_in op) d)))
+      Uses op × IsSame (ToByte k) × (may_skip op ≡ false) × (j ≡ k) × ExpectsBy (carries op k) (note_ahead rest) (with_bits (flags_in op) (lost x.hidden (ToByte k) (without_zero f))) (other_w (other_byte k (both_set (flags_in op) d)))
   NarrowsFor rest op a b = ⊥
 
   abbrev pub IsNarrowed : List Row → Sym → Type 0
@@ -337,7 +337,7 @@ module _ (x : Lean) (own : BlockName) (inside : Bool) (n : Note) where
   -- the result would go to the operand's byte
   abbrev pub ReadsTo : List Row → FileOperation → Aim → Aim → Aim → Type 0
   ReadsTo rest op (ToByte k) (ToByte j) (ToByte i) =
-      Uses op × (f.twin k i ≡ true) × IsSame (ToByte i) × (may_skip op ≡ false) × (j ≡ k) × ExpectsBy (carries k) (note_ahead rest) (with_bits (flags_in op) (lost x.hidden (ToByte k) (without_zero f))) (other_w (other_byte k (both_set (flags_in op) d)))
+      Uses op × (f.twin k i ≡ true) × IsSame (ToByte i) × (may_skip op ≡ false) × (j ≡ k) × ExpectsBy (carries op k) (note_ahead rest) (with_bits (flags_in op) (lost x.hidden (ToByte k) (without_zero f))) (other_w (other_byte k (both_set (flags_in op) d)))
   ReadsTo rest op a b c = ⊥
 
   abbrev pub TestsFor : List Row → BitOperation → ℕ → Aim → Aim → Type 0

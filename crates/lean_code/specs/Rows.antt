@@ -54,6 +54,8 @@ pub data Shown : Type 0 where
   Unshown : Shown
   -- it is set, or it isn't
   Sees : FlagName → Bool → Shown
+  -- Z says whether W of the same machine is 0
+  Reports : Shown
   -- W of the other machine is the first number where it is set, and else the second one
   Chooses : FlagName → ℕ → ℕ → Shown
 
