@@ -58,6 +58,7 @@ name_of flags.Zero = certified.Zero
 abbrev pub shown_of : Shown → certified.Shown
 shown_of shows.Unshown = certified.Unshown
 shown_of (shows.Sees flag set) = certified.Sees (name_of flag) set
+shown_of shows.Reports = certified.Reports
 shown_of (shows.Chooses flag set clear) = certified.Chooses (name_of flag) set clear
 
 abbrev pub ties_of : Ties → changes.Ties

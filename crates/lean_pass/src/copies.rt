@@ -181,7 +181,7 @@ impl<'a> Here<'a> {
                     && (!may_skip(op)
                         && (read == copy
                             && self.expects_by(
-                                carries(copy),
+                                carries(op, copy),
                                 rest,
                                 with_bits(flags_in(op), self.lost(Aim::ToByte(copy), false)),
                                 self.narrowed(op, copy),

@@ -19,7 +19,7 @@ use crate::keeping::is_status;
 use crate::operations::{is_retlw, literal_for, may_skip, uses_w};
 use crate::owners::Aim;
 use crate::rows::{Act, Row};
-use crate::shown::{carries, leaves_carry, skips_at};
+use crate::shown::{carries, leaves_carry, reports, skips_at};
 use crate::walk::{label_at, place_of};
 use sym_code::{
     BitOperation, FileOperation, Into, Label, Literal, LiteralOperation, Operand, PlainOperation,
@@ -141,7 +141,7 @@ impl<'a> Here<'a> {
             let marks = self.marks();
             let apart = self.differing(Marks {
                 w: false,
-                z: true,
+                z: !reports(self.note.shown),
                 dc: marks.dc,
                 c: marks.c,
             });
@@ -603,7 +603,7 @@ impl<'a> Here<'a> {
                 && (!may_skip(op)
                     && (other == byte
                         && self.expects_by(
-                            carries(byte),
+                            carries(op, byte),
                             rest,
                             with_bits(flags_in(op), self.lost(aim, false)),
                             self.narrowed(op, byte),

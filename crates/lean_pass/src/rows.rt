@@ -38,6 +38,8 @@ pub enum Shown {
     Unshown,
     /// Whether it is set.
     Sees { flag: FlagName, set: bool },
+    /// Z says whether W of the same machine is 0.
+    Reports,
     /// W of the other machine is the first number where it is set, and else the second one.
     Chooses { flag: FlagName, set: u8, clear: u8 },
 }

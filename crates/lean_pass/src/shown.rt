@@ -9,7 +9,7 @@ ghost use Rattle.lean_pass.specs.Behind.{sketch_at, block_at, note_at, facts_at,
 ghost use Rattle.lean_pass.specs.Rules as rules;
 ghost use Rattle.lean_pass.specs.Views.{name_of, note_of, rows_of, shown_of, ties_of};
 
-use crate::behind::{Here, is_number};
+use crate::behind::{Here, flags_in, is_number};
 use crate::keeping::is_status;
 use crate::reading::same_number;
 use crate::rows::{FlagName, Note, Row, Shown, Ties};
@@ -68,6 +68,7 @@ fn shows_seen(flag: FlagName, set: bool, has: Shown) -> bool
             flag: other,
             set: value,
         } => same_flag(flag, other) && same_truth(set, value),
+        Shown::Reports => false,
         Shown::Chooses { .. } => false,
     }
 }
@@ -82,11 +83,24 @@ fn shows_chosen(flag: FlagName, set: u8, clear: u8, number: Option<u8>, has: Sho
             flag: other,
             set: value,
         } => same_flag(flag, other) && is_number(number, if value { set } else { clear }),
+        Shown::Reports => false,
         Shown::Chooses {
             flag: other,
             set: first,
             clear: second,
         } => same_flag(flag, other) && (set == first && clear == second),
+    }
+}
+
+/// Whether Z says whether W of that machine is 0.
+pub fn reports(shown: Shown) -> bool
+    ensures { result ≡ changes.reports (shown_of shown) }
+{
+    match shown {
+        Shown::Unshown => false,
+        Shown::Sees { .. } => false,
+        Shown::Reports => true,
+        Shown::Chooses { .. } => false,
     }
 }
 
@@ -97,6 +111,7 @@ pub fn shows(said: Shown, number: Option<u8>, has: Shown) -> bool
     match said {
         Shown::Unshown => true,
         Shown::Sees { flag, set } => shows_seen(flag, set, has),
+        Shown::Reports => reports(has),
         Shown::Chooses { flag, set, clear } => shows_chosen(flag, set, clear, number, has),
     }
 }
@@ -118,13 +133,17 @@ pub fn no_ties() -> Ties
     }
 }
 
-/// W of the machine that runs the code that is made is what a byte holds.
-pub fn carries(byte: usize) -> Ties
-    ensures { ties_of result ≡ changes.carries byte }
+/// Behind an operation whose result went to W in place of a byte, W of the machine that runs the code that is made is what the byte holds.
+pub fn carries(op: FileOperation, byte: usize) -> Ties
+    ensures { ties_of result ≡ changes.carries op byte }
 {
     Ties {
         carry: Some(byte),
-        shown: Shown::Unshown,
+        shown: if flags_in(op).z {
+            Shown::Reports
+        } else {
+            Shown::Unshown
+        },
     }
 }
 
@@ -148,6 +167,7 @@ pub fn left(kept: bool, shown: Shown) -> Shown
         match shown {
             Shown::Unshown => Shown::Unshown,
             Shown::Sees { flag, set } => Shown::Sees { flag, set },
+            Shown::Reports => Shown::Reports,
             Shown::Chooses { .. } => Shown::Unshown,
         }
     }
@@ -160,6 +180,7 @@ fn leaves_chosen(shown: Shown, from: u8) -> bool
     match shown {
         Shown::Unshown => false,
         Shown::Sees { .. } => false,
+        Shown::Reports => false,
         Shown::Chooses { flag, set, clear } => match flag {
             FlagName::Carry => set <= from && clear > from,
             FlagName::Zero => false,
@@ -187,6 +208,7 @@ fn shows_zero(shown: Shown, flag: FlagName, turned: bool) -> bool
     match shown {
         Shown::Unshown => false,
         Shown::Sees { .. } => false,
+        Shown::Reports => false,
         Shown::Chooses {
             flag: other,
             set,

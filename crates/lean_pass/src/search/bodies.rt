@@ -51,6 +51,8 @@ pub struct Place {
     pub last: bool,
     /// It is left out, and W of the code that is made holds its result.
     pub carried: bool,
+    /// And Z of that code says of it.
+    pub reports: bool,
     /// It is left out since what it writes is so already.
     pub needless: bool,
     /// The place of the first of the skips that stand one behind the other up to here.
@@ -348,6 +350,7 @@ fn places_of(
             fixed: at == last || is_marked(variables, *sym),
             last: at == last,
             carried: false,
+            reports: false,
             needless: false,
             group,
             variables: variables_near(variables, effect, *sym),

@@ -500,11 +500,12 @@ impl Body {
         }
     }
 
-    // The place of the move to W of a byte behind which the byte isn't wanted.
+    // The place of the move to W of a byte behind which the byte isn't wanted, nor Z, if the result doesn't tell it.
     fn move_behind(
         &self,
         at: usize,
         byte: usize,
+        tells: bool,
         own: usize,
         summaries: &[Summary],
     ) -> Option<usize> {
@@ -514,7 +515,7 @@ impl Body {
                 return None;
             }
             if !place.is_dropped() {
-                return self.ends_narrow(next, &place, byte, own, summaries);
+                return self.ends_narrow(next, &place, byte, tells, own, summaries);
             }
             if place.effect.writes == Some(byte) || place.carried {
                 return None;
@@ -528,6 +529,7 @@ impl Body {
         at: usize,
         place: &Place,
         byte: usize,
+        tells: bool,
         own: usize,
         summaries: &[Summary],
     ) -> Option<usize> {
@@ -541,7 +543,7 @@ impl Body {
             && place.act == Act::Keeps
             && place.group == at
             && place.effect.reads == Some(byte)
-            && !after.z
+            && (tells || !after.z)
             && !after.bytes.has(byte);
         if fits { Some(at) } else { None }
     }
@@ -566,12 +568,14 @@ impl Body {
         let Some(act) = self.narrowed_at(at, byte, copies) else {
             return false;
         };
-        match self.move_behind(at, byte, own, summaries) {
+        let tells = place.effect.sets.z;
+        match self.move_behind(at, byte, tells, own, summaries) {
             Some(moved) => {
                 self.act(at, act);
                 self.act(moved, Act::Drops);
                 if moved < self.places.len() {
                     self.places[moved].carried = true;
+                    self.places[moved].reports = tells;
                 }
                 true
             }

@@ -40,7 +40,7 @@ fn dropped(place: &Place, before: Live) -> Live {
     if place.carried {
         return Live {
             w: false,
-            z: true,
+            z: !place.reports,
             ..before
         };
     }

@@ -127,12 +127,32 @@ fn carried(place: &Place, carry: Option<usize>) -> Option<usize> {
     }
 }
 
+// Whether Z of the code that is made says of W behind a place, where that is carried.
+fn told(place: &Place, told: bool) -> bool {
+    match place.act {
+        Act::Narrows => place.effect.sets.z,
+        Act::Reads { .. } => place.effect.writes.is_some() && place.effect.sets.z,
+        Act::Drops => told && !place.carried,
+        _ => false,
+    }
+}
+
+// What is said to be shown before a place.
+fn shown_at(place: &Place, told: bool) -> Shown {
+    if told && place.shown == Shown::Unshown {
+        Shown::Reports
+    } else {
+        place.shown
+    }
+}
+
 fn plan_of(
     alloc: Global,
     body: &Body,
     at: usize,
     apart: Bits,
     carry: Option<usize>,
+    told: bool,
 ) -> Result<Plan, AllocError> {
     let Some(place) = body.place(at) else {
         return Ok(Plan {
@@ -152,17 +172,26 @@ fn plan_of(
     }
     Ok(Plan {
         act: place.act,
-        note: Some(note_of(alloc, &known, body.live_at(at), apart, carry, place.shown)?),
+        note: Some(note_of(
+            alloc,
+            &known,
+            body.live_at(at),
+            apart,
+            carry,
+            shown_at(&place, told),
+        )?),
     })
 }
 
 fn plans_of(alloc: Global, body: &Body, named: Bits, own: Bits) -> Result<Vec<Plan>, AllocError> {
     let mut plans = Vec::new(alloc);
     let mut carry = None;
+    let mut tells = false;
     for at in 0..body.places.len() {
-        plans.push(plan_of(alloc, body, at, body.apart(at, named, own), carry)?)?;
+        plans.push(plan_of(alloc, body, at, body.apart(at, named, own), carry, tells)?)?;
         if let Some(place) = body.place(at) {
             carry = carried(&place, carry);
+            tells = told(&place, tells);
         }
     }
     plans.reverse();
