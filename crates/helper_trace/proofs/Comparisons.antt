@@ -82,7 +82,7 @@ truth_at false to r m apart w ok = record {
   others = λ a n0 n1. grind (arith, nat_tests);
 }
 
-by_carry : (usual : ℕ) (t : Machine) → Fine t → OnlyW t (run (choice_code usual Btfss 0 (1 - usual)) t) (if nat_eq t.registers.c 1 then usual else 1 - usual)
+pub by_carry : (usual : ℕ) (t : Machine) → Fine t → OnlyW t (run (choice_code usual Btfss 0 (1 - usual)) t) (if nat_eq t.registers.c 1 then usual else 1 - usual)
 by_carry usual t ok = subst (λ (v : Machine). OnlyW v (run (choice_code usual Btfss 0 (1 - usual)) v) (if nat_eq v.registers.c 1 then usual else 1 - usual)) (going_is t ok.going) (by_carry_at usual t.registers t.memory ok.carry ok.zero)
 
 pub by_zero : (usual : ℕ) (t : Machine) → Fine t → OnlyW t (run (choice_code usual Btfsc 2 (1 - usual)) t) (if nat_eq t.registers.z 0 then usual else 1 - usual)
@@ -121,7 +121,7 @@ carry_tells p n l r c usual lt e cs = elim (cases_lt c 1) [
 choice_small : (usual l r : ℕ) → usual < 2 → (if nat_lt l r then 1 - usual else usual) < 2
 choice_small usual l r lt = grind (arith, nat_tests)
 
-run4 : (ws xs ys zs : List Sym) (t : Machine) → run (((ws ++ xs) ++ ys) ++ zs) t ≡ run zs (run ys (run xs (run ws t)))
+pub run4 : (ws xs ys zs : List Sym) (t : Machine) → run (((ws ++ xs) ++ ys) ++ zs) t ≡ run zs (run ys (run xs (run ws t)))
 run4 ws xs ys zs t = run_append ((ws ++ xs) ++ ys) zs t ∙ ap (run zs) (run_append (ws ++ xs) ys t ∙ ap (run ys) (run_append ws xs t))
 
 pub order : (clearable signed : Bool) (usual : ℕ) (to left right : Operand) (w : ℕ) → usual < 2 → 0 < w → (to 0 ≡ to 1 → ⊥) → (t : Machine) → Fine t →

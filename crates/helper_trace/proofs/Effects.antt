@@ -116,6 +116,7 @@ module _ (g : Setting) (inside : Bool) (P : Byte → Type 0) (quiet : AreQuiet g
   does (sym.Bit Btfss (operands.Byte byte) n) h = btfss byte n h
   does (sym.Bit op (operands.Register registers.Status) n) h = on_flag op n h
   does (sym.Literal lit.Movlw (literals.Number n)) h = refl
+  does (sym.Literal lit.Addlw (literals.Number n)) h = refl
   does (sym.Literal lit.Xorlw (literals.Number n)) h = refl
   does (sym.Plain plains.Clrw) h = refl
   does x h = absurd h

@@ -120,4 +120,4 @@ module _ (P : Byte → Type 0) (at : Byte → ℕ) where
   test byte (suc n) h = also (means.file P at Movf W byte (spot byte 0) h.front h.zero) (ors byte n (suc n) (omega arith) h)
 
   pub bang : (byte : Byte) (w : ℕ) → Lies P at byte w → Lies P at byte 2 → M (single.bang_code byte w) (model.bang_code true (spot byte) w)
-  bang byte w h h2 = also (also (test byte w h) (means.choice P at 0 1 Btfsc Zero (omega arith) (omega arith) (omega arith))) (truth byte h2)
+  bang byte w h h2 = also (also (also (test byte w h) (means.nonzero P at)) (means.choice P at 0 1 Btfss Carry (omega arith) (omega arith) (omega arith))) (truth byte h2)

@@ -19,7 +19,7 @@ use Rattle.sym_code.specs.declared.code.Literal.TheVariants as literals
 use Rattle.sym_code.specs.declared.code.LiteralOperation.TheVariants as lit
 use Rattle.sym_code.specs.declared.code.Sym as code
 use Rattle.helper_trace.specs.Code as model
-use Rattle.helper_trace.specs.Run.{Sym, Row, Movwf, Clrf, Test, Flag as OnFlag, Movlw, Xorlw}
+use Rattle.helper_trace.specs.Run.{Sym, Row, Movwf, Clrf, Test, Flag as OnFlag, Movlw, Addlw, Xorlw}
 use Rattle.helper_trace.specs.Silent.{AreStraight, plain, plain_code}
 
 pub straight_append : (P : Byte → Type 0) (xs ys : List code.Sym) → AreStraight P xs → AreStraight P ys → AreStraight P (xs ++ ys)
@@ -74,6 +74,9 @@ module _ (P : Byte → Type 0) (at : Byte → ℕ) where
 
   pub xor_one : M (wide.literal_code lit.Xorlw (literals.Number 1)) (Xorlw 1 ∷ [])
   xor_one = record { same = refl; straight = (omega arith, tt) }
+
+  pub nonzero : M wide.nonzero_code (Addlw 255 ∷ [])
+  nonzero = record { same = refl; straight = (omega arith, tt) }
 
   pub pair : (op : FileOperation) (into : Into) (left right : Byte) (l r : ℕ) → P left → at left ≡ l → P right → at right ≡ r → M (wide.pair_code op left right into) (model.pair_code op l r into)
   pair op into left right l r pl el pr er = joined (pieces.file_code Movf right W) (pieces.file_code op left into) (Row Movf r W ∷ []) (Row op l into ∷ []) (file Movf W right r pr er) (file op into left l pl el)

@@ -9,7 +9,7 @@ use Rattle.std.proofs.lemmas.Bool.{cases_lt, eq-eqb, eqb-true}
 use Rattle.sym_code.specs.Registers.{Registers}
 use Rattle.pic_world.specs.Bits.{bit}
 use Rattle.helper_trace.specs.Rows.{skips_with, status_bit}
-use Rattle.helper_trace.specs.Run.{Sym, Row, Movwf, Clrf, Test, Flag, Movlw, Xorlw, Clrw, Return, Goto, Label, Mode, Going, Skipping, Seeking, Returned, Machine, execute, step, step_in, sought, skipped, run}
+use Rattle.helper_trace.specs.Run.{Sym, Row, Movwf, Clrf, Test, Flag, Movlw, Addlw, Xorlw, Clrw, Return, Goto, Label, Mode, Going, Skipping, Seeking, Returned, Machine, execute, step, step_in, sought, skipped, run}
 use Rattle.sym_code.specs.declared.code.Into.TheVariants.{W, File}
 use Rattle.sym_code.specs.declared.code.BitOperation.TheVariants.{Bcf, Bsf, Btfsc, Btfss}
 use Rattle.sym_code.specs.Effect.{Memory}
@@ -44,6 +44,7 @@ times_append l (Clrf a ∷ xs) ys = times_append l xs ys
 times_append l (Test op a b ∷ xs) ys = times_append l xs ys
 times_append l (Flag op b ∷ xs) ys = times_append l xs ys
 times_append l (Movlw n ∷ xs) ys = times_append l xs ys
+times_append l (Addlw n ∷ xs) ys = times_append l xs ys
 times_append l (Xorlw n ∷ xs) ys = times_append l xs ys
 times_append l (Clrw ∷ xs) ys = times_append l xs ys
 times_append l (Return ∷ xs) ys = times_append l xs ys
@@ -63,6 +64,7 @@ label_behind l (Clrf a ∷ xs) ys n e = label_behind l xs ys (n + 1) e ∙ ap (l
 label_behind l (Test op a b ∷ xs) ys n e = label_behind l xs ys (n + 1) e ∙ ap (label_from ys l) (omega arith)
 label_behind l (Flag op b ∷ xs) ys n e = label_behind l xs ys (n + 1) e ∙ ap (label_from ys l) (omega arith)
 label_behind l (Movlw v ∷ xs) ys n e = label_behind l xs ys (n + 1) e ∙ ap (label_from ys l) (omega arith)
+label_behind l (Addlw v ∷ xs) ys n e = label_behind l xs ys (n + 1) e ∙ ap (label_from ys l) (omega arith)
 label_behind l (Xorlw v ∷ xs) ys n e = label_behind l xs ys (n + 1) e ∙ ap (label_from ys l) (omega arith)
 label_behind l (Clrw ∷ xs) ys n e = label_behind l xs ys (n + 1) e ∙ ap (label_from ys l) (omega arith)
 label_behind l (Return ∷ xs) ys n e = label_behind l xs ys (n + 1) e ∙ ap (label_from ys l) (omega arith)
@@ -94,6 +96,7 @@ past_some (Clrf a ∷ xs) post h = (1, refl)
 past_some (Test op a b ∷ xs) post h = (1, refl)
 past_some (Flag op b ∷ xs) post h = (1, refl)
 past_some (Movlw v ∷ xs) post h = (1, refl)
+past_some (Addlw v ∷ xs) post h = (1, refl)
 past_some (Xorlw v ∷ xs) post h = (1, refl)
 past_some (Clrw ∷ xs) post h = (1, refl)
 past_some (Return ∷ xs) post h = (1, refl)
@@ -125,6 +128,7 @@ lead_of code x rest h r m l e = at x h e
     at (Flag Btfsc b) h e = absurd (never (nat_eq (status_bit r b) 0) e)
     at (Flag Btfss b) h e = absurd (never (nat_eq (status_bit r b) 1) e)
     at (Movlw n) h e = absurd (cc)
+    at (Addlw n) h e = absurd (cc)
     at (Xorlw n) h e = absurd (cc)
     at Clrw h e = absurd (cc)
     at Return h e = absurd (cc)
@@ -153,6 +157,7 @@ returned_is x r m e = at x e
     at (Flag Btfsc b) e = absurd (never (nat_eq (status_bit r b) 0) e)
     at (Flag Btfss b) e = absurd (never (nat_eq (status_bit r b) 1) e)
     at (Movlw n) e = absurd (cc)
+    at (Addlw n) e = absurd (cc)
     at (Xorlw n) e = absurd (cc)
     at Clrw e = absurd (cc)
     at (Goto n) e = absurd (cc)
@@ -231,6 +236,7 @@ one_in price code i x rest once e leads_on word Skipping r m p pr pm at = stay (
     none (Test op a b) = refl
     none (Flag op b) = refl
     none (Movlw v) = refl
+    none (Addlw v) = refl
     none (Xorlw v) = refl
     none Clrw = refl
     none Return = refl
@@ -253,6 +259,7 @@ one_in price code i x rest once e leads_on word Skipping r m p pr pm at = stay (
     place_at (Test op a b) h = next h.0 h.1 h.2
     place_at (Flag op b) h = next h.0 h.1 h.2
     place_at (Movlw v) h = next h.0 h.1 h.2
+    place_at (Addlw v) h = next h.0 h.1 h.2
     place_at (Xorlw v) h = next h.0 h.1 h.2
     place_at Clrw h = next h.0 h.1 h.2
     place_at Return h = next h.0 h.1 h.2
@@ -286,6 +293,7 @@ one_in price code i x rest once e leads_on word (Seeking l) r m p pr pm at = see
     seek (Test op a b) f = stay (Seeking l) refl
     seek (Flag op b) f = stay (Seeking l) refl
     seek (Movlw v) f = stay (Seeking l) refl
+    seek (Addlw v) f = stay (Seeking l) refl
     seek (Xorlw v) f = stay (Seeking l) refl
     seek Clrw f = stay (Seeking l) refl
     seek Return f = stay (Seeking l) refl
@@ -312,6 +320,7 @@ all_lead_tail code (Clrf a) rest h = h
 all_lead_tail code (Test op a b) rest h = h
 all_lead_tail code (Flag op b) rest h = h
 all_lead_tail code (Movlw v) rest h = h
+all_lead_tail code (Addlw v) rest h = h
 all_lead_tail code (Xorlw v) rest h = h
 all_lead_tail code Clrw rest h = h
 all_lead_tail code Return rest h = h

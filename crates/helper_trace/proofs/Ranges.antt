@@ -11,7 +11,7 @@ use Rattle.sym_code.specs.declared.code.FileOperation.{FileOperation}
 use Rattle.sym_code.specs.declared.code.FileOperation.TheVariants.{Addwf, Andwf, Comf, Decf, Decfsz, Incf, Incfsz, Iorwf, Movf, Rlf, Rrf, Subwf, Swapf, Xorwf}
 use Rattle.sym_code.specs.declared.code.Into.TheVariants.{W, File}
 use Rattle.sym_code.specs.declared.code.Literal.TheVariants as literals
-use Rattle.sym_code.specs.declared.code.LiteralOperation.TheVariants.{Movlw, Xorlw}
+use Rattle.sym_code.specs.declared.code.LiteralOperation.TheVariants.{Addlw, Movlw, Xorlw}
 use Rattle.sym_code.specs.declared.code.Operand.TheVariants as operands
 use Rattle.sym_code.specs.declared.code.PlainOperation.TheVariants as plains
 use Rattle.sym_code.specs.declared.code.Register.TheVariants.{Status}
@@ -27,6 +27,7 @@ use Rattle.helper_trace.specs.Silent.{IsStraight, plain}
 -- the numbers in an instruction fit into it, and it changes no bit of STATUS but the flags
 abbrev pub IsWithin : Sym → Type 0
 IsWithin (run.Movlw n) = n < 256
+IsWithin (run.Addlw n) = n < 256
 IsWithin (run.Xorlw n) = n < 256
 IsWithin (Flag op n) = n < 3
 IsWithin _ = Unit {0}
@@ -137,6 +138,7 @@ keeps (Flag Bsf b) r m h f ok = let k = flag_keeps r b 1 h (omega arith) f in re
 keeps (Flag Btfsc b) r m h f ok = still r m f ok
 keeps (Flag Btfss b) r m h f ok = still r m f ok
 keeps (run.Movlw n) r m h f ok = record { fits = with_w r n h f; same = refl; bytes = ok }
+keeps (run.Addlw n) r m h f ok = record { fits = with_w (flags_with r Addwf n) _ (result_small Addwf r n f h) (flags_fit Addwf r n f); same = w_same r (flags_with r Addwf n) _ (flags_same Addwf r n); bytes = ok }
 keeps (run.Xorlw n) r m h f ok = record { fits = with_w (record r { z = truth (nat_eq (bit_xor n r.w) 0) }) (bit_xor n r.w) (xor_lt 8 n r.w h f.w) (with_z r (nat_eq (bit_xor n r.w) 0) f); same = refl; bytes = ok }
 keeps Clrw r m h f ok = record { fits = with_w (record r { z = 1 }) 0 (omega arith) (with_z r true f); same = refl; bytes = ok }
 keeps Return r m h f ok = still r m f ok
@@ -154,6 +156,7 @@ within_of P at (sym.Bit Btfsc (operands.Byte byte) n) h = tt
 within_of P at (sym.Bit Btfss (operands.Byte byte) n) h = tt
 within_of P at (sym.Bit op (operands.Register Status) n) h = h
 within_of P at (sym.Literal Movlw (literals.Number n)) h = h
+within_of P at (sym.Literal Addlw (literals.Number n)) h = h
 within_of P at (sym.Literal Xorlw (literals.Number n)) h = h
 within_of P at (sym.Plain plains.Clrw) h = tt
 within_of P at x h = absurd h

@@ -3,7 +3,7 @@ use Rattle.std.proofs.Common.{◌≡◌, ℕ, zero, suc, ◌+◌, ◌*◌, ◌�
 use Rattle.std.specs.Prelude.{nat_eq, if◌then◌else◌}
 use Rattle.std.proofs.Math.Seq.{drop-append_seam}
 use Rattle.std.proofs.lemmas.Bool.{eq-eqb}
-use Rattle.helper_trace.specs.Run.{Sym, Row, Movwf, Clrf, Test, Flag, Movlw, Xorlw, Clrw, Return, Goto, Label, Mode, Going, Machine, run}
+use Rattle.helper_trace.specs.Run.{Sym, Row, Movwf, Clrf, Test, Flag, Movlw, Addlw, Xorlw, Clrw, Return, Goto, Label, Mode, Going, Machine, run}
 use Rattle.helper_trace.specs.Loops.{again, Loops}
 use Rattle.helper_trace.specs.Helpers.{Layout, Step, Clear, Answers, ShiftLeft, ShiftRight, Add, Compare, Subtract, Invert, Increment, step_code, each_byte}
 use Rattle.helper_trace.specs.Positions.{Place, Goes, Back, due, dues, owed, past_word, label_from, place, acts, step_at, Path, times, AllLead, AtPlace, Stands, GoesAlong, Walks, IsSound, Returns, jumps}
@@ -105,6 +105,7 @@ jumps_append l (Clrf a ∷ xs) ys = jumps_append l xs ys
 jumps_append l (Test op a b ∷ xs) ys = jumps_append l xs ys
 jumps_append l (Flag op b ∷ xs) ys = jumps_append l xs ys
 jumps_append l (Movlw v ∷ xs) ys = jumps_append l xs ys
+jumps_append l (Addlw v ∷ xs) ys = jumps_append l xs ys
 jumps_append l (Xorlw v ∷ xs) ys = jumps_append l xs ys
 jumps_append l (Clrw ∷ xs) ys = jumps_append l xs ys
 jumps_append l (Return ∷ xs) ys = jumps_append l xs ys
@@ -142,6 +143,7 @@ lead l n (Clrf a ∷ xs) h = lead l (n + 1) xs h
 lead l n (Test op a b ∷ xs) h = lead l (n + 1) xs h
 lead l n (Flag op b ∷ xs) h = lead l (n + 1) xs h
 lead l n (Movlw v ∷ xs) h = lead l (n + 1) xs h
+lead l n (Addlw v ∷ xs) h = lead l (n + 1) xs h
 lead l n (Xorlw v ∷ xs) h = lead l (n + 1) xs h
 lead l n (Clrw ∷ xs) h = lead l (n + 1) xs h
 lead l n (Return ∷ xs) h = lead l (n + 1) xs h
@@ -168,6 +170,7 @@ all_lead code (Clrf a ∷ xs) h = all_lead code xs h
 all_lead code (Test op a b ∷ xs) h = all_lead code xs h
 all_lead code (Flag op b ∷ xs) h = all_lead code xs h
 all_lead code (Movlw v ∷ xs) h = all_lead code xs h
+all_lead code (Addlw v ∷ xs) h = all_lead code xs h
 all_lead code (Xorlw v ∷ xs) h = all_lead code xs h
 all_lead code (Clrw ∷ xs) h = all_lead code xs h
 all_lead code (Return ∷ xs) h = all_lead code xs h

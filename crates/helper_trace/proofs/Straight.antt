@@ -12,7 +12,7 @@ use Rattle.sym_code.specs.declared.code.BitOperation.TheVariants.{Bcf, Bsf, Btfs
 use Rattle.sym_code.specs.declared.code.BlockName.{BlockName}
 use Rattle.sym_code.specs.declared.code.Into.TheVariants.{W, File}
 use Rattle.sym_code.specs.declared.code.Literal.TheVariants as literals
-use Rattle.sym_code.specs.declared.code.LiteralOperation.TheVariants.{Movlw, Xorlw}
+use Rattle.sym_code.specs.declared.code.LiteralOperation.TheVariants.{Addlw, Movlw, Xorlw}
 use Rattle.sym_code.specs.declared.code.Operand.TheVariants as operands
 use Rattle.sym_code.specs.declared.code.PlainOperation.TheVariants as plains
 use Rattle.sym_code.specs.declared.code.Register.TheVariants.{Status}
@@ -49,6 +49,7 @@ on P at r m (sym.Bit Bsf (operands.Register Status) n) h = tt
 on P at r m (sym.Bit Btfsc (operands.Register Status) n) h = on_if (nat_eq (status_bit r n) 0)
 on P at r m (sym.Bit Btfss (operands.Register Status) n) h = on_if (nat_eq (status_bit r n) 1)
 on P at r m (sym.Literal Movlw (literals.Number n)) h = tt
+on P at r m (sym.Literal Addlw (literals.Number n)) h = tt
 on P at r m (sym.Literal Xorlw (literals.Number n)) h = tt
 on P at r m (sym.Plain plains.Clrw) h = tt
 on P at r m x h = absurd h
@@ -101,6 +102,7 @@ passed P at (sym.Bit Btfsc (operands.Byte byte) n) h = refl
 passed P at (sym.Bit Btfss (operands.Byte byte) n) h = refl
 passed P at (sym.Bit op (operands.Register Status) n) h = refl
 passed P at (sym.Literal Movlw (literals.Number n)) h = refl
+passed P at (sym.Literal Addlw (literals.Number n)) h = refl
 passed P at (sym.Literal Xorlw (literals.Number n)) h = refl
 passed P at (sym.Plain plains.Clrw) h = refl
 passed P at x h = absurd h

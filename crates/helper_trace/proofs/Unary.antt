@@ -3,15 +3,15 @@ use Rattle.std.proofs.Common.{◌≡◌, ℕ, zero, suc, ◌+◌, ◌-◌, ◌*�
 use Rattle.std.specs.Prelude.{nat_eq, if◌then◌else◌}
 use Rattle.std.proofs.Math.Nat.{pow-suc}
 use Rattle.std.proofs.lemmas.Int.{ints}
-use Rattle.std.proofs.lemmas.Nat.{le_or_l, le_or_r}
+use Rattle.std.proofs.lemmas.Nat.{le_or_l, le_or_r, or_lt}
 use Rattle.std.proofs.lemmas.Bool.Decides.{nat_tests}
 use Rattle.sym_code.specs.Registers.{Registers}
 use Rattle.sym_code.specs.declared.code.FileOperation.TheVariants.{Comf, Incf, Movf, Iorwf}
 use Rattle.sym_code.specs.Effect.{Memory}
 use Rattle.helper_trace.specs.Run.{Machine, Sym, Row, Flag, going, run}
-use Rattle.sym_code.specs.declared.code.BitOperation.TheVariants.{Btfsc}
+use Rattle.sym_code.specs.declared.code.BitOperation.TheVariants.{Btfsc, Btfss}
 use Rattle.sym_code.specs.declared.code.Into.TheVariants.{W, File}
-use Rattle.helper_trace.specs.Code.{Operand, file_code, flag_code, complement_code, increment_byte_code, increment_code, ors_code, test_code, choice_code, truth_code, bang_code}
+use Rattle.helper_trace.specs.Code.{Operand, file_code, flag_code, complement_code, increment_byte_code, increment_code, ors_code, test_code, nonzero_code, choice_code, truth_code, bang_code}
 use Rattle.helper_trace.specs.Links.{Fine}
 use Rattle.helper_trace.specs.Ripples.{total, Changes, AreDistinct, Rippled}
 use Rattle.helper_trace.specs.Values.{val}
@@ -25,7 +25,7 @@ use Rattle.helper_trace.proofs.Links.{nonzero}
 use Rattle.helper_trace.proofs.Ripples.{upward, val_total, rippled}
 use Rattle.helper_trace.proofs.Steps.{carry_of, zero_of, Inverts, Inverted, Increments, Incremented, comf, incf_first, incf_more, one_of, inverted_more, incremented_more, incremented_at}
 use Rattle.helper_trace.proofs.Negate.{negated}
-use Rattle.helper_trace.proofs.Comparisons.{OnlyW, by_zero, fine_w, truth_is, truth_from}
+use Rattle.helper_trace.proofs.Comparisons.{OnlyW, by_carry, fine_w, truth_is, truth_from, run4}
 use Rattle.helper_trace.proofs.Values.{offset, small_mod}
 use Rattle.helper_trace.proofs.Ints.{pattern_of, mod_shift, pattern_cut}
 
@@ -109,13 +109,14 @@ pub record Tested (t u : Machine) (n : ℕ) : Type 0 where
   pub fine : Fine u
   pub none : u.registers.w ≡ 0 → n ≡ 0
   pub some : n ≡ 0 → u.registers.w ≡ 0
+  pub small : u.registers.w < 256
   pub zero : u.registers.z ≡ (if nat_eq u.registers.w 0 then 1 else 0)
   pub same : (a : ℕ) → u.memory a ≡ t.memory a
 
 pub tested : (at : Operand) (k : ℕ) (t : Machine) → Fine t → Tested t (run (test_code at (suc k)) t) (val (λ j. t.memory (at j)) (suc k))
 tested at zero t ok =
     let h : Ored t (run (file_code Movf (at 0) W) t) (t.memory (at 0)) = moved (at 0) t ok in
-    record { fine = h.fine; none = λ e. omega (arith, h.w, e); some = λ e. h.w ∙ omega (arith, e); zero = h.zero ∙ ap (λ x. if nat_eq x 0 then 1 else 0) (sym h.w); same = h.same }
+    record { fine = h.fine; none = λ e. omega (arith, h.w, e); some = λ e. h.w ∙ omega (arith, e); small = subst (λ (x : ℕ). x < 256) (sym h.w) (ok.bytes (at 0)); zero = h.zero ∙ ap (λ x. if nat_eq x 0 then 1 else 0) (sym h.w); same = h.same }
 tested at (suc k) t ok =
     let u : Machine = run (test_code at (suc k)) t in
     let h : Tested t u (val (λ j. t.memory (at j)) (suc k)) = tested at k t ok in
@@ -133,6 +134,7 @@ tested at (suc k) t ok =
       some = λ z.
           let p = parts (256 ^ suc k) (val (λ j. t.memory (at j)) (suc k)) (t.memory (at (suc k))) (one (suc k)) z in
           o.w ∙ ap (λ n. bit_or n (u.memory (at (suc k)))) (h.some p.0) ∙ ap (λ n. bit_or 0 n) (b ∙ p.1);
+      small = subst (λ (x : ℕ). x < 256) (sym o.w) (or_lt 8 u.registers.w (u.memory (at (suc k))) h.small (h.fine.bytes (at (suc k))));
       zero = o.zero ∙ ap (λ x. if nat_eq x 0 then 1 else 0) (sym o.w);
       same = λ a. o.same a ∙ h.same a;
     })
@@ -151,23 +153,41 @@ tested at (suc k) t ok =
         big : (p v x : ℕ) → 0 < p → v + p * suc x ≡ 0 → ⊥
         big p v x h e = let f : p * suc x ≡ p * x + p = omega arith in omega (arith, f)
 
+-- C tells whether W isn't 0
+record Carries (t u : Machine) : Type 0 where
+  fine : Fine u
+  carry : u.registers.c ≡ (if nat_eq t.registers.w 0 then 0 else 1)
+  same : (a : ℕ) → u.memory a ≡ t.memory a
+
+carries : (t : Machine) → Fine t → t.registers.w < 256 → Carries t (run nonzero_code t)
+carries t ok lt = subst (λ (v : Machine). Fine v → v.registers.w < 256 → Carries v (run nonzero_code v)) (going_is t ok.going) (at t.registers t.memory) ok lt
+  where
+    at : (r : Registers) (m : Memory) → Fine (going r m) → r.w < 256 → Carries (going r m) (run nonzero_code (going r m))
+    at r m ok lt = record {
+      fine = record { going = refl; carry = grind (arith, nat_tests); zero = grind (arith, nat_tests); bytes = ok.bytes };
+      carry = grind (arith, nat_tests);
+      same = λ a. refl;
+    }
+
 pub bang : (clearable : Bool) (at : Operand) (w : ℕ) → 0 < w → (at 0 ≡ at 1 → ⊥) → (t : Machine) → Fine t → Truth t.memory (run (bang_code clearable at w) t) at (if nat_eq (val (λ j. t.memory (at j)) w) 0 then 1 else 0)
 bang clearable at zero lt apart t ok = absurd (omega arith)
 bang clearable at (suc k) lt apart t ok =
     let u : Machine = run (test_code at (suc k)) t in
     let h : Tested t u (val (λ j. t.memory (at j)) (suc k)) = tested at k t ok in
-    let v : Machine = run (choice_code 0 Btfsc 2 1) u in
-    let c : OnlyW u v (if nat_eq u.registers.z 0 then 0 else 1) = by_zero 0 u h.fine in
-    let is : v.registers.w ≡ (if nat_eq (val (λ j. t.memory (at j)) (suc k)) 0 then 1 else 0) = c.w ∙ answer_is _ _ _ h.zero h.none h.some in
-    let e : run (bang_code clearable at (suc k)) t ≡ run (truth_code clearable at) v = run_append (test_code at (suc k) ++ choice_code 0 Btfsc 2 1) (truth_code clearable at) t ∙ ap (run (truth_code clearable at)) (run_append (test_code at (suc k)) (choice_code 0 Btfsc 2 1) t) in
+    let n : Machine = run nonzero_code u in
+    let f : Carries u n = carries u h.fine h.small in
+    let v : Machine = run (choice_code 0 Btfss 0 1) n in
+    let c : OnlyW n v (if nat_eq n.registers.c 1 then 0 else 1) = by_carry 0 n f.fine in
+    let is : v.registers.w ≡ (if nat_eq (val (λ j. t.memory (at j)) (suc k)) 0 then 1 else 0) = c.w ∙ answer_is _ _ _ f.carry h.none h.some in
+    let e : run (bang_code clearable at (suc k)) t ≡ run (truth_code clearable at) v = run4 (test_code at (suc k)) nonzero_code (choice_code 0 Btfss 0 1) (truth_code clearable at) t in
     subst (λ (x : Machine). Truth t.memory x at (if nat_eq (val (λ j. t.memory (at j)) (suc k)) 0 then 1 else 0)) (sym e)
-    (truth_from t.memory v _ at _ (λ a. c.same a ∙ h.same a) (truth_is clearable at v _ apart (small (val (λ j. t.memory (at j)) (suc k))) is (fine_w u v _ h.fine c)))
+    (truth_from t.memory v _ at _ (λ a. c.same a ∙ f.same a ∙ h.same a) (truth_is clearable at v _ apart (small (val (λ j. t.memory (at j)) (suc k))) is (fine_w n v _ f.fine c)))
   where
     small : (n : ℕ) → (if nat_eq n 0 then 1 else 0) < 2
     small n = grind (arith, nat_tests)
 
-    answer_is : (z w n : ℕ) → z ≡ (if nat_eq w 0 then 1 else 0) → (w ≡ 0 → n ≡ 0) → (n ≡ 0 → w ≡ 0) → ◌≡◌ {A = ℕ} (if nat_eq z 0 then 0 else 1) (if nat_eq n 0 then 1 else 0)
-    answer_is z w n e f g = grind (arith, nat_tests)
+    answer_is : (c w n : ℕ) → c ≡ (if nat_eq w 0 then 0 else 1) → (w ≡ 0 → n ≡ 0) → (n ≡ 0 → w ≡ 0) → ◌≡◌ {A = ℕ} (if nat_eq c 1 then 0 else 1) (if nat_eq n 0 then 1 else 0)
+    answer_is c w n e f g = grind (arith, nat_tests)
 
 -- ---- values
 pub minus_value : (ty : IntTy) (n a : ℕ) → n < span ty → a ≡ (span ty - n) % span ty → a ≡ pattern ty (cut ty (exact_unary Minus (cut ty (pos n))))

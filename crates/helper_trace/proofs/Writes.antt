@@ -6,7 +6,7 @@ use Rattle.std.proofs.lemmas.List.{take-append-drop}
 use Rattle.std.proofs.Math.Seq.{drop-cons}
 use Rattle.std.proofs.lemmas.Bool.Decides.{nat_tests}
 use Rattle.sym_code.specs.Registers.{Registers}
-use Rattle.helper_trace.specs.Run.{Sym, Row, Movwf, Clrf, Test, Flag, Movlw, Xorlw, Clrw, Return, Goto, Label, Mode, Going, Skipping, Seeking, Returned, Machine, execute}
+use Rattle.helper_trace.specs.Run.{Sym, Row, Movwf, Clrf, Test, Flag, Movlw, Addlw, Xorlw, Clrw, Return, Goto, Label, Mode, Going, Skipping, Seeking, Returned, Machine, execute}
 use Rattle.sym_code.specs.declared.code.Into.TheVariants.{W, File}
 use Rattle.sym_code.specs.declared.code.BitOperation.TheVariants.{Bcf, Bsf, Btfsc, Btfss}
 use Rattle.sym_code.specs.Effect.{Memory}
@@ -37,6 +37,7 @@ forms a (Row op b W) xs = omega arith
 forms a (Test op b c) xs = omega arith
 forms a (Flag op b) xs = omega arith
 forms a (Movlw n) xs = omega arith
+forms a (Addlw n) xs = omega arith
 forms a (Xorlw n) xs = omega arith
 forms a Clrw xs = omega arith
 forms a Return xs = omega arith
@@ -77,6 +78,7 @@ unwritten a (Flag Bsf b) r m e = refl
 unwritten a (Flag Btfsc b) r m e = refl
 unwritten a (Flag Btfss b) r m e = refl
 unwritten a (Movlw n) r m e = refl
+unwritten a (Addlw n) r m e = refl
 unwritten a (Xorlw n) r m e = refl
 unwritten a Clrw r m e = refl
 unwritten a Return r m e = refl

@@ -3,7 +3,7 @@
 use Rattle.std.specs.Prelude.{ℕ, zero, suc, ◌+◌, ◌-◌, ◌/◌, ◌%◌, nat_eq, Bool, true, false, cond, ◌&&◌, if◌then◌else◌, List, [], ◌∷◌, ◌++◌}
 use Rattle.sym_code.specs.declared.code.FileOperation.{FileOperation}
 use Rattle.sym_code.specs.declared.code.FileOperation.TheVariants.{Addwf, Subwf, Movf, Incfsz, Xorwf, Iorwf, Comf, Incf, Rlf, Rrf}
-use Rattle.helper_trace.specs.Run.{Sym, Row, Movwf, Clrf, Test, Movlw, Xorlw, Clrw, Flag}
+use Rattle.helper_trace.specs.Run.{Sym, Row, Movwf, Clrf, Test, Movlw, Addlw, Xorlw, Clrw, Flag}
 use Rattle.sym_code.specs.declared.code.Into.{Into}
 use Rattle.sym_code.specs.declared.code.Into.TheVariants.{W, File}
 use Rattle.sym_code.specs.declared.code.BitOperation.{BitOperation}
@@ -64,6 +64,10 @@ bit_code op byte bit = Test op byte bit ∷ []
 abbrev pub set_code : Bool → ℕ → ℕ → List Sym
 set_code clearable to value = cond (nat_eq value 0 && clearable) (Clrf to ∷ []) (number_code value ++ store_code to)
 
+-- C becomes 1 where W isn't 0, and 0 where it is
+abbrev pub nonzero_code : List Sym
+nonzero_code = Addlw 255 ∷ []
+
 abbrev pub choice_code : ℕ → BitOperation → ℕ → ℕ → List Sym
 choice_code usual test flag other = number_code usual ++ flag_code test flag ++ number_code other
 
@@ -110,7 +114,7 @@ test_code test zero = Clrw ∷ []
 test_code test (suc k) = file_code Movf (test 0) W ++ ors_code test k
 
 abbrev pub bang_code : Bool → Operand → ℕ → List Sym
-bang_code clearable at width = test_code at width ++ choice_code 0 Btfsc 2 1 ++ truth_code clearable at
+bang_code clearable at width = test_code at width ++ nonzero_code ++ choice_code 0 Btfss 0 1 ++ truth_code clearable at
 
 -- ---- widening
 abbrev pub behind : Operand → ℕ → Operand

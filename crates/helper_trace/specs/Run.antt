@@ -8,6 +8,7 @@ use Rattle.sym_code.specs.Registers.{Registers}
 use Rattle.sym_code.specs.declared.code.BitOperation.{BitOperation}
 use Rattle.sym_code.specs.declared.code.BitOperation.TheVariants.{Bcf, Bsf, Btfsc, Btfss}
 use Rattle.sym_code.specs.declared.code.FileOperation.{FileOperation}
+use Rattle.sym_code.specs.declared.code.FileOperation.TheVariants.{Addwf}
 use Rattle.sym_code.specs.declared.code.Into.{Into}
 use Rattle.sym_code.specs.declared.code.Into.TheVariants.{W, File}
 use Rattle.helper_trace.specs.Rows.{result_with, flags_with, skips_with, status_bit, with_status_bit}
@@ -22,6 +23,7 @@ pub data Sym : Type 0 where
   -- a bit of STATUS
   Flag : BitOperation → ℕ → Sym
   Movlw : ℕ → Sym
+  Addlw : ℕ → Sym
   Xorlw : ℕ → Sym
   Clrw : Sym
   Return : Sym
@@ -66,6 +68,8 @@ execute (Clrf a) r m = going (record r { z = 1 }) (with_byte m a 0)
 execute (Test op a b) r m = test op b (m a) r m
 execute (Flag op b) r m = flag op b r m
 execute (Movlw n) r m = going (record r { w = n }) m
+-- as ADDWF of a byte that is the number
+execute (Addlw n) r m = going (record (flags_with r Addwf n) { w = result_with r Addwf n }) m
 execute (Xorlw n) r m = going (record r { w = bit_xor n r.w; z = truth (nat_eq (bit_xor n r.w) 0) }) m
 execute Clrw r m = going (record r { w = 0; z = 1 }) m
 execute Return r m = record { mode = Returned; registers = r; memory = m }

@@ -15,7 +15,7 @@ use Rattle.sym_code.specs.declared.code.BitOperation.TheVariants.{Btfsc, Btfss}
 use Rattle.sym_code.specs.declared.code.BlockName.{BlockName}
 use Rattle.sym_code.specs.declared.code.Label.TheVariants.{Inner}
 use Rattle.sym_code.specs.declared.code.Literal.TheVariants as literals
-use Rattle.sym_code.specs.declared.code.LiteralOperation.TheVariants.{Movlw, Xorlw}
+use Rattle.sym_code.specs.declared.code.LiteralOperation.TheVariants.{Addlw, Movlw, Xorlw}
 use Rattle.sym_code.specs.declared.code.Operand.TheVariants as operands
 use Rattle.sym_code.specs.declared.code.PlainOperation.TheVariants as plains
 use Rattle.sym_code.specs.declared.code.Register.TheVariants.{Status}
@@ -67,6 +67,7 @@ plain at (sym.Clrf (operands.Byte byte)) = run.Clrf (at byte)
 plain at (sym.Bit op (operands.Register register) n) = run.Flag op n
 plain at (sym.Bit op (operands.Byte byte) n) = run.Test op (at byte) n
 plain at (sym.Literal Movlw (literals.Number n)) = run.Movlw n
+plain at (sym.Literal Addlw (literals.Number n)) = run.Addlw n
 plain at (sym.Literal Xorlw (literals.Number n)) = run.Xorlw n
 plain at (sym.Plain plains.Clrw) = run.Clrw
 plain at (sym.Goto (targets.Label (Inner n))) = run.Goto n
@@ -85,6 +86,7 @@ IsStraight P (sym.Bit op (operands.Register Status) n) = n < 3
 IsStraight P (sym.Bit Btfsc (operands.Byte byte) n) = P byte
 IsStraight P (sym.Bit Btfss (operands.Byte byte) n) = P byte
 IsStraight P (sym.Literal Movlw (literals.Number n)) = n < 256
+IsStraight P (sym.Literal Addlw (literals.Number n)) = n < 256
 IsStraight P (sym.Literal Xorlw (literals.Number n)) = n < 256
 IsStraight P (sym.Plain plains.Clrw) = Unit {0}
 IsStraight P _ = ⊥

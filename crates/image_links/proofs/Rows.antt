@@ -23,7 +23,7 @@ use Rattle.select_code.specs.Pieces.{set_code, ors_code, test_code, clear_code, 
 use Rattle.select_wide.specs.Calls.{helper_call_code, copy_call_code, any_call_code}
 use Rattle.select_wide.specs.Comparisons.{differences_code, equality_code, signs_code, links_code, order_code}
 use Rattle.select_wide.specs.Moves.{copies_code, stores_code, clears_code}
-use Rattle.select_wide.specs.Pieces.{rising, choice_code, truth_code}
+use Rattle.select_wide.specs.Pieces.{rising, nonzero_code, choice_code, truth_code}
 use Rattle.select_wide.specs.Pointers.{address_code, load_code, store_all_code, advance_code}
 use Rattle.select_wide.specs.Selection.{way_of, shifted_code, binary_code, wide_code}
 use Rattle.select_wide.specs.Shifts.{raised_code, bytes_down_code, bytes_way_code, bytes_code, bit_shift_code, in_place_code, moved_code, shift_code}
@@ -113,7 +113,9 @@ choice_plain usual other lt lo test flag =
     joined (number_code usual ++ flag_code test flag) (number_code other) (joined (number_code usual) (flag_code test flag) (number_plain usual lt) refl) (number_plain other lo)
 
 bang_plain : (at : Byte) (width : ℕ) → Plain (bang_code at width)
-bang_plain at width = joined (test_code at width ++ choice_code 0 Btfsc Zero 1) (truth_code at) (joined (test_code at width) (choice_code 0 Btfsc Zero 1) (test_plain at width) refl) (truth_plain at)
+bang_plain at width =
+    joined (test_code at width ++ nonzero_code ++ choice_code 0 Btfss Carry 1) (truth_code at)
+    (joined (test_code at width ++ nonzero_code) (choice_code 0 Btfss Carry 1) (joined (test_code at width) nonzero_code (test_plain at width) refl) refl) (truth_plain at)
 
 unary_plain : (op : UnOp) (ty : IntTy) (at : Byte) → Plain (unary_code op ty at)
 unary_plain unop.Plus ty at = refl

@@ -25,7 +25,7 @@ use Rattle.select_code.specs.Pieces.{set_code, ors_code, test_code, clear_code, 
 use Rattle.select_wide.specs.Calls.{helper_call_code, copy_call_code, any_call_code}
 use Rattle.select_wide.specs.Comparisons.{differences_code, equality_code, signs_code, links_code, order_code}
 use Rattle.select_wide.specs.Moves.{copies_code, stores_code, clears_code}
-use Rattle.select_wide.specs.Pieces.{rising, choice_code, truth_code}
+use Rattle.select_wide.specs.Pieces.{rising, nonzero_code, choice_code, truth_code}
 use Rattle.select_wide.specs.Pointers.{load_code, store_all_code, advance_code}
 use Rattle.select_wide.specs.Selection.{way_of, shifted_code, binary_code, wide_code}
 use Rattle.select_wide.specs.Shifts.{raised_code, bytes_down_code, bytes_way_code, bytes_code, bit_shift_code, in_place_code, moved_code, shift_code}
@@ -105,7 +105,9 @@ increment_calls : (limit : ℕ) (at : Byte) (width : ℕ) → CallsBelow limit (
 increment_calls limit at width = up limit (increment_byte_code at) (increment_byte_calls limit at) width
 
 bang_calls : (limit : ℕ) (at : Byte) (width : ℕ) → CallsBelow limit (bang_code at width)
-bang_calls limit at width = joined limit (test_code at width ++ choice_code 0 Btfsc Zero 1) (truth_code at) (joined limit (test_code at width) (choice_code 0 Btfsc Zero 1) (test_calls limit at width) refl) (truth_calls limit at)
+bang_calls limit at width =
+    joined limit (test_code at width ++ nonzero_code ++ choice_code 0 Btfss Carry 1) (truth_code at)
+    (joined limit (test_code at width ++ nonzero_code) (choice_code 0 Btfss Carry 1) (joined limit (test_code at width) nonzero_code (test_calls limit at width) refl) refl) (truth_calls limit at)
 
 unary_calls : (limit : ℕ) (op : UnOp) (ty : IntTy) (at : Byte) → CallsBelow limit (unary_code op ty at)
 unary_calls limit unop.Plus ty at = refl

@@ -22,7 +22,7 @@ use Rattle.select_code.specs.Pieces.{set_code, ors_code, test_code, clear_code, 
 use Rattle.select_wide.specs.Calls.{helper_call_code, copy_call_code, any_call_code}
 use Rattle.select_wide.specs.Comparisons.{differences_code, equality_code, signs_code, links_code, order_code}
 use Rattle.select_wide.specs.Moves.{copies_code, stores_code, clears_code}
-use Rattle.select_wide.specs.Pieces.{rising, pair_code, choice_code, truth_code}
+use Rattle.select_wide.specs.Pieces.{rising, pair_code, nonzero_code, choice_code, truth_code}
 use Rattle.select_wide.specs.Pointers.{address_code, load_code, store_all_code, advance_code}
 use Rattle.select_wide.specs.Selection.{way_of, shifted_code, binary_code, wide_code}
 use Rattle.select_wide.specs.Shifts.{raised_code, bytes_down_code, bytes_way_code, bytes_code, bit_shift_code, in_place_code, moved_code, shift_code}
@@ -130,7 +130,9 @@ module _ (c : ℕ) where
   increment_fine at width = up (increment_byte_code at) (increment_byte_fine at) width
 
   bang_fine : (at : Byte) (width : ℕ) → Fine (bang_code at width)
-  bang_fine at width = joined (test_code at width ++ choice_code 0 Btfsc Zero 1) (truth_code at) (joined (test_code at width) (choice_code 0 Btfsc Zero 1) (test_fine at width) refl) (truth_fine at)
+  bang_fine at width =
+      joined (test_code at width ++ nonzero_code ++ choice_code 0 Btfss Carry 1) (truth_code at)
+      (joined (test_code at width ++ nonzero_code) (choice_code 0 Btfss Carry 1) (joined (test_code at width) nonzero_code (test_fine at width) refl) refl) (truth_fine at)
 
   unary_fine : (op : UnOp) (ty : IntTy) (at : Byte) → Fine (unary_code op ty at)
   unary_fine unop.Plus ty at = refl

@@ -26,7 +26,7 @@ use Rattle.sym_code.specs.declared.code.FileOperation.TheVariants.{Andwf, Comf, 
 use Rattle.sym_code.specs.declared.code.Register.TheVariants.{Fsr, Indf}
 use Rattle.select_code.specs.declared.pieces.Flag.TheVariants.{Carry, Zero}
 use Rattle.select_code.specs.Pieces.{byte_behind, file_code, flag_code, store_code, copy_code, set_code, test_code}
-use Rattle.select_wide.specs.Pieces.{rising, register_code, register_store_code, pair_code, choice_code, truth_code, sign_code}
+use Rattle.select_wide.specs.Pieces.{rising, register_code, register_store_code, pair_code, nonzero_code, choice_code, truth_code, sign_code}
 use Rattle.select_wide.specs.Sums.{chain_operation, further_code, link_code, apart_code, chain_byte_code, chain_code, bits_byte_code, bits_at_code, bits_code}
 use Rattle.select_wide.specs.Comparisons.{difference_bits_code, differences_code, equality_code, turn_code, signs_code, links_code, order_code}
 use Rattle.select_wide.specs.Single.{is_signed, complement_code, increment_byte_code, increment_code, bang_code, unary_code, widening_code}
@@ -113,7 +113,9 @@ increment_free : (at : Byte) (n : ℕ) → unlabelled (increment_code at n) ≡ 
 increment_free at n = rising_free (increment_byte_code at) n (λ k. free_append (if nat_eq k 0 then [] else flag_code Btfsc Zero) (file_code Incf (byte_behind at k) File) (free_if (nat_eq k 0) [] (flag_code Btfsc Zero) refl refl) refl)
 
 bang_free : (at : Byte) (n : ℕ) → unlabelled (bang_code at n) ≡ true
-bang_free at n = free_append (test_code at n ++ choice_code 0 Btfsc Zero 1) (truth_code at) (free_append (test_code at n) (choice_code 0 Btfsc Zero 1) (test_free at n) refl) (truth_free at)
+bang_free at n =
+    free_append (test_code at n ++ nonzero_code ++ choice_code 0 Btfss Carry 1) (truth_code at)
+    (free_append (test_code at n ++ nonzero_code) (choice_code 0 Btfss Carry 1) (free_append (test_code at n) nonzero_code (test_free at n) refl) refl) (truth_free at)
 
 unary_free : (op : _) (ty : IntTy) (at : Byte) → unlabelled (unary_code op ty at) ≡ true
 unary_free unop.Plus ty at = refl

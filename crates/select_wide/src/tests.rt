@@ -2,7 +2,7 @@
 
 use crate::select;
 use crate::selection::Selector;
-use c_ints::{BinOp, IntTy};
+use c_ints::{BinOp, IntTy, UnOp};
 use c_typed::{Helper, int_helper};
 use call_graph::{Copies, FnCopy, FnId};
 use core_code::{Body, Byte, Core, CoreProgram};
@@ -122,6 +122,28 @@ fn signed_values_of_four_bytes_compare_by_a_difference(rt: HostRuntime) -> Resul
         number(LiteralOperation::Xorlw, 1),
         sign_of(7),
         number(LiteralOperation::Xorlw, 1),
+        store(0),
+        clear(1),
+    ];
+    assert_eq!(rt; list.as_slice(), wanted.as_slice());
+    Ok(())
+}
+
+#[test]
+fn whether_two_bytes_are_0_goes_by_the_carry(rt: HostRuntime) -> Result<(), Fail> {
+    let bang = Core::Unary {
+        op: UnOp::Bang,
+        ty: IntTy::Int,
+        at: frame(0),
+    };
+    let list = selected(rt.alloc(), &bang, &[])?;
+    let wanted = [
+        file(FileOperation::Movf, 0, Into::W),
+        file(FileOperation::Iorwf, 1, Into::W),
+        number(LiteralOperation::Addlw, 255),
+        number(LiteralOperation::Movlw, 0),
+        UNLESS_CARRY,
+        number(LiteralOperation::Movlw, 1),
         store(0),
         clear(1),
     ];

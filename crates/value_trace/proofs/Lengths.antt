@@ -6,7 +6,7 @@ use Rattle.pic_world.specs.declared.Root.{Root}
 use Rattle.select_wide.specs.Links.{IsNearByte, IsNear, AreNear}
 use Rattle.sym_code.specs.declared.code.BitOperation.TheVariants.{Btfsc, Btfss}
 use Rattle.sym_code.specs.declared.code.Literal.TheVariants as literals
-use Rattle.sym_code.specs.declared.code.LiteralOperation.TheVariants.{Movlw, Xorlw}
+use Rattle.sym_code.specs.declared.code.LiteralOperation.TheVariants.{Addlw, Movlw, Xorlw}
 use Rattle.sym_code.specs.declared.code.Operand.TheVariants as operands
 use Rattle.sym_code.specs.declared.code.PlainOperation.TheVariants as plains
 use Rattle.sym_code.specs.declared.code.Register.TheVariants.{Status}
@@ -29,6 +29,7 @@ near_one root copy size whole le (syms.Bit Btfsc (operands.Byte b) n) h = near_b
 near_one root copy size whole le (syms.Bit Btfss (operands.Byte b) n) h = near_byte root copy size whole le b h
 near_one root copy size whole le (syms.Bit op (operands.Register Status) n) h = omega arith
 near_one root copy size whole le (syms.Literal Movlw (literals.Number n)) h = tt
+near_one root copy size whole le (syms.Literal Addlw (literals.Number n)) h = tt
 near_one root copy size whole le (syms.Literal Xorlw (literals.Number n)) h = tt
 near_one root copy size whole le (syms.Plain plains.Clrw) h = tt
 near_one root copy size whole le x h = absurd h

@@ -169,10 +169,11 @@ test_most : (at : Byte) (w : ℕ) → length (pieces.test_code at w) ≤ w + 1
 test_most at zero = omega arith
 test_most at (suc n) = let h : length (pieces.ors_code at n) ≤ n = ors_most at n in omega arith
 
-pub bang_fits : (at : Byte) (w : ℕ) → Fits (single.bang_code at w) (w + 7)
+pub bang_fits : (at : Byte) (w : ℕ) → Fits (single.bang_code at w) (w + 8)
 bang_fits at w =
-    more _ (w + 1 + 3 + 3) (w + 7) (omega arith)
-    (joined (pieces.test_code at w ++ wide.choice_code 0 Btfsc Zero 1) (wide.truth_code at) (w + 1 + 3) 3 (both_most (pieces.test_code at w) (wide.choice_code 0 Btfsc Zero 1) (w + 1) 3 (test_most at w) (omega arith)) (truth_fits at))
+    more _ (w + 1 + 1 + 3 + 3) (w + 8) (omega arith)
+    (joined (pieces.test_code at w ++ wide.nonzero_code ++ wide.choice_code 0 Btfss Carry 1) (wide.truth_code at) (w + 1 + 1 + 3) 3
+    (both_most (pieces.test_code at w ++ wide.nonzero_code) (wide.choice_code 0 Btfss Carry 1) (w + 1 + 1) 3 (both_most (pieces.test_code at w) wide.nonzero_code (w + 1) 1 (test_most at w) (omega arith)) (omega arith)) (truth_fits at))
 
 stores_fits : (to : Byte) (n : ℕ) → 0 < n → Fits (moves.stores_code to n) (n * 1)
 stores_fits to n lt = rising_fits (λ k. pieces.store_code (byte_behind to k)) 1 n lt (λ k. record { ends = refl; some = omega arith; most = omega arith })

@@ -173,7 +173,7 @@ module _ (s : Site) (t : Machine) (wc : World Held) (f : ℕ) (pr : Option ℕ) 
           (λ k lt. shows Plus a k) o2)
       by Minus h fu i j o2 e a = some Minus (bytes_of ty * 1 + bytes_of ty * 2) (sizes.minus_fits to (bytes_of ty) (wide ty)) (let z : 0 < bytes_of ty = wide ty in omega arith) h fu i j o2 e a
       by Not h fu i j o2 e a = some Not (bytes_of ty * 1) (sizes.complement_fits to (bytes_of ty) (wide ty)) (let z : 0 < bytes_of ty = wide ty in omega arith) h fu i j o2 e a
-      by Bang h fu i j o2 e a = some Bang (bytes_of ty + 7) (sizes.bang_fits to (bytes_of ty)) (omega arith) h fu i j o2 e a
+      by Bang h fu i j o2 e a = some Bang (bytes_of ty + 8) (sizes.bang_fits to (bytes_of ty)) (omega arith) h fu i j o2 e a
 
   pub unary_go : (op : UnOp) (ty : IntTy) (to : Byte) (n : ℕ) (x v : Value) → Has (block s f) n (unary_code op ty to) → fits_unary op ty ≡ true → is_own s.q f to (bytes_of ty) ≡ true → value_in ty cm to ≡ Some x → unary_value op x ≡ Some v → is_own s.q f to (byte_count v) ≡ true
       → Arrives s wc.inside (is_live f pr (below st)) f ps n r m (n + length (unary_code op ty to)) (with_bytes cm to (byte_count v) (byte_of v)) (unary_cost op (bytes_of ty))
