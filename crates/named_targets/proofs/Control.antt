@@ -155,9 +155,9 @@ module _ (target : Target → Option ℕ) where
 
   write_have : (at register bit : ℕ) (from : Byte) → Stand (bit_write_code at register bit from) → Have (bit_write_code at register bit from)
   write_have at register bit from s =
-      let first : Found (first_label at) = s.1.1.1.1.0 in
-      let second : Found (second_label at) = s.1.1.1.1.1.1.0 in
-      (tt, (first, (tt, (second, (tt, (tt, (tt, tt)))))))
+      let clear : Found (second_label at) = s.1.1.1.1.0 in
+      let end : Found (first_label at) = s.1.1.1.1.1.1.0 in
+      (tt, (clear, (tt, (end, (tt, (tt, (tt, tt)))))))
 
   cut_have : (b : Bool) (xs : List Sym) → Have xs → Have (cond b [] xs)
   cut_have true xs h = tt

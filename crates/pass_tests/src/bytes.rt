@@ -112,12 +112,12 @@ fn a_bit_is_written_by_one_of_two_instructions(rt: HostRuntime) -> Result<(), Fa
             file: Operand::Byte(FIRST),
             bit: 0,
         },
-        goto(0),
-        bit_of_port(BitOperation::Bsf),
         goto(1),
-        mark(0),
-        bit_of_port(BitOperation::Bcf),
+        bit_of_port(BitOperation::Bsf),
+        goto(0),
         mark(1),
+        bit_of_port(BitOperation::Bcf),
+        mark(0),
     ];
     assert!(rt; has_code(alloc, &write, &wanted)?);
     Ok(())

@@ -279,8 +279,7 @@ module _ (s : Site) (t : Machine) (wc : World Held) (calm : Calm s wc) (f : ℕ)
   jump_left : (n j : ℕ) (k : ℕ) (r : Registers) (c : List Task) → Fits r → Has (block s f) n (goto_code (Inner k)) → label_from (block s f) (Inner k) 0 ≡ Some j → slice_get (block s f) j ≡ Some (syms.Label (Inner k)) → Left s f loops (suc j) c
       → Went s (at s t (thread s f n ps r) m wc) (machine f pr c st cm wc) 0 (s.price (names.Copy f) n + 0)
   jump_left n j k r c fits h e l left =
-      weaken s (at s t (thread s f n ps r) m wc) (machine f pr c st cm wc) 1 (s.price (names.Copy f) n + 0) 0 (s.price (names.Copy f) n + 0) (omega arith) (omega arith)
-      (jump s t wc calm f ps user n r m k j (machine f pr c st cm wc) 0 0 h.0 e l (past s t wc calm f ps j r m k (machine f pr c st cm wc) 0 0 l (left_goes (suc j) r c fits left)))
+      jump s t wc calm f ps user n r m k j (machine f pr c st cm wc) 0 0 h.0 e l (past s t wc calm f ps j r m k (machine f pr c st cm wc) 0 0 l (left_goes (suc j) r c fits left))
 
   -- a part that is but a jump, which stands behind the skip
   only_jump : (to : Label) (x : Tree) (g h : ℕ) (r : Registers) (c : List Task) → Fits r → sets_bytes x ≡ true → jump_target loops x ≡ Some to → Has (block s f) g (goto_code to) → h ≡ suc g → Left s f loops h c
@@ -359,6 +358,6 @@ module _ (s : Site) (t : Machine) (wc : World Held) (calm : Calm s wc) (f : ℕ)
           subst (λ (p : Position). Went s (at s t (record { rest = None; at = Some p; stack = ps; registers = r }) m wc) (machine f pr c st cm wc) 0 4) (sym e)
           (weaken s (at s t (thread s f l.0 ps r) m wc) (machine f pr c st cm wc) 0 0 0 4 (omega arith) (omega arith) (left_goes l.0 r c fits l.2))
       go (inr x) =
-          weaken s (at s t (thread s f n ps r) m wc) (machine f pr c st cm wc) 1 (s.price (names.Copy f) n + 0) 0 4 (omega arith) (jump_dear n 4 (Inner x.0) (x.2, tt) (omega arith))
+          weaken s (at s t (thread s f n ps r) m wc) (machine f pr c st cm wc) 0 (s.price (names.Copy f) n + 0) 0 4 (omega arith) (jump_dear n 4 (Inner x.0) (x.2, tt) (omega arith))
           (jump s t wc calm f ps user n r m x.0 x.1 (machine f pr c st cm wc) 0 0 x.2 x.3 x.4
           (subst (λ (p : Position). Went s (at s t (record { rest = None; at = Some p; stack = ps; registers = r }) m wc) (machine f pr c st cm wc) 0 0) (sym x.5) (left_goes l.0 r c fits l.2)))
