@@ -184,10 +184,13 @@ fn condition(alloc: Global, test: Byte, yes: Core, no: Core) -> Result<Core, All
 
 // `while (1) { if (first) continue; if (!second) port = 3; if (second) port = 4; if (first) break; }`
 fn one_sided_conditions(alloc: Global) -> Result<Core, AllocError> {
+    let mut alone = Vec::new(alloc);
+    alone.push(Core::Again(0))?;
+    let again = Core::Many(alone);
     let three = Core::Set { to: PORT, value: 3 };
     let four = Core::Set { to: PORT, value: 4 };
     let mut parts = Vec::new(alloc);
-    parts.push(condition(alloc, FIRST, Core::Again(0), nothing(alloc))?)?;
+    parts.push(condition(alloc, FIRST, again, nothing(alloc))?)?;
     parts.push(condition(alloc, SECOND, nothing(alloc), three)?)?;
     parts.push(condition(alloc, SECOND, four, nothing(alloc))?)?;
     parts.push(condition(alloc, FIRST, Core::Exit(0), nothing(alloc))?)?;
