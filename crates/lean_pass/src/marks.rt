@@ -6,7 +6,7 @@ ghost use Rattle.sym_code.specs.Marks as stated;
 ghost use Rattle.lean_pass.specs.Views.{variables_of};
 
 use core_code::Byte;
-use sym_code::{BitOperation, Operand, PlainOperation, Register, Sym};
+use sym_code::{BitOperation, Label, Operand, PlainOperation, Register, Sym, Target};
 
 // How many bytes the variables of a copy have.
 fn variable_bytes(variables: &[u64], copy: u16) -> u64
@@ -83,6 +83,20 @@ fn is_marked_plain(op: PlainOperation) -> bool
     }
 }
 
+// The labels at the ends of loops and choices have odd numbers, and no jump to there is a step by itself.
+fn is_marked_target(target: Target) -> bool
+    ensures { result ≡ stated.is_marked_target target }
+{
+    match target {
+        Target::Label(label) => match label {
+            Label::Inner(number) => number % 2 == 0,
+            Label::Halt => true,
+            Label::Restore => true,
+        },
+        Target::Block(_) => true,
+    }
+}
+
 /// Whether an instruction counts. Given is how many bytes the variables of each copy have.
 pub fn is_marked(variables: &[u64], sym: Sym) -> bool
     ensures { result ≡ stated.is_marked (variables_of variables.now) sym }
@@ -92,7 +106,7 @@ pub fn is_marked(variables: &[u64], sym: Sym) -> bool
         Sym::Movwf(file) => is_marked_operand(variables, file),
         Sym::Clrf(file) => is_marked_operand(variables, file),
         Sym::Bit { op, file, bit } => is_marked_bit(variables, op, file, bit),
-        Sym::Goto(_) => true,
+        Sym::Goto(target) => is_marked_target(target),
         Sym::Call(_) => true,
         Sym::Plain(op) => is_marked_plain(op),
         Sym::Literal { .. } => false,

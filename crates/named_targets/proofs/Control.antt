@@ -5,7 +5,7 @@ use Rattle.core_code.specs.Tree as code
 use Rattle.core_code.specs.Tree.{Tree, Trees, list_of, trees_of}
 use Rattle.core_code.specs.declared.code.Byte.{Byte}
 use Rattle.select_code.specs.Pieces.{first_label, second_label, label_code, goto_code, jump_code, unless_code, test_code, set_code, bit_write_code}
-use Rattle.select_code.specs.Selected.{Given, IfForm, Jumps, Leaps, Half, Other, Whole, leave_code, goes_to, jump_target, short_jump, is_nothing, form_by, if_form, if_code, turned, loop_code, short_turn, code_of, first_code, parts_code, body_code}
+use Rattle.select_code.specs.Selected.{Given, IfForm, Jumps, Leaps, Half, Other, Whole, leave_code, goes_to, jump_target, only_of, short_jump, is_nothing, form_by, if_form, if_code, turned, loop_code, short_turn, code_of, first_code, parts_code, body_code}
 use Rattle.select_code.specs.Sized.{is_cut}
 use Rattle.select_code.specs.declared.control.Ending.{Ending}
 use Rattle.sym_code.specs.declared.code.BlockName.TheVariants as names
@@ -92,7 +92,7 @@ module _ (target : Target → Option ℕ) where
   if_found : (loops : List ℕ) (holds fails : Tree) → LoopsFound loops → FormFound (if_form loops holds fails)
   if_found loops holds fails h =
       form_found (short_jump loops holds fails) (short_jump loops fails holds) (is_nothing fails) (is_nothing holds)
-      (short_found (is_nothing holds) (jump_target loops fails) (jump_found loops fails h)) (short_found (is_nothing fails) (jump_target loops holds) (jump_found loops holds h))
+      (short_found (is_nothing holds) (jump_target loops (only_of fails)) (jump_found loops (only_of fails) h)) (short_found (is_nothing fails) (jump_target loops (only_of holds)) (jump_found loops (only_of holds) h))
 
   jump_have : (label : Label) → Found label → Have (jump_code label)
   jump_have label h = (tt, (h, tt))
@@ -155,9 +155,9 @@ module _ (target : Target → Option ℕ) where
 
   write_have : (at register bit : ℕ) (from : Byte) → Stand (bit_write_code at register bit from) → Have (bit_write_code at register bit from)
   write_have at register bit from s =
-      let first : Found (first_label at) = s.1.1.1.1.0 in
-      let second : Found (second_label at) = s.1.1.1.1.1.1.0 in
-      (tt, (first, (tt, (second, (tt, (tt, (tt, tt)))))))
+      let clear : Found (second_label at) = s.1.1.1.1.0 in
+      let end : Found (first_label at) = s.1.1.1.1.1.1.0 in
+      (tt, (clear, (tt, (end, (tt, (tt, (tt, tt)))))))
 
   cut_have : (b : Bool) (xs : List Sym) → Have xs → Have (cond b [] xs)
   cut_have true xs h = tt

@@ -112,12 +112,12 @@ fn a_bit_is_written_by_one_of_two_instructions(rt: HostRuntime) -> Result<(), Fa
             file: Operand::Byte(FIRST),
             bit: 0,
         },
-        goto(0),
-        bit_of_port(BitOperation::Bsf),
         goto(1),
-        mark(0),
-        bit_of_port(BitOperation::Bcf),
+        bit_of_port(BitOperation::Bsf),
+        goto(0),
         mark(1),
+        bit_of_port(BitOperation::Bcf),
+        mark(0),
     ];
     assert!(rt; has_code(alloc, &write, &wanted)?);
     Ok(())
@@ -184,10 +184,13 @@ fn condition(alloc: Global, test: Byte, yes: Core, no: Core) -> Result<Core, All
 
 // `while (1) { if (first) continue; if (!second) port = 3; if (second) port = 4; if (first) break; }`
 fn one_sided_conditions(alloc: Global) -> Result<Core, AllocError> {
+    let mut alone = Vec::new(alloc);
+    alone.push(Core::Again(0))?;
+    let again = Core::Many(alone);
     let three = Core::Set { to: PORT, value: 3 };
     let four = Core::Set { to: PORT, value: 4 };
     let mut parts = Vec::new(alloc);
-    parts.push(condition(alloc, FIRST, Core::Again(0), nothing(alloc))?)?;
+    parts.push(condition(alloc, FIRST, again, nothing(alloc))?)?;
     parts.push(condition(alloc, SECOND, nothing(alloc), three)?)?;
     parts.push(condition(alloc, SECOND, four, nothing(alloc))?)?;
     parts.push(condition(alloc, FIRST, Core::Exit(0), nothing(alloc))?)?;

@@ -182,7 +182,7 @@ fn statics_are_written_each_time(rt: HostRuntime) -> Result<(), AllocError> {
     Ok(())
 }
 
-// Nor is a local variable's access left out, or a jump; a temporary byte's is, and all to which nothing comes.
+// Nor is a local variable's access left out, or a jump to a label with an even number; a temporary byte's is, and all to which nothing comes.
 #[test]
 fn what_counts_stays(rt: HostRuntime) -> Result<(), AllocError> {
     let given = [

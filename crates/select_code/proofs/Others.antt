@@ -8,7 +8,7 @@ use Rattle.core_code.specs.declared.code.Core.TheViews.{out-Core, roll-Core, rol
 use Rattle.core_code.specs.declared.code.Core.TheFolds.{map-Core, fold_out-Core}
 use Rattle.core_code.specs.Tree.{Tree}
 use Rattle.core_code.specs.View.{tree_step, tree_of}
-use Rattle.select_code.specs.Selected.{is_exit, is_nothing, jump_target, short_turn, Given, single_code, code_of}
+use Rattle.select_code.specs.Selected.{is_exit, is_nothing, only_of, jump_target, short_turn, Given, single_code, code_of}
 use Rattle.select_code.specs.declared.control.Ending.{Ending}
 
 abbrev seen : Core-F Core → Tree
@@ -134,3 +134,26 @@ no_control w e loops at before c h k m =
     ap (single_code w e loops at before) (sym (layer c))
     ∙ single_layer w e loops at before (out-Core c) (λ v q. h v (again c (Open.Many v) (Core.Many v) (Core.rolls-Many v) q)) (λ t s y n q. k t s y n (again c (Open.If t s y n) (Core.If t s y n) (Core.rolls-If t s y n) q)) (λ b q. m b (again c (Open.Loop b) (Core.Loop b) (Core.rolls-Loop b) q))
     ∙ ap (code_of w e loops at before) (layer c)
+
+only_layer : (l : Core-F Core) → ((parts : _) → l ≡ Open.Many parts → ⊥) → seen l ≡ only_of (seen l)
+only_layer (Open.Set to value) _ = refl
+only_layer (Open.Address to place) _ = refl
+only_layer (Open.Copy to from) _ = refl
+only_layer (Open.Load to pointer count) _ = refl
+only_layer (Open.Store pointer from count) _ = refl
+only_layer (Open.Unary op ty place) _ = refl
+only_layer (Open.Binary op ty to left right) _ = refl
+only_layer (Open.Convert from to place) _ = refl
+only_layer (Open.BitRead to register bit) _ = refl
+only_layer (Open.BitWrite register bit from) _ = refl
+only_layer (Open.Call copy) _ = refl
+only_layer Open.Leave _ = refl
+only_layer (Open.Many parts) h = absurd (h parts refl)
+only_layer (Open.If test size holds fails) _ = refl
+only_layer (Open.Loop body) _ = refl
+only_layer (Open.Exit count) _ = refl
+only_layer (Open.Again count) _ = refl
+
+-- what is no list
+pub no_single : (c : Core) → ((v : _) → c ≡ Core.Many v → ⊥) → tree_of c ≡ only_of (tree_of c)
+no_single c h = sym (layer c) ∙ only_layer (out-Core c) (λ v e. h v (again c (Open.Many v) (Core.Many v) (Core.rolls-Many v) e)) ∙ ap only_of (layer c)

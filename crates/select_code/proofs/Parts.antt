@@ -4,10 +4,10 @@ use Rattle.std.proofs.lemmas.List.{take_more, get_or-reverse, length-reverse, re
 use Rattle.std.proofs.lemmas.Option.{slice_get-get_or, slice_get_past}
 use Rattle.std.proofs.lemmas.Bool.{ne_eqb}
 use Rattle.core_code.specs.declared.code.Core.{Core}
-use Rattle.core_code.specs.Tree.{trees_of}
+use Rattle.core_code.specs.Tree.{Many, trees_of}
 use Rattle.core_code.specs.View.{tree_of, trees_in}
 use Rattle.select_code.specs.Sized.{is_byte_sized, are_byte_sized}
-use Rattle.select_code.specs.Selected.{is_none, is_exit, short_list}
+use Rattle.select_code.specs.Selected.{is_none, is_exit, jump_target, only_of, short_list}
 
 both_left : (a b c : _) → (a && (b && c)) ≡ ((a && b) && c)
 both_left true b c = refl
@@ -29,6 +29,17 @@ sized_taken n xs i x lt is = ap (λ l. are_byte_sized n (trees_of (trees_in l)))
 pub none_of : (xs : List Core) (n : ℕ) → n ≡ length xs → (n == 0) ≡ is_none (trees_of (trees_in xs))
 none_of [] n e = rw e refl
 none_of (x ∷ xs) n e = ne_eqb n 0 (λ z. omega (arith, e, z))
+
+-- one part, and any other number of parts
+pub one_of : (xs : List Core) (x : Core) → length xs ≡ 1 → x ≡ get_or xs 0 x → tree_of x ≡ only_of (Many (trees_of (trees_in xs)))
+one_of [] x e is = absurd (omega (arith, e))
+one_of (y ∷ []) x e is = ap tree_of is
+one_of (y ∷ z ∷ xs) x e is = absurd (omega (arith, e))
+
+pub not_one : (loops : List ℕ) (xs : List Core) → (length xs ≡ 1 → ⊥) → None ≡ jump_target loops (only_of (Many (trees_of (trees_in xs))))
+not_one loops [] h = refl
+not_one loops (y ∷ []) h = absurd (h refl)
+not_one loops (y ∷ z ∷ xs) h = refl
 
 -- counted from the back
 pub from_back : (xs : List ℕ) (k x : ℕ) → k < length xs → x ≡ get_or xs (length xs - 1 - k) x → Some x ≡ slice_get (reverse xs) k

@@ -101,4 +101,4 @@ bit_read_code to register bit = number_code 0 ++ bit_code Btfsc (Device register
 
 -- one of two instructions runs, by the lowest bit of the byte
 abbrev pub bit_write_code : ℕ → ℕ → ℕ → Byte → List Sym
-bit_write_code at register bit from = bit_code Btfss from 0 ++ goto_code (first_label at) ++ bit_code Bsf (Device register) (bit % 8) ++ goto_code (second_label at) ++ label_code (first_label at) ++ bit_code Bcf (Device register) (bit % 8) ++ label_code (second_label at)
+bit_write_code at register bit from = bit_code Btfss from 0 ++ goto_code (second_label at) ++ bit_code Bsf (Device register) (bit % 8) ++ goto_code (first_label at) ++ label_code (second_label at) ++ bit_code Bcf (Device register) (bit % 8) ++ label_code (first_label at)

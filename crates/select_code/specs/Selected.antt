@@ -45,9 +45,14 @@ abbrev pub is_nothing : Tree → Bool
 is_nothing (Many parts) = is_none parts
 is_nothing _ = false
 
+-- the one operation of a list that has no other, and any other operation itself
+abbrev pub only_of : Tree → Tree
+only_of (Many (AndTree part NoTree)) = part
+only_of tree = tree
+
 -- where a condition goes to that is but a jump: the part with nothing to do, and the other one
 abbrev pub short_jump : List ℕ → Tree → Tree → Option Label
-short_jump loops nothing other = cond (is_nothing nothing) (jump_target loops other) None
+short_jump loops nothing other = cond (is_nothing nothing) (jump_target loops (only_of other)) None
 
 -- leaves the innermost loop
 abbrev pub is_exit : Tree → Bool

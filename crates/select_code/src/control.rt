@@ -5,7 +5,7 @@ ghost use Rattle.core_code.specs.Tree.{Tree, trees_of};
 ghost use Rattle.core_code.specs.View.{tree_of, trees_in};
 ghost use Rattle.sym_code.specs.declared.code.Sym.{Sym};
 ghost use Rattle.select_code.specs.Pieces.{first_label};
-ghost use Rattle.select_code.specs.Selected.{leave_code, call_code, jump_target, goes_to, is_nothing, short_jump, is_exit, short_list, single_code, code_of, parts_code, loop_code, turn_code, body_code, ending_of, byte_code};
+ghost use Rattle.select_code.specs.Selected.{leave_code, call_code, jump_target, goes_to, is_nothing, only_of, short_jump, is_exit, short_list, single_code, code_of, parts_code, loop_code, turn_code, body_code, ending_of, byte_code};
 ghost use Rattle.select_code.specs.Sized.{is_byte_sized};
 
 use crate::loops::Loops;
@@ -87,6 +87,22 @@ fn jump_of(c: &Core, loops: &Loops) -> Option<Label>
     }
 }
 
+// The same, where the operation may be the only one of a list.
+fn lone_jump(c: &Core, loops: &Loops) -> Option<Label>
+    ensures { result ≡ jump_target (reverse loops.now.starts.items) (only_of (tree_of c.now)) }
+{
+    match c {
+        Core::Many(parts) => {
+            if parts.len() == 1 {
+                jump_of(&parts[0], loops)
+            } else {
+                None
+            }
+        }
+        _ => jump_of(c, loops),
+    }
+}
+
 #[tactic(auto, using(core_code::proofs::Views::tree_set, core_code::proofs::Views::tree_address, core_code::proofs::Views::tree_copy, core_code::proofs::Views::tree_load, core_code::proofs::Views::tree_store, core_code::proofs::Views::tree_unary, core_code::proofs::Views::tree_binary, core_code::proofs::Views::tree_convert, core_code::proofs::Views::tree_bit_read, core_code::proofs::Views::tree_bit_write, core_code::proofs::Views::tree_call, core_code::proofs::Views::tree_leave, core_code::proofs::Views::tree_many, core_code::proofs::Views::tree_if, core_code::proofs::Views::tree_loop, core_code::proofs::Views::tree_exit, core_code::proofs::Views::tree_again))]
 fn is_empty(c: &Core) -> bool
     ensures { result ≡ is_nothing (tree_of c.now) }
@@ -130,7 +146,7 @@ fn short_jump(empty: &Core, other: &Core, loops: &Loops) -> Option<Label>
     ensures { result ≡ short_jump (reverse loops.now.starts.items) (tree_of empty.now) (tree_of other.now) }
 {
     if is_empty(empty) {
-        jump_of(other, loops)
+        lone_jump(other, loops)
     } else {
         None
     }

@@ -254,8 +254,8 @@ pub(crate) fn put_bit_write(
     ensures name { out.new.name ≡ out.old.name }
 {
     let at = out.list.len();
-    let clear = make_first_label(at);
-    let end = make_second_label(at);
+    let clear = make_second_label(at);
+    let end = make_first_label(at);
     out.put(Sym::Bit {
         op: BitOperation::Btfss,
         file: Operand::Byte(from),

@@ -203,25 +203,25 @@ module _ (s : Site) (t : Machine) (wc : World Held) (calm : Calm s wc) (f : ℕ)
       v : ℕ
       v = device_value s.o a wc
 
-      labels : (label_from (block s f) (first_label n) 0 ≡ Some (suc (suc (suc (suc n))))) × (label_from (block s f) (second_label n) 0 ≡ Some (suc (suc (suc (suc (suc (suc n)))))))
+      labels : (label_from (block s f) (second_label n) 0 ≡ Some (suc (suc (suc (suc n))))) × (label_from (block s f) (first_label n) 0 ≡ Some (suc (suc (suc (suc (suc (suc n)))))))
       labels =
           let b0 = syms.Bit Btfss (operands.Byte from) 0 in
-          let g1 = syms.Goto (targets.Label (first_label n)) in
+          let g1 = syms.Goto (targets.Label (second_label n)) in
           let s2 = syms.Bit Bsf (operands.Byte (Device a)) (number % 8) in
-          let g3 = syms.Goto (targets.Label (second_label n)) in
-          let l4 = syms.Label (first_label n) in
+          let g3 = syms.Goto (targets.Label (first_label n)) in
+          let l4 = syms.Label (second_label n) in
           let c5 = syms.Bit Bcf (operands.Byte (Device a)) (number % 8) in
           let bs = bounds s f the_user in
           let e4 : suc (suc (suc (suc n))) ≡ n + 4 = omega arith in
           let e6 : suc (suc (suc (suc (suc (suc n))))) ≡ n + 6 = omega arith in (
-            found_at (block s f) n (b0 ∷ g1 ∷ s2 ∷ g3 ∷ []) (2 * n) bs (omega arith) (refl, (refl, (refl, (refl, tt)))) (h.0, (h.1.0, (h.1.1.0, (h.1.1.1.0, tt)))) (subst (λ k. slice_get (block s f) k ≡ Some l4) e4 h.1.1.1.1.0) ∙ ap Some (omega arith),
-            found_at (block s f) n (b0 ∷ g1 ∷ s2 ∷ g3 ∷ l4 ∷ c5 ∷ []) (2 * n + 1) bs (omega arith) (refl, (refl, (refl, (refl, (differs (2 * n) (2 * n + 1) (λ e. omega arith), (refl, tt))))))
+            found_at (block s f) n (b0 ∷ g1 ∷ s2 ∷ g3 ∷ []) (2 * n + 1) bs (omega arith) (refl, (refl, (refl, (refl, tt)))) (h.0, (h.1.0, (h.1.1.0, (h.1.1.1.0, tt)))) (subst (λ k. slice_get (block s f) k ≡ Some l4) e4 h.1.1.1.1.0) ∙ ap Some (omega arith),
+            found_at (block s f) n (b0 ∷ g1 ∷ s2 ∷ g3 ∷ l4 ∷ c5 ∷ []) (2 * n) bs (omega arith) (refl, (refl, (refl, (refl, (differs (2 * n + 1) (2 * n) (λ e. omega arith), (refl, tt))))))
                 (h.0, (h.1.0, (h.1.1.0, (h.1.1.1.0, (h.1.1.1.1.0, (h.1.1.1.1.1.0, tt))))))
-                (subst (λ k. slice_get (block s f) k ≡ Some (syms.Label (second_label n))) e6 h.1.1.1.1.1.1.0) ∙ ap Some (omega arith),
+                (subst (λ k. slice_get (block s f) k ≡ Some (syms.Label (first_label n))) e6 h.1.1.1.1.1.1.0) ∙ ap Some (omega arith),
           )
 
       last : place s f (suc (suc (suc (suc (suc (suc n)))))) ≡ place s f (n + 7)
-      last = stand_label s.g.program (names.Copy f) (suc (suc (suc (suc (suc (suc n)))))) (second_label n) h.1.1.1.1.1.1.0 ∙ ap (place s f) (omega arith)
+      last = stand_label s.g.program (names.Copy f) (suc (suc (suc (suc (suc (suc n)))))) (first_label n) h.1.1.1.1.1.1.0 ∙ ap (place s f) (omega arith)
 
       by_held : (held : Held) → is_own s.q f from 1 ≡ true → Shown s held (m (slot (layout s) from)) → After s 1 13 (bit_write (record { program = s.q; outside = s.o }) a number held c f pr st cm wc) (at s t (thread s f n ps r) m wc)
       by_held Unset o sh = tt
@@ -234,9 +234,9 @@ module _ (s : Site) (t : Machine) (wc : World Held) (calm : Calm s wc) (f : ℕ)
           let nb : number % 8 ≡ number = omega arith in
           let k = slot (layout s) from in
           let low : bit (m k) 0 ≡ x % 2 = ap (λ z. bit z 0) sh ∙ half x in
-          let dr = dear s f the_user n 6 (syms.Bit Btfss (operands.Byte from) 0 ∷ syms.Goto (targets.Label (first_label n)) ∷ []) (h.0, (h.1.0, tt)) refl (let z = dear_three (syms.Bit Btfss (operands.Byte from) 0 ∷ syms.Goto (targets.Label (first_label n)) ∷ []) in omega (arith, z)) in
+          let dr = dear s f the_user n 6 (syms.Bit Btfss (operands.Byte from) 0 ∷ syms.Goto (targets.Label (second_label n)) ∷ []) (h.0, (h.1.0, tt)) refl (let z = dear_three (syms.Bit Btfss (operands.Byte from) 0 ∷ syms.Goto (targets.Label (second_label n)) ∷ []) in omega (arith, z)) in
           weaken s (at s t (thread s f n ps r) m wc) d 1 (s.price (names.Copy f) n + (s.price (names.Copy f) (suc n) + 3)) 1 13 (omega arith) (omega (arith, dr))
-          (skip s t wc calm f ps the_user n r m (syms.Bit Btfss (operands.Byte from) 0) (syms.Goto (targets.Label (first_label n))) (nat_eq (bit (m k) 0) 1) r d 1 (s.price (names.Copy f) (suc n) + 3) h.0 refl refl refl h.1.0 refl refl
+          (skip s t wc calm f ps the_user n r m (syms.Bit Btfss (operands.Byte from) 0) (syms.Goto (targets.Label (second_label n))) (nat_eq (bit (m k) 0) 1) r d 1 (s.price (names.Copy f) (suc n) + 3) h.0 refl refl refl h.1.0 refl refl
           (low_is n r from k (own_access s wc.inside false r f the_user fit.root from o))
           (chosen (nat_eq (bit (m k) 0) 1) x va n8 nb (ap (λ z. nat_eq z 1) low))))
         where
@@ -256,7 +256,7 @@ module _ (s : Site) (t : Machine) (wc : World Held) (calm : Calm s wc) (f : ℕ)
               subst (λ z. Went s (at s t (thread s f p2 ps r) m wc) (machine f pr (PutBack a z ∷ Join ∷ c) st cm (after_device_read Number s.o a wc)) 1 (s.price (names.Copy f) (suc n) + 3)) ev
               (weaken s (at s t (thread s f p2 ps r) m wc) w 1 (s.price (names.Copy f) p2 + 0) 1 (s.price (names.Copy f) (suc n) + 3) (omega arith) (omega (arith, dr))
               (change_goes Bsf (set_bit (number % 8)) a (number % 8) p2 r c fits va (inl (refl, refl)) h.1.1.0 sm
-              (n + 7, inr (2 * n + 1, suc (suc (suc (suc (suc (suc n))))), h.1.1.1.0, labels.1, h.1.1.1.1.1.1.0, last), l)))
+              (n + 7, inr (2 * n, suc (suc (suc (suc (suc (suc n))))), h.1.1.1.0, labels.1, h.1.1.1.1.1.1.0, last), l)))
           chosen false x va n8 nb e =
               let p1 = suc n in
               let p4 = suc (suc (suc (suc n))) in
@@ -268,9 +268,9 @@ module _ (s : Site) (t : Machine) (wc : World Held) (calm : Calm s wc) (f : ℕ)
               let dr = dear s f the_user p5 3 code (h.1.1.1.1.1.0, tt) refl (omega (arith, d3)) in
               let sm : clear_bit (number % 8) v < 256 = each_below clear_bit clear_below (number % 8) v (omega arith) (device_small s a wc fit.control) in
               subst (λ z. Went s (at s t (thread s f p1 ps r) m wc) (machine f pr (PutBack a z ∷ Join ∷ c) st cm (after_device_read Number s.o a wc)) 1 (s.price (names.Copy f) (suc n) + 3)) ev
-              (weaken s (at s t (thread s f p1 ps r) m wc) w 2 (s.price (names.Copy f) p1 + (s.price (names.Copy f) p5 + 0)) 1 (s.price (names.Copy f) (suc n) + 3) (omega arith) (omega (arith, dr))
-              (jump s t wc calm f ps the_user p1 r m (2 * n) p4 w 1 (s.price (names.Copy f) p5 + 0) h.1.0 labels.0 h.1.1.1.1.0
-              (past s t wc calm f ps p4 r m (2 * n) w 1 (s.price (names.Copy f) p5 + 0) h.1.1.1.1.0
+              (weaken s (at s t (thread s f p1 ps r) m wc) w 1 (s.price (names.Copy f) p1 + (s.price (names.Copy f) p5 + 0)) 1 (s.price (names.Copy f) (suc n) + 3) (omega arith) (omega (arith, dr))
+              (jump s t wc calm f ps the_user p1 r m (2 * n + 1) p4 w 1 (s.price (names.Copy f) p5 + 0) h.1.0 labels.0 h.1.1.1.1.0
+              (past s t wc calm f ps p4 r m (2 * n + 1) w 1 (s.price (names.Copy f) p5 + 0) h.1.1.1.1.0
               (change_goes Bcf (clear_bit (number % 8)) a (number % 8) p5 r c fits va (inr (refl, refl)) h.1.1.1.1.1.0 sm (n + 7, inl last, l)))))
 
   -- what is left of an instruction that has read the register

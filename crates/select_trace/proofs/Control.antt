@@ -23,7 +23,7 @@ use Rattle.sym_code.specs.declared.code.Sym.{Sym}
 use Rattle.sym_code.specs.declared.code.Sym.TheVariants as syms
 use Rattle.sym_code.specs.declared.code.Target.TheVariants as targets
 use Rattle.select_code.specs.Pieces.{test_code, first_label, second_label, goto_code}
-use Rattle.select_code.specs.Selected.{IfForm, Jumps, Leaps, Half, Other, Whole, form_by, if_form, if_code, short_jump, jump_target, goes_to, is_nothing, is_exit}
+use Rattle.select_code.specs.Selected.{IfForm, Jumps, Leaps, Half, Other, Whole, form_by, if_form, if_code, short_jump, only_of, jump_target, goes_to, is_nothing, is_exit}
 use Rattle.select_wide.specs.Links.{sets_bytes, all_set_bytes}
 use Rattle.select_trace.proofs.Truths.{and_left, and_right}
 use Rattle.select_trace.proofs.Standing.{Has, has_front, has_back, stand_label}
@@ -91,7 +91,16 @@ some_label : (a l : Label) → Some a ≡ Some l → a ≡ l
 some_label a l e = cc
 
 -- what is but a jump
-jump_is : (s : Site) (f : ℕ) (loops : List ℕ) (n : ℕ) (x : Tree) (to : Label) → jump_target loops x ≡ Some to → code s f loops n [] x ≡ goto_code to
+one_jump_is : (s : Site) (f : ℕ) (loops : List ℕ) (n : ℕ) (x : Tree) (to : Label) → jump_target loops x ≡ Some to → code s f loops n [] x ≡ goto_code to
+one_jump_is s f loops n (Exit k) to e = ap goes_to e
+one_jump_is s f loops n (Again k) to e = ap goes_to e
+one_jump_is s f loops n x to e = absurd (no_label to e)
+
+-- alone, or as the one operation of a list
+jump_is : (s : Site) (f : ℕ) (loops : List ℕ) (n : ℕ) (x : Tree) (to : Label) → jump_target loops (only_of x) ≡ Some to → code s f loops n [] x ≡ goto_code to
+jump_is s f loops n (Many (AndTree x NoTree)) to e = ap (λ y. y ++ []) (one_jump_is s f loops n x to e)
+jump_is s f loops n (Many NoTree) to e = absurd (no_label to e)
+jump_is s f loops n (Many (AndTree x (AndTree y ts))) to e = absurd (no_label to e)
 jump_is s f loops n (Exit k) to e = ap goes_to e
 jump_is s f loops n (Again k) to e = ap goes_to e
 jump_is s f loops n x to e = absurd (no_label to e)
@@ -279,11 +288,10 @@ module _ (s : Site) (t : Machine) (wc : World Held) (calm : Calm s wc) (f : ℕ)
   jump_left : (n j : ℕ) (k : ℕ) (r : Registers) (c : List Task) → Fits r → Has (block s f) n (goto_code (Inner k)) → label_from (block s f) (Inner k) 0 ≡ Some j → slice_get (block s f) j ≡ Some (syms.Label (Inner k)) → Left s f loops (suc j) c
       → Went s (at s t (thread s f n ps r) m wc) (machine f pr c st cm wc) 0 (s.price (names.Copy f) n + 0)
   jump_left n j k r c fits h e l left =
-      weaken s (at s t (thread s f n ps r) m wc) (machine f pr c st cm wc) 1 (s.price (names.Copy f) n + 0) 0 (s.price (names.Copy f) n + 0) (omega arith) (omega arith)
-      (jump s t wc calm f ps user n r m k j (machine f pr c st cm wc) 0 0 h.0 e l (past s t wc calm f ps j r m k (machine f pr c st cm wc) 0 0 l (left_goes (suc j) r c fits left)))
+      jump s t wc calm f ps user n r m k j (machine f pr c st cm wc) 0 0 h.0 e l (past s t wc calm f ps j r m k (machine f pr c st cm wc) 0 0 l (left_goes (suc j) r c fits left))
 
   -- a part that is but a jump, which stands behind the skip
-  only_jump : (to : Label) (x : Tree) (g h : ℕ) (r : Registers) (c : List Task) → Fits r → sets_bytes x ≡ true → jump_target loops x ≡ Some to → Has (block s f) g (goto_code to) → h ≡ suc g → Left s f loops h c
+  only_jump : (to : Label) (x : Tree) (g h : ℕ) (r : Registers) (c : List Task) → Fits r → sets_bytes x ≡ true → jump_target loops (only_of x) ≡ Some to → Has (block s f) g (goto_code to) → h ≡ suc g → Left s f loops h c
       → Went s (at s t (thread s f g ps r) m wc) (machine f pr (Do [] x ∷ Join ∷ c) st cm wc) 0 (s.price (names.Copy f) g + 0)
   only_jump to x g h r c fits sb q hg e last =
       let one : code s f loops g [] x ≡ goto_code to = jump_is s f loops g x to q in
@@ -339,15 +347,15 @@ module _ (s : Site) (t : Machine) (wc : World Held) (calm : Calm s wc) (f : ℕ)
       (λ r' fr g e hg. jump_left g j (2 * n + 1) r' (Do [] yea ∷ Join ∷ c) fr hg i.found_second i.end
       (nothing_left (suc j) yea c (form_other (short_jump loops yea nay) (short_jump loops nay yea) (is_nothing nay) (is_nothing yea) fq) last))
   if_goes (Jumps to) test size yea nay n r c fq fits by bn own h l =
-      let sh = short_is (is_nothing yea) (jump_target loops nay) to (form_jumps (short_jump loops yea nay) (short_jump loops nay yea) (is_nothing nay) (is_nothing yea) to fq) in
+      let sh = short_is (is_nothing yea) (jump_target loops (only_of nay)) to (form_jumps (short_jump loops yea nay) (short_jump loops nay yea) (is_nothing nay) (is_nothing yea) to fq) in
       let hh = n + length (head_code Btfsc (test_code test size) to) in
-      head_goes false test size to n r (choice test size yea nay c) (chosen_to yea nay c) (target_inner loops nay to sh.1) fits h own (made (truth_in cm test size) yea nay c) (λ e. ap (λ o. chosen o yea nay c f pr st cm wc) e)
+      head_goes false test size to n r (choice test size yea nay c) (chosen_to yea nay c) (target_inner loops (only_of nay) to sh.1) fits h own (made (truth_in cm test size) yea nay c) (λ e. ap (λ o. chosen o yea nay c f pr st cm wc) e)
       (λ r' fr. left_goes hh r' (Do [] yea ∷ Join ∷ c) fr (nothing_left hh yea c sh.0 l))
       (λ r' fr g e hg. only_jump to nay g hh r' c fr bn sh.1 hg e l)
   if_goes (Leaps to) test size yea nay n r c fq fits by bn own h l =
-      let sh = short_is (is_nothing nay) (jump_target loops yea) to (form_leaps (short_jump loops yea nay) (short_jump loops nay yea) (is_nothing nay) (is_nothing yea) to fq) in
+      let sh = short_is (is_nothing nay) (jump_target loops (only_of yea)) to (form_leaps (short_jump loops yea nay) (short_jump loops nay yea) (is_nothing nay) (is_nothing yea) to fq) in
       let hh = n + length (head_code Btfss (test_code test size) to) in
-      head_goes true test size to n r (choice test size yea nay c) (chosen_to yea nay c) (target_inner loops yea to sh.1) fits h own (made (truth_in cm test size) yea nay c) (λ e. ap (λ o. chosen o yea nay c f pr st cm wc) e)
+      head_goes true test size to n r (choice test size yea nay c) (chosen_to yea nay c) (target_inner loops (only_of yea) to sh.1) fits h own (made (truth_in cm test size) yea nay c) (λ e. ap (λ o. chosen o yea nay c f pr st cm wc) e)
       (λ r' fr. left_goes hh r' (Do [] nay ∷ Join ∷ c) fr (nothing_left hh nay c sh.0 l))
       (λ r' fr g e hg. only_jump to yea g hh r' c fr by sh.1 hg e l)
 
@@ -359,6 +367,6 @@ module _ (s : Site) (t : Machine) (wc : World Held) (calm : Calm s wc) (f : ℕ)
           subst (λ (p : Position). Went s (at s t (record { rest = None; at = Some p; stack = ps; registers = r }) m wc) (machine f pr c st cm wc) 0 4) (sym e)
           (weaken s (at s t (thread s f l.0 ps r) m wc) (machine f pr c st cm wc) 0 0 0 4 (omega arith) (omega arith) (left_goes l.0 r c fits l.2))
       go (inr x) =
-          weaken s (at s t (thread s f n ps r) m wc) (machine f pr c st cm wc) 1 (s.price (names.Copy f) n + 0) 0 4 (omega arith) (jump_dear n 4 (Inner x.0) (x.2, tt) (omega arith))
+          weaken s (at s t (thread s f n ps r) m wc) (machine f pr c st cm wc) 0 (s.price (names.Copy f) n + 0) 0 4 (omega arith) (jump_dear n 4 (Inner x.0) (x.2, tt) (omega arith))
           (jump s t wc calm f ps user n r m x.0 x.1 (machine f pr c st cm wc) 0 0 x.2 x.3 x.4
           (subst (λ (p : Position). Went s (at s t (record { rest = None; at = Some p; stack = ps; registers = r }) m wc) (machine f pr c st cm wc) 0 0) (sym x.5) (left_goes l.0 r c fits l.2)))

@@ -26,7 +26,7 @@ use Rattle.select_trace.proofs.Machines.{at, Calm}
 use Rattle.select_trace.proofs.Live.{IsUser, chain_user}
 use Rattle.select_trace.proofs.Blocks.{block, code, parts, wide, ending, free_at, bounds}
 use Rattle.select_trace.proofs.Relation.{Ends, Falls, FallsIn, Left, Went, weaken, After}
-use Rattle.select_trace.proofs.Steps.{thread, machine, Fit, dear, jump, past}
+use Rattle.select_trace.proofs.Steps.{thread, machine, Fit, dear, jump, jump_counted, past}
 use Rattle.select_trace.proofs.Control.{left_to, left_goes, exit_is}
 
 -- a turn of the loop that begins at l
@@ -143,7 +143,7 @@ module _ (s : Site) (t : Machine) (wc : World Held) (calm : Calm s wc) (ps : Lis
       let hl : Has (block s f) l (loop_code l (turn s f ls l body)) = fit.frames.1 in
       let d = machine f pr (Do [] body ∷ []) (InLoop body c ∷ st) cm wc in
       weaken s (at s t (thread s f n ps r) m wc) d 1 (s.price (names.Copy f) n + 0) 1 4 (omega arith) (dear s f u n 4 (goto_code (first_label l)) (h, tt) refl (omega arith))
-      (jump s t wc calm f ps u n r m (2 * l) l d 0 0 h (loop_top (block s f) l (turn s f ls l body) (bounds s f u) hl) hl.0
+      (jump_counted s t wc calm f ps u n r m (2 * l) l d 0 0 (omega arith) h (loop_top (block s f) l (turn s f ls l body) (bounds s f u) hl) hl.0
       (past s t wc calm f ps l r m (2 * l) d 0 0 hl.0
       (left_goes s t wc calm f pr (InLoop body c ∷ st) (l ∷ ls) ps cm m fit (suc l) r (Do [] body ∷ []) fits
       (left_to s f (l ∷ ls) (l + 1) (suc l) (Do [] body ∷ []) (omega arith) (turn_left s f u l ls body fit.frames.0 hl)))))
@@ -164,7 +164,7 @@ module _ (s : Site) (t : Machine) (wc : World Held) (calm : Calm s wc) (ps : Lis
       let hl : Has (block s f) l (loop_code l (turn s f ls l body)) = fit.frames.1 in
       let d = machine f pr c st cm wc in
       let tl = turn s f ls l body in
-      weaken s (at s t (thread s f n ps r) m wc) d 1 (s.price (names.Copy f) n + 0) 0 4 (omega arith) (dear s f u n 4 (goto_code (second_label l)) (h, tt) refl (omega arith))
+      weaken s (at s t (thread s f n ps r) m wc) d 0 (s.price (names.Copy f) n + 0) 0 4 (omega arith) (dear s f u n 4 (goto_code (second_label l)) (h, tt) refl (omega arith))
       (jump s t wc calm f ps u n r m (2 * l + 1) (suc l + length tl) d 0 0 h (behind_found s f u ls l body hl) (loop_last (block s f) l tl hl)
       (behind_goes body c st l ls r fits fit))
 

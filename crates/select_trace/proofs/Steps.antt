@@ -1,5 +1,5 @@
 -- Instructions one behind the other, each with its price.
-use Rattle.std.proofs.Common.{◌≡◌, ℕ, zero, suc, ◌+◌, ◌<◌, ◌≤◌, Bool, true, false, not, if◌then◌else◌, List, [], ◌∷◌, length, take, drop, Option, Some, None, option_map, slice_get, refl, sym, ap, ◌∙◌, subst, arith}
+use Rattle.std.proofs.Common.{◌≡◌, ℕ, zero, suc, ◌+◌, ◌%◌, ◌<◌, ◌≤◌, Bool, true, false, not, nat_eq, if◌then◌else◌, List, [], ◌∷◌, length, take, drop, Option, Some, None, option_map, slice_get, refl, sym, ap, ◌∙◌, subst, arith}
 use Rattle.pic_world.specs.World.{World}
 use Rattle.pic_world.proofs.WorldLaws.{arrived_as}
 use Rattle.core_code.specs.Bytes as bytes
@@ -242,11 +242,28 @@ module _ (s : Site) (t : Machine) (wc : World Held) (calm : Calm s wc) (f : ℕ)
       if_true (is_in_page s.g (position (names.Copy f) n) r (targets.Label (Inner k))) (goto s.g i (position (names.Copy f) n) (thread s f n ps r) (targets.Label (Inner k))) Stuck (or_left _ _ (ap not s.chosen.no_selects))
       ∙ ap (λ o. jump_to (thread s f n ps r) (option_map (λ z. stand s.g.program (position (names.Copy f) z)) o)) e
 
-  -- a jump to a label
-  pub jump : (u : IsUser s f) (n : ℕ) (r : Registers) (m : Memory) (k j : ℕ) (d : core.Machine) (lo hi : ℕ) → slice_get (block s f) n ≡ Some (syms.Goto (targets.Label (Inner k))) → label_from (block s f) (Inner k) 0 ≡ Some j → slice_get (block s f) j ≡ Some (syms.Label (Inner k))
-      → Went s (at s t (thread s f j ps r) m wc) d lo hi → Went s (at s t (thread s f n ps r) m wc) d (1 + lo) (s.price (names.Copy f) n + hi)
-  jump u n r m k j d lo hi h e l went =
+  -- what a jump to a label counts
+  abbrev of_jump : ℕ → ℕ
+  of_jump k = counted s (syms.Goto (targets.Label (Inner k)))
+
+  jump_priced : (u : IsUser s f) (n : ℕ) (r : Registers) (m : Memory) (k j : ℕ) (d : core.Machine) (lo hi : ℕ) → slice_get (block s f) n ≡ Some (syms.Goto (targets.Label (Inner k))) → label_from (block s f) (Inner k) 0 ≡ Some j → slice_get (block s f) j ≡ Some (syms.Label (Inner k))
+      → Went s (at s t (thread s f j ps r) m wc) d lo hi → Went s (at s t (thread s f n ps r) m wc) d (of_jump k + lo) (s.price (names.Copy f) n + hi)
+  jump_priced u n r m k j d lo hi h e l went =
       word_quiet u n r m (syms.Goto (targets.Label (Inner k))) (thread s f j ps r) None d lo hi h refl refl (goto_is wc.inside n r m k j e) (here_lands s f u j (syms.Label (Inner k)) l) went
+
+  -- a jump to a label, where it isn't asked whether it counts
+  pub jump : (u : IsUser s f) (n : ℕ) (r : Registers) (m : Memory) (k j : ℕ) (d : core.Machine) (lo hi : ℕ) → slice_get (block s f) n ≡ Some (syms.Goto (targets.Label (Inner k))) → label_from (block s f) (Inner k) 0 ≡ Some j → slice_get (block s f) j ≡ Some (syms.Label (Inner k))
+      → Went s (at s t (thread s f j ps r) m wc) d lo hi → Went s (at s t (thread s f n ps r) m wc) d lo (s.price (names.Copy f) n + hi)
+  jump u n r m k j d lo hi h e l went =
+      weaken s (at s t (thread s f n ps r) m wc) d (of_jump k + lo) (s.price (names.Copy f) n + hi) lo (s.price (names.Copy f) n + hi) (omega arith) (omega arith)
+      (jump_priced u n r m k j d lo hi h e l went)
+
+  -- one to a label with an even number counts
+  pub jump_counted : (u : IsUser s f) (n : ℕ) (r : Registers) (m : Memory) (k j : ℕ) (d : core.Machine) (lo hi : ℕ) → k % 2 ≡ 0 → slice_get (block s f) n ≡ Some (syms.Goto (targets.Label (Inner k))) → label_from (block s f) (Inner k) 0 ≡ Some j → slice_get (block s f) j ≡ Some (syms.Label (Inner k))
+      → Went s (at s t (thread s f j ps r) m wc) d lo hi → Went s (at s t (thread s f n ps r) m wc) d (1 + lo) (s.price (names.Copy f) n + hi)
+  jump_counted u n r m k j d lo hi even h e l went =
+      subst (λ c. Went s (at s t (thread s f n ps r) m wc) d (c + lo) (s.price (names.Copy f) n + hi)) (ap (λ z. one_if (nat_eq z 0)) even)
+      (jump_priced u n r m k j d lo hi h e l went)
 
   -- where a label stands the code goes on behind it
   pub past : (n : ℕ) (r : Registers) (m : Memory) (k : ℕ) (d : core.Machine) (lo hi : ℕ) → slice_get (block s f) n ≡ Some (syms.Label (Inner k))

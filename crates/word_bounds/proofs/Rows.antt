@@ -327,22 +327,22 @@ module _ (list : List FnCopy) (root : Root) (end : Ending) (c : ℕ) where
   write_pays register bit place from h =
       let on = bit_code Bsf (bytes.Device register) (bit % 8) in
       let off = bit_code Bcf (bytes.Device register) (bit % 8) in
-      let first = first_label place in
-      let last = second_label place in
+      let clear = second_label place in
+      let done = first_label place in
       let a = bit_most Bsf (bytes.Device register) (bit % 8) in
       let b = bit_most Bcf (bytes.Device register) (bit % 8) in
       pays_more c true false false false (1 + 3 + most_words on + 3 + 0 + most_words off + 0) 13 (bit_write_code place register bit from) (omega (arith, a, b))
-      (pays_on c true false false false false false (1 + 3 + most_words on + 3 + 0 + most_words off) 0 (bit_code Btfss from 0 ++ goto_code first ++ on ++ goto_code last ++ label_code first ++ off) (label_code last)
-      (pays_on c true false false false false false (1 + 3 + most_words on + 3 + 0) (most_words off) (bit_code Btfss from 0 ++ goto_code first ++ on ++ goto_code last ++ label_code first) off
-      (pays_on c true false false false false false (1 + 3 + most_words on + 3) 0 (bit_code Btfss from 0 ++ goto_code first ++ on ++ goto_code last) (label_code first)
-      (pays_on c true false false false false false (1 + 3 + most_words on) 3 (bit_code Btfss from 0 ++ goto_code first ++ on) (goto_code last)
-      (pays_on c true false false false false false (1 + 3) (most_words on) (bit_code Btfss from 0 ++ goto_code first) on
-      (pays_on c true false true true false false 1 3 (bit_code Btfss from 0) (goto_code first) (bit_held c Btfss from 0 false h) (goto_pays list root end c first true true))
+      (pays_on c true false false false false false (1 + 3 + most_words on + 3 + 0 + most_words off) 0 (bit_code Btfss from 0 ++ goto_code clear ++ on ++ goto_code done ++ label_code clear ++ off) (label_code done)
+      (pays_on c true false false false false false (1 + 3 + most_words on + 3 + 0) (most_words off) (bit_code Btfss from 0 ++ goto_code clear ++ on ++ goto_code done ++ label_code clear) off
+      (pays_on c true false false false false false (1 + 3 + most_words on + 3) 0 (bit_code Btfss from 0 ++ goto_code clear ++ on ++ goto_code done) (label_code clear)
+      (pays_on c true false false false false false (1 + 3 + most_words on) 3 (bit_code Btfss from 0 ++ goto_code clear ++ on) (goto_code done)
+      (pays_on c true false false false false false (1 + 3) (most_words on) (bit_code Btfss from 0 ++ goto_code clear) on
+      (pays_on c true false true true false false 1 3 (bit_code Btfss from 0) (goto_code clear) (bit_held c Btfss from 0 false h) (goto_pays list root end c clear true true))
       (pays_most c false false on refl))
-      (goto_pays list root end c last false false))
-      (label_pays list root end c first false))
+      (goto_pays list root end c done false false))
+      (label_pays list root end c clear false))
       (pays_most c false false off refl))
-      (label_pays list root end c last false))
+      (label_pays list root end c done false))
 
   bit_takes : (r : Root) (register bit : ℕ) (from : Byte) → IsMine c from → Takes list root end c 20 (bit_row r register bit from)
   bit_takes r register bit from h =
