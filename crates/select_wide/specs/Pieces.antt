@@ -8,7 +8,9 @@ use Rattle.sym_code.specs.declared.code.FileOperation.TheVariants.{Movf}
 use Rattle.sym_code.specs.declared.code.Into.{Into}
 use Rattle.sym_code.specs.declared.code.Into.TheVariants.{W}
 use Rattle.sym_code.specs.declared.code.Literal.{Literal}
+use Rattle.sym_code.specs.declared.code.Literal.TheVariants.{Number}
 use Rattle.sym_code.specs.declared.code.LiteralOperation.{LiteralOperation}
+use Rattle.sym_code.specs.declared.code.LiteralOperation.TheVariants.{Addlw}
 use Rattle.sym_code.specs.declared.code.Operand.TheVariants as operand
 use Rattle.sym_code.specs.declared.code.Register.{Register}
 use Rattle.sym_code.specs.declared.code.Sym.{Sym}
@@ -29,6 +31,10 @@ register_store_code register = sym.Movwf (operand.Register register) ∷ []
 
 abbrev pub literal_code : LiteralOperation → Literal → List Sym
 literal_code op value = sym.Literal op value ∷ []
+
+-- C becomes 1 where W isn't 0, and 0 where it is: W + 255 comes to 256 from 1 on
+abbrev pub nonzero_code : List Sym
+nonzero_code = literal_code Addlw (Number 255)
 
 -- the next instruction counts where the bit is 1
 abbrev pub if_bit_code : Byte → ℕ → List Sym

@@ -6,13 +6,13 @@ use Rattle.c_ints.specs.declared.types.IntTy.{IntTy}
 use Rattle.c_ints.specs.declared.types.IntTy.TheVariants as int
 use Rattle.c_ints.specs.Range.{bytes_of}
 use Rattle.core_code.specs.declared.code.Byte.{Byte}
-use Rattle.sym_code.specs.declared.code.BitOperation.TheVariants.{Btfsc}
+use Rattle.sym_code.specs.declared.code.BitOperation.TheVariants.{Btfsc, Btfss}
 use Rattle.sym_code.specs.declared.code.FileOperation.TheVariants.{Comf, Incf}
 use Rattle.sym_code.specs.declared.code.Into.TheVariants.{File}
 use Rattle.sym_code.specs.declared.code.Sym.{Sym}
-use Rattle.select_code.specs.declared.pieces.Flag.TheVariants.{Zero}
+use Rattle.select_code.specs.declared.pieces.Flag.TheVariants.{Carry, Zero}
 use Rattle.select_code.specs.Pieces.{byte_behind, file_code, flag_code, test_code}
-use Rattle.select_wide.specs.Pieces.{rising, choice_code, truth_code, sign_code}
+use Rattle.select_wide.specs.Pieces.{rising, nonzero_code, choice_code, truth_code, sign_code}
 use Rattle.select_wide.specs.Moves.{stores_code, clears_code}
 
 -- the types that have negative numbers; plain char has none
@@ -37,9 +37,9 @@ increment_byte_code at k = (if nat_eq k 0 then [] else flag_code Btfsc Zero) ++ 
 abbrev pub increment_code : Byte → ℕ → List Sym
 increment_code at width = rising (increment_byte_code at) width
 
--- two bytes become 1 where all bytes are 0, and 0 otherwise
+-- Two bytes become 1 where all bytes are 0, and 0 otherwise. The choice is by C, as Z isn't needed behind the test.
 abbrev pub bang_code : Byte → ℕ → List Sym
-bang_code at width = test_code at width ++ choice_code 0 Btfsc Zero 1 ++ truth_code at
+bang_code at width = test_code at width ++ nonzero_code ++ choice_code 0 Btfss Carry 1 ++ truth_code at
 
 abbrev pub unary_code : UnOp → IntTy → Byte → List Sym
 unary_code unop.Plus ty at = []

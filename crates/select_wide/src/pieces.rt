@@ -1,7 +1,7 @@
 //! Instructions by their form, put after a block, and the few that operations share.
 
 ghost use Rattle.std.specs.Prelude.{◌≡◌, ◌++◌, ◌<◌, OnOk};
-ghost use Rattle.select_wide.specs.Pieces.{register_code, register_store_code, literal_code, if_bit_code, pair_code, choice_code, truth_code, sign_code};
+ghost use Rattle.select_wide.specs.Pieces.{register_code, register_store_code, literal_code, nonzero_code, if_bit_code, pair_code, choice_code, truth_code, sign_code};
 
 use core_code::Byte;
 use select_code::{Flag, behind, put_file, put_flag, put_number, put_set, put_store};
@@ -45,6 +45,14 @@ pub fn put_literal(
     ensures name { out.new.name ≡ out.old.name }
 {
     out.put(Sym::Literal { op, value })
+}
+
+/// C becomes 1 where W isn't 0, and 0 where it is: W + 255 comes to 256 from 1 on.
+pub fn put_nonzero(out: &mut SymBlock) -> Result<(), AllocError>
+    ensures put { OnOk result (out.new.list.items ≡ out.old.list.items ++ nonzero_code) }
+    ensures name { out.new.name ≡ out.old.name }
+{
+    put_literal(LiteralOperation::Addlw, Literal::Number(255), out)
 }
 
 /// The next instruction counts where the bit of the byte is 1.

@@ -4,7 +4,7 @@ ghost use Rattle.std.specs.Prelude.{◌≡◌, ◌++◌, OnOk};
 ghost use Rattle.select_wide.specs.Single.{is_signed, complement_code, increment_byte_code, increment_code, bang_code, unary_code, widening_code};
 
 use crate::moves::{put_clears, put_stores};
-use crate::pieces::{put_choice, put_sign, put_truth};
+use crate::pieces::{put_choice, put_nonzero, put_sign, put_truth};
 use c_ints::{IntTy, UnOp, size};
 use core_code::Byte;
 use select_code::{Flag, behind, put_file, put_flag, put_test};
@@ -52,13 +52,14 @@ fn put_increment(at: Byte, width: u8, out: &mut SymBlock) -> Result<(), AllocErr
     Ok(())
 }
 
-// Two bytes become 1 where all bytes are 0, and 0 otherwise.
+// Two bytes become 1 where all bytes are 0, and 0 otherwise. The choice is by C, as Z isn't needed behind the test.
 fn put_bang(at: Byte, width: u8, out: &mut SymBlock) -> Result<(), AllocError>
     ensures put { OnOk result (out.new.list.items ≡ out.old.list.items ++ bang_code at width) }
     ensures name { out.new.name ≡ out.old.name }
 {
     put_test(at, width, out)?;
-    put_choice(0, BitOperation::Btfsc, Flag::Zero, 1, out)?;
+    put_nonzero(out)?;
+    put_choice(0, BitOperation::Btfss, Flag::Carry, 1, out)?;
     put_truth(at, out)
 }
 
