@@ -5,7 +5,7 @@ use Rattle.c_ints.specs.declared.operators.BinOp.TheVariants as binop
 use Rattle.c_ints.specs.declared.operators.UnOp.{UnOp}
 use Rattle.c_ints.specs.declared.operators.UnOp.TheVariants as unop
 use Rattle.c_ints.specs.declared.types.IntTy.{IntTy}
-use Rattle.c_ints.specs.declared.types.IntTy.TheVariants.{UChar, UInt}
+use Rattle.c_ints.specs.declared.types.IntTy.TheVariants.{UChar, UInt, ULong}
 use Rattle.c_ints.specs.declared.types.IntTy.TheVariants as intty
 use Rattle.c_typed.specs.declared.expression.LogicalOp.{LogicalOp}
 use Rattle.c_typed.specs.declared.expression.LogicalOp.TheVariants as logical
@@ -45,11 +45,16 @@ widened from to at = widened_number (number_type from) (number_type to) at
 abbrev pub tested : Byte → ℕ → ℕ → ℕ → Tree
 tested at size held failed = choice at size (sets at held 2) (sets at failed 2)
 
+-- the unsigned type of as many bytes as a value has
+abbrev pub type_of_size : ℕ → IntTy
+type_of_size size = if nat_lt size 2 then UChar else if nat_lt size 4 then UInt else ULong
+
+-- `!` asks only whether a byte isn't 0, so it takes the bytes for an unsigned number, those of a pointer too.
 abbrev pub unary_row : UnOp → IntTy → Byte → ℕ → List Tree
 unary_row unop.Plus ty at size = []
 unary_row unop.Minus ty at size = code.Unary unop.Minus ty at ∷ []
 unary_row unop.Not ty at size = code.Unary unop.Not ty at ∷ []
-unary_row unop.Bang ty at size = tested at size 0 1 ∷ []
+unary_row unop.Bang ty at size = code.Unary unop.Bang (type_of_size size) at ∷ []
 
 -- `&&` and `||`: the code of the right operand runs only where the left one doesn't decide.
 abbrev pub logical_row : LogicalOp → Byte → ℕ → List Tree → Tree

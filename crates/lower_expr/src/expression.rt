@@ -232,14 +232,7 @@ pub(crate) fn expression(
         } => {
             expression(alloc, operand, copy, base, true, places, out)?;
             let size = bytes_of_value(places, operand);
-            put_unary_of(
-                alloc,
-                out,
-                *op,
-                operation_type(*ty),
-                frame_byte(copy, base),
-                size,
-            )
+            put_unary_of(out, *op, operation_type(*ty), frame_byte(copy, base), size)
         }
         TExpr::Binary {
             op,

@@ -66,11 +66,23 @@ pub(crate) fn put_tested(
     put_if(alloc, out, at, size, holds, fails)
 }
 
+/// The unsigned type of as many bytes as a value has.
+fn type_of_size(size: u16) -> IntTy
+    ensures { result ≡ row.type_of_size size }
+{
+    if size < 2 {
+        IntTy::UChar
+    } else if size < 4 {
+        IntTy::UInt
+    } else {
+        IntTy::ULong
+    }
+}
+
 /// A unary operator on the value of so many bytes at `at`, whose type is that of the operation.
 #[inline(never)]
 #[tactic(auto, using(crate::proofs::Numbers::append_nothing))]
 pub(crate) fn put_unary_of(
-    alloc: Global,
     out: &mut Vec<Core>,
     op: UnOp,
     ty: IntTy,
@@ -82,7 +94,7 @@ pub(crate) fn put_unary_of(
     match op {
         UnOp::Plus => Ok(()),
         UnOp::Minus | UnOp::Not => put_unary(out, op, ty, at),
-        UnOp::Bang => put_tested(alloc, out, at, size, 0, 1),
+        UnOp::Bang => put_unary(out, op, type_of_size(size), at),
     }
 }
 

@@ -1,12 +1,12 @@
 -- Values that choose: conditions of `if`, of loops and of the conditional operator, and the logical operators.
-use Rattle.std.proofs.Common.{◌≡◌, ℕ, zero, suc, ◌+◌, ◌-◌, ◌*◌, ◌/◌, ◌%◌, ◌^◌, ◌<◌, ◌≤◌, Bool, true, false, not, if◌then◌else◌, pos, List, [], ◌∷◌, ◌++◌, Option, Some, None, refl, ap, ◌∙◌, subst, arith}
+use Rattle.std.proofs.Common.{◌≡◌, ℕ, zero, suc, ◌+◌, ◌-◌, ◌*◌, ◌/◌, ◌%◌, ◌^◌, ◌<◌, ◌≤◌, Bool, true, false, not, if◌then◌else◌, List, [], ◌∷◌, ◌++◌, Option, Some, None, refl, ap, ◌∙◌, subst, arith}
 use Rattle.c_ints.specs.Operators.{truth}
 use Rattle.c_ints.specs.Range.{pattern, cut}
 use Rattle.c_ints.specs.declared.types.IntTy.TheVariants as int
 use Rattle.c_typed.specs.declared.expression.LogicalOp.{LogicalOp}
 use Rattle.c_typed.specs.declared.expression.LogicalOp.TheVariants.{And, Or}
-use Rattle.lower_expr.specs.Bytes.{byte_at}
-use Rattle.lower_expr.specs.Rows.{logical_row, tested}
+use Rattle.lower_expr.specs.Bytes.{byte_at, operation_type}
+use Rattle.lower_expr.specs.Rows.{logical_row, tested, type_of_size, unary_row}
 use Rattle.c_typed.specs.Trees as tree
 use Rattle.c_typed.specs.Trees.{Expression, Statement, Arms, Arm, LastArm}
 use Rattle.c_typed.specs.declared.statement.LoopForm.{LoopForm}
@@ -16,6 +16,7 @@ use Rattle.core_code.specs.Bytes.{Held, Memory, with_bytes}
 use Rattle.core_code.specs.Machine.{Setting, Machine, Task, Waiting, Do as Todo, Join, is_own}
 use Rattle.core_code.specs.Tree as code
 use Rattle.core_code.specs.Tree.{Tree, many}
+use Rattle.core_code.specs.Values as core
 use Rattle.core_code.specs.Values.{truth_in}
 use Rattle.core_code.specs.declared.code.Byte.{Byte}
 use Rattle.core_code.specs.declared.code.Byte.TheVariants.{Frame}
@@ -33,10 +34,9 @@ use Rattle.src_rules.specs.Statements.{arms, turn}
 use Rattle.src_values.specs.Control.{Eval, Holds as Value, Run, Past, Nothing, Chosen, One, Tests, Turns, Picks, InArm, Pending, In, Doing, active}
 use Rattle.src_values.specs.Data as datum
 use Rattle.src_values.specs.Data.{Datum}
-use Rattle.std.specs.Ordering.{int_eq}
 use Rattle.c_ints.specs.declared.operators.UnOp.TheVariants.{Bang}
 use Rattle.src_values.specs.Memory as source
-use Rattle.src_values.specs.Values.{byte_count, truth_of, truth_value, decides, unary_answer, is_null}
+use Rattle.src_values.specs.Values.{byte_count, truth_of, truth_value, decides, unary_answer}
 use Rattle.src_values.specs.declared.objects.Byte as value
 use Rattle.src_values.specs.declared.objects.CopyOf.{CopyOf}
 use Rattle.lower_trace.proofs.Beginnings.{Follow}
@@ -48,6 +48,7 @@ use Rattle.lower_trace.proofs.Jumping.{picked, many_then, if_then, join_then, jo
 use Rattle.lower_trace.proofs.Kept.{SceneLaws, own_copy}
 use Rattle.lower_trace.proofs.Looping.{turn_cost, turn_then}
 use Rattle.lower_trace.proofs.Mirrors.{Mirrors, Agrees, Holds, HasDatum}
+use Rattle.lower_trace.proofs.Negations.{bang_then, is_zero, size_is}
 use Rattle.lower_trace.proofs.NumberBytes.{truth_is}
 use Rattle.lower_trace.proofs.Operations.{Comes, comes_here, comes_within, own_frame, sets_then}
 use Rattle.lower_trace.proofs.Placed.{Placed, todo_join}
@@ -377,10 +378,6 @@ module _ (z : Scene) (laws : SceneLaws z) where
   tested_is true at = refl
   tested_is false at = refl
 
-  tested_not : (b : Bool) (at : Byte) → chosen_code (not b) (sets at 0 2) (sets at 1 2) ≡ sets at (if b then 1 else 0) 2
-  tested_not true at = refl
-  tested_not false at = refl
-
   right_case : (op : LogicalOp) (left right : Expression) (line : ℕ) (u v : Datum) (vt : Ty) (holds : Option Bool) (k : List Pending) (cp : CopyOf) (l : source.Memory) (w : World value.Byte) (c : Machine) → truth_of v ≡ holds → Around z cp k
       → HasType z.program vt v → 0 < byte_count v → test_size (value_width (ground_in z cp).layout right) ≡ byte_count v → base (ground_in z cp) k + byte_count v ≤ (core_in z).program.frame_bytes (number z cp) → base (ground_in z cp) k + 2 ≤ (core_in z).program.frame_bytes (number z cp) → is_due (arrived z.outside w) ≡ false
       → Mirrors z (state cp (Value v) (In (tree.Logical op left right line) (One u) ∷ k) l w) c
@@ -409,31 +406,37 @@ module _ (z : Scene) (laws : SceneLaws z) where
   logical_right op left right line u v vt k cp l w c around t lt size room two due h = right_case op left right line u v vt (truth_of v) k cp l w c refl around t lt size room two due h
 
   -- ---- !
-  bang_case : (operand : Expression) (ty : Ty) (line : ℕ) (v : Datum) (vt : Ty) (b : Bool) (k : List Pending) (cp : CopyOf) (l : source.Memory) (w : World value.Byte) (c : Machine) → truth_of v ≡ Some (not b) → Around z cp k
+  bang_case : (operand : Expression) (ty : Ty) (line : ℕ) (v : Datum) (vt : Ty) (k : List Pending) (cp : CopyOf) (l : source.Memory) (w : World value.Byte) (c : Machine) → Around z cp k
       → HasType z.program vt v → 0 < byte_count v → test_size (value_width (ground_in z cp).layout operand) ≡ byte_count v → base (ground_in z cp) k + byte_count v ≤ (core_in z).program.frame_bytes (number z cp) → base (ground_in z cp) k + 2 ≤ (core_in z).program.frame_bytes (number z cp) → is_due (arrived z.outside w) ≡ false
       → Mirrors z (state cp (Value v) (In (tree.Unary Bang operand ty line) Nothing ∷ k) l w) c
-      → Comes (core_in z) (Mirrors z (state cp (Value (truth_value b)) k l (arrived z.outside w))) (4 * byte_count v + 28) 1 c
+      → Comes (core_in z) (Mirrors z (state cp (Value (truth_value (is_zero v))) k l (arrived z.outside w))) (4 * byte_count v + 28) 0 c
   unfolding active
-  bang_case operand ty line v vt b k cp l w c is around t lt size room two due h =
+  bang_case operand ty line v vt k cp l w c around t lt size room two due h =
       let e = tree.Unary Bang operand ty line in
       let g = ground_in z cp in
-      let at = base g k in
+      let b = base g k in
       let n = number z cp in
-      let T = Mirrors z (state cp (Value (truth_value b)) k l (arrived z.outside w)) in
-      let x = test_size (value_width g.layout operand) in
-      comes_within (core_in z) T (4 * x + 16 + (8 + 4 * 1)) (1 + 0) (4 * byte_count v + 28) 1 c
-      (choice_then (core_in z) T n None (world_as (held z) (arrived z.outside w)) (due_below z (arrived z.outside w) due) (again_below z w) (Frame g.copy at) x (not b) (sets (Frame g.copy at) 0 2) (sets (Frame g.copy at) 1 2) (code_after g k) (stack_after z g k) c.memory c (8 + 4 * 1) 0
-      (own_test at x cp (omega arith)) (truth_there vt v (not b) at x cp c.memory t lt size h.value is)
-      (placed_of z (state cp (Value v) (In e Nothing ∷ k) l w) c h)
-      (λ d pd. truth_set b 1 k cp l w c.memory d around two due h.agrees h.holds.1
-      (subst (λ y. Placed (core_in z) n None (todo y (Join ∷ code_after g k)) (stack_after z g k) c.memory (world_as (held z) (arrived z.outside w)) d) (tested_not b (Frame g.copy at)) pd)))
+      let u = truth_value (is_zero v) in
+      let W = world_as (held z) (arrived z.outside w) in
+      let T = Mirrors z (state cp (Value u) k l (arrived z.outside w)) in
+      let s = stack_after z g k in
+      let now : todo (unary_row Bang (operation_type ty) (Frame g.copy b) (value_width g.layout operand)) (code_after g k) ≡ Todo [] (code.Unary Bang (type_of_size (byte_count v)) (Frame n b)) ∷ code_after g k =
+      ap (λ x. Todo [] (code.Unary Bang (type_of_size x) (Frame g.copy b)) ∷ code_after g k) (size_is v (value_width g.layout operand) size)
+      ∙ ap (λ i. Todo [] (code.Unary Bang (type_of_size (byte_count v)) (Frame i b)) ∷ code_after g k) (own_copy z cp) in
+      comes_within (core_in z) T (4 * byte_count v + 16 + 0) 0 (4 * byte_count v + 28) 0 c
+      (bang_then z (core_in z) T n s W (due_below z (arrived z.outside w) due) (again_below z w) v vt b (code_after g k) c.memory c 0 0 t lt room two (subst (λ i. HasDatum z i b v c.memory) (own_copy z cp) h.value)
+      (subst (λ f. Placed (core_in z) n None f s c.memory W c) now (placed_of z (state cp (Value v) (In e Nothing ∷ k) l w) c h))
+      (λ d pd. comes_here (core_in z) T d
+      (gives z laws cp k l (arrived z.outside w) c.memory 2 (core.byte_of (core.truth_value (is_zero v))) u d around (omega arith) (λ j lt. refl)
+      (subst (λ f. Placed (core_in z) n None (code_after g k) s (with_bytes c.memory (Frame n b) 2 (core.byte_of (core.truth_value (is_zero v)))) f d) (same_below z w) pd)
+      h.agrees h.holds.1)))
       (omega arith) (omega arith)
 
   pub bang_given : (operand : Expression) (ty : Ty) (line : ℕ) (v : Datum) (vt : Ty) (k : List Pending) (cp : CopyOf) (l : source.Memory) (w : World value.Byte) (c : Machine) → Around z cp k
       → HasType z.program vt v → 0 < byte_count v → test_size (value_width (ground_in z cp).layout operand) ≡ byte_count v → base (ground_in z cp) k + byte_count v ≤ (core_in z).program.frame_bytes (number z cp) → base (ground_in z cp) k + 2 ≤ (core_in z).program.frame_bytes (number z cp) → is_due (arrived z.outside w) ≡ false
       → Mirrors z (state cp (Value v) (In (tree.Unary Bang operand ty line) Nothing ∷ k) l w) c
-      → Follow z (4 * byte_count v + 28) 1 c (take_in (source_in z) (tree.Unary Bang operand ty line) Nothing v k cp l (arrived z.outside w))
-  unfolding unary_answer truth_of
+      → Follow z (4 * byte_count v + 28) 0 c (take_in (source_in z) (tree.Unary Bang operand ty line) Nothing v k cp l (arrived z.outside w))
+  unfolding unary_answer
   bang_given operand ty line datum.Missing vt k cp l w c around t lt size room two due h = tt
-  bang_given operand ty line (datum.Number q) vt k cp l w c around t lt size room two due h = bang_case operand ty line (datum.Number q) vt (int_eq q.number (pos 0)) k cp l w c refl around t lt size room two due h
-  bang_given operand ty line (datum.Pointer x) vt k cp l w c around t lt size room two due h = bang_case operand ty line (datum.Pointer x) vt (is_null x) k cp l w c refl around t lt size room two due h
+  bang_given operand ty line (datum.Number q) vt k cp l w c around t lt size room two due h = bang_case operand ty line (datum.Number q) vt k cp l w c around t lt size room two due h
+  bang_given operand ty line (datum.Pointer x) vt k cp l w c around t lt size room two due h = bang_case operand ty line (datum.Pointer x) vt k cp l w c around t lt size room two due h

@@ -119,7 +119,7 @@ module _ (z : Scene) (given : IsLowerable z.program z.copies) (input : All (λ b
       let fits = known.stack.0 in
       let all = tested.all in
       let part = le-max_right (room z.program.sizes operand) (value_bytes z.program.sizes operand + 2) in
-      led_by z _ _ (4 * byte_count v + 28) 1 c _ (omega arith) (omega arith)
+      led_by z _ _ (4 * byte_count v + 28) 0 c _ (omega arith) (omega arith)
       (bang_given z (scene_laws z given) operand ty line v (type_of operand) k cp l w c (around_in z cp e Nothing k (around z given input (state cp (Holds v) (In e Nothing ∷ k) l w) known)) t tested.some (tests_all operand v cp tested) (omega arith) (omega arith) due h)
 
   -- An operator of one operand takes it.

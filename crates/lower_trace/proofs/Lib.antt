@@ -34,6 +34,7 @@ pub mod Takes
 pub mod Fetching
 pub mod Cuts
 pub mod NumberBytes
+pub mod Negations
 pub mod Choosing
 pub mod Storing
 pub mod Reading

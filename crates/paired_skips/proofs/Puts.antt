@@ -23,7 +23,7 @@ use Rattle.lower_expr.specs.Bytes.{behind, beyond, byte_at, is_wider, number_typ
 use Rattle.lower_expr.specs.Layout.{Layout, width, value_width}
 use Rattle.lower_expr.specs.Lowering.{pointer_code, shifts_by_constant, update_of, step_of}
 use Rattle.lower_expr.specs.Puts.{copies, copies_if, sets, operator, choice}
-use Rattle.lower_expr.specs.Rows.{wider, widened_number, widened, tested, unary_row, logical_row, shift_row, binary_row, odd_part, multiples, scaled, moved, moved_right, offset_row, quotient_row, difference_row, member_row, address_row, read_row, value_row, written_row, kept_row, assigned_row, change_of, change_row, given_byte, keeps_old, update_row, step_row, called_row, side_of, taken, given, advance, structure_bytes, through_row, struct_row}
+use Rattle.lower_expr.specs.Rows.{wider, widened_number, widened, tested, type_of_size, unary_row, logical_row, shift_row, binary_row, odd_part, multiples, scaled, moved, moved_right, offset_row, quotient_row, difference_row, member_row, address_row, read_row, value_row, written_row, kept_row, assigned_row, change_of, change_row, given_byte, keeps_old, update_row, step_row, called_row, side_of, taken, given, advance, structure_bytes, through_row, struct_row}
 use Rattle.lower_expr.specs.Spots.{pointer_bytes}
 use Rattle.lower_expr.specs.declared.places.Spot.{Spot}
 use Rattle.lower_expr.specs.declared.places.Spot.TheVariants.{Fixed, Bit, Computed}
@@ -107,7 +107,7 @@ module _ (c : ℕ) where
   unary_close unop.Plus ty at size = none
   unary_close unop.Minus ty at size = one (code.Unary unop.Minus ty at) refl
   unary_close unop.Not ty at size = one (code.Unary unop.Not ty at) refl
-  unary_close unop.Bang ty at size = one (tested at size 0 1) (tested_close at size 0 1)
+  unary_close unop.Bang ty at size = one (code.Unary unop.Bang (type_of_size size) at) refl
 
   pub logical_close : (op : LogicalOp) (at : Byte) (size : ℕ) (other : List Tree) → AreClose c other → works_close c (logical_row op at size other) ≡ true
   logical_close logical.And at size other h = choice_close at size other (sets at 0 2) h (sets_close at 0 2)

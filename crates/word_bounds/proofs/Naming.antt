@@ -41,7 +41,7 @@ use Rattle.select_code.specs.declared.pieces.Flag.TheVariants.{Carry, Zero}
 use Rattle.select_wide.specs.Calls.{enter_code, copy_call_code, any_call_code}
 use Rattle.select_wide.specs.Comparisons.{difference_bits_code, differences_code, equality_code, turn_code, signs_code, links_code, order_code}
 use Rattle.select_wide.specs.Moves.{copies_code, stores_code, clears_code}
-use Rattle.select_wide.specs.Pieces.{rising, register_code, register_store_code, if_bit_code, pair_code, choice_code, truth_code, sign_code}
+use Rattle.select_wide.specs.Pieces.{rising, register_code, register_store_code, nonzero_code, if_bit_code, pair_code, choice_code, truth_code, sign_code}
 use Rattle.select_wide.specs.Pointers.{address_code, pointer_code, advance_code, load_byte_code, load_code, store_byte_code, store_all_code}
 use Rattle.select_wide.specs.Selection.{way_of, shifted_code, binary_code, wide_code}
 use Rattle.select_wide.specs.Shifts.{raised_code, bytes_down_code, bytes_way_code, bit_up_code, bit_down_code, bit_shift_code, bit_shifts_code, in_place_code, shift_code}
@@ -296,7 +296,9 @@ module _ (memory : Memory) where
   in_unary unop.Minus ty at h g = in_on (complement_code at (bytes_of ty)) (increment_code at (bytes_of ty)) (in_complement at (bytes_of ty) h) (in_increment at (bytes_of ty) h)
   in_unary unop.Not ty at h g = in_complement at (bytes_of ty) h
   in_unary unop.Bang ty at h g =
-      in_on (test_code at (bytes_of ty) ++ choice_code 0 Btfsc Zero 1) (truth_code at) (in_on (test_code at (bytes_of ty)) (choice_code 0 Btfsc Zero 1) (in_test at (bytes_of ty) h) (in_choice 0 Btfsc Zero 1)) (in_truth at g)
+      let w = bytes_of ty in
+      in_on (test_code at w ++ nonzero_code ++ choice_code 0 Btfss Carry 1) (truth_code at)
+      (in_on (test_code at w ++ nonzero_code) (choice_code 0 Btfss Carry 1) (in_on (test_code at w) nonzero_code (in_test at w h) (tt, tt)) (in_choice 0 Btfss Carry 1)) (in_truth at g)
 
   in_sign : (top : Byte) → Lies memory 1 top → AreIn (sign_code top)
   in_sign top h = in_on (number_code 0 ++ if_bit_code top 7) (number_code 255) (in_on (number_code 0) (if_bit_code top 7) (in_number 0) (in_bit Btfsc top 7 h)) (in_number 255)

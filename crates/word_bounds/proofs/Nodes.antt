@@ -9,7 +9,6 @@ use Rattle.c_ints.specs.declared.types.IntTy.TheVariants.{UInt}
 use Rattle.c_typed.specs.Folding.{constant_bits}
 use Rattle.c_typed.specs.Room.{arguments_bytes}
 use Rattle.c_typed.specs.Rules.{unary_fits, binary_fits, moves_by, update_fits, step_fits}
-use Rattle.c_typed.specs.Sameness.{is_scalar, is_plain_int}
 use Rattle.c_typed.specs.Trees as tree
 use Rattle.c_typed.specs.Trees.{Expression, Expressions, Place, Program}
 use Rattle.c_typed.specs.Types.{type_bytes, type_of, place_type, place_bytes, form_of, member_form, is_constant}
@@ -22,6 +21,7 @@ use Rattle.c_typed.specs.declared.expression.StepOp.TheVariants.{PreIncrement, P
 use Rattle.c_typed.specs.declared.types.Ty.{Ty}
 use Rattle.c_typed.specs.declared.types.Ty.TheVariants.{Void, Int, Pointer}
 use Rattle.call_graph.specs.declared.types.FnCopy.{FnCopy}
+use Rattle.core_code.specs.Tree as code
 use Rattle.core_code.specs.Tree.{Tree}
 use Rattle.core_code.specs.declared.code.Byte.{Byte}
 use Rattle.core_code.specs.declared.code.Byte.TheVariants as bytes
@@ -29,7 +29,7 @@ use Rattle.lower_expr.specs.Bytes.{beyond, behind, operation_type}
 use Rattle.lower_expr.specs.Layout.{Layout, width, value_width, place_width}
 use Rattle.lower_expr.specs.Lowering.{shifts_by_constant, change_code, arguments_width, update_of, step_of}
 use Rattle.lower_expr.specs.Puts.{copies_if, sets, operator, test_size, choice}
-use Rattle.lower_expr.specs.Rows.{is_shift, unary_row, binary_row, value_row, read_row, written_row, widened, logical_row, tested, change_of, change_row, given_byte, update_row, step_row, step_number, keeps_old, called_row, struct_row, assigned_row, address_row}
+use Rattle.lower_expr.specs.Rows.{is_shift, type_of_size, unary_row, binary_row, value_row, read_row, written_row, widened, logical_row, tested, change_of, change_row, given_byte, update_row, step_row, step_number, keeps_old, called_row, struct_row, assigned_row, address_row}
 use Rattle.lower_expr.specs.Spots.{spot_of, member_spot, pointer_bytes}
 use Rattle.lower_expr.specs.declared.places.Spot.{Spot}
 use Rattle.lower_expr.specs.declared.places.Spot.TheVariants.{Fixed, Bit, Computed}
@@ -37,11 +37,11 @@ use Rattle.pic_world.specs.declared.Root.{Root}
 use Rattle.select_code.specs.declared.control.Ending.{Ending}
 use Rattle.word_bounds.proofs.Chain.{never}
 use Rattle.word_bounds.proofs.Paying.{IsMine, own_frame}
-use Rattle.word_bounds.proofs.Operators.{binary_most}
+use Rattle.word_bounds.proofs.Operators.{whole_bytes, binary_most}
 use Rattle.word_bounds.proofs.Lowered.{Takes, takes_on, takes_more, takes_none, test_most}
 use Rattle.word_bounds.proofs.Puts.{mine_lower, sets_takes, near_if, widened_takes, operator_takes, choice_takes, test_four}
 use Rattle.word_bounds.proofs.Rows.{form_at, some_bytes, sum_words, binary_takes, minus_takes, not_takes, bang_takes, truth_takes, logical_takes, moved_takes, address_takes, read_takes, value_takes, written_takes, assigned_takes, called_takes, struct_takes}
-use Rattle.word_bounds.proofs.Typing.{Operates, OnInteger, OnPointer, scalar_some, unary_number, binary_number, binary_small, update_operates, step_operates, and_first}
+use Rattle.word_bounds.proofs.Typing.{Operates, OnInteger, OnPointer, unary_number, binary_number, binary_small, update_operates, step_operates}
 
 -- ---- sizes
 pub width_within : (l : Layout) (ty : Ty) → width l ty ≤ type_bytes l.sizes ty
@@ -134,9 +134,11 @@ module _ (list : List FnCopy) (root : Root) (end : Ending) (l : Layout) (c : ℕ
       let same = unary_number l.sizes from ty e in
       takes_more list root end c (4 * bytes_of (operation_type ty)) (4 * type_bytes l.sizes ty) (unary_row unop.Not (operation_type ty) (bytes.Frame c base) (width l from)) (omega (arith, same)) (not_takes list root end c (operation_type ty) (bytes.Frame c base) (mine base))
   unary_takes unop.Bang base from ty e =
-      let w = width_within l from in
-      let some = width_some l from (scalar_some l.sizes from (and_first (is_scalar from) (is_plain_int ty) e)) in
-      takes_more list root end c (4 * width l from + 16) (4 * type_bytes l.sizes from + 16) (tested (bytes.Frame c base) (width l from) 0 1 ∷ []) (omega (arith, w)) (bang_takes list root end c (bytes.Frame c base) (width l from) (mine base) some)
+      let of_size = type_of_size (width l from) in
+      let b = whole_bytes of_size in
+      let same = b.1 in
+      let few = b.2 in
+      takes_more list root end c (bytes_of of_size + 8) (4 * type_bytes l.sizes from + 16) (code.Unary unop.Bang of_size (bytes.Frame c base) ∷ []) (omega (arith, same, few)) (bang_takes list root end c of_size (bytes.Frame c base) (mine base))
 
   pub unary_node : (op : UnOp) (base : ℕ) (from ty : Ty) (n : ℕ) (operand : List Tree) → unary_fits op from ty ≡ true → Takes list root end c n operand
       → Takes list root end c (unary_words op (type_bytes l.sizes from) (type_bytes l.sizes ty) + n) (operand ++ unary_row op (operation_type ty) (bytes.Frame c base) (width l from))

@@ -24,21 +24,21 @@ use Rattle.sym_code.specs.declared.code.BlockName.TheVariants.{Copy}
 use Rattle.sym_code.specs.declared.code.FileOperation.TheVariants.{Movf, Andwf, Iorwf, Xorwf, Comf, Incf, Rlf, Rrf}
 use Rattle.sym_code.specs.declared.code.Into.TheVariants.{W, File}
 use Rattle.sym_code.specs.declared.code.Literal.TheVariants.{Number}
-use Rattle.sym_code.specs.declared.code.LiteralOperation.TheVariants.{Movlw, Xorlw}
+use Rattle.sym_code.specs.declared.code.LiteralOperation.TheVariants.{Addlw, Movlw, Xorlw}
 use Rattle.sym_code.specs.declared.code.Operand.{Operand}
 use Rattle.sym_code.specs.declared.code.Operand.TheVariants as operands
 use Rattle.sym_code.specs.declared.code.Sym.{Sym}
 use Rattle.sym_code.specs.declared.code.Sym.TheVariants as syms
 use Rattle.sym_code.specs.declared.code.Target.TheVariants.{Block}
-use Rattle.select_code.specs.Pieces.{byte_behind, file_code, store_code, number_code, flag_code, set_code, copy_code}
+use Rattle.select_code.specs.Pieces.{byte_behind, file_code, store_code, number_code, flag_code, set_code, copy_code, ors_code, test_code}
 use Rattle.select_code.specs.declared.pieces.Flag.{Flag}
 use Rattle.select_code.specs.declared.pieces.Flag.TheVariants.{Carry, Zero}
 use Rattle.select_wide.specs.Calls.{enter_code, helper_call_code, copy_call_code, any_call_code, helped_code}
 use Rattle.select_wide.specs.Comparisons.{difference_bits_code, differences_code, equality_code, turn_code, signs_code, links_code, order_code}
 use Rattle.select_wide.specs.Moves.{copies_code, stores_code, clears_code}
-use Rattle.select_wide.specs.Pieces.{rising, literal_code, if_bit_code, pair_code, choice_code, truth_code, sign_code}
+use Rattle.select_wide.specs.Pieces.{rising, literal_code, nonzero_code, if_bit_code, pair_code, choice_code, truth_code, sign_code}
 use Rattle.select_wide.specs.Shifts.{raised_code, bytes_up_code, bytes_down_code, bytes_way_code, bit_up_code, bit_down_code, bit_shift_code, bit_shifts_code, in_place_code, shift_code}
-use Rattle.select_wide.specs.Single.{is_signed, complement_code, increment_byte_code, increment_code, widening_code}
+use Rattle.select_wide.specs.Single.{is_signed, complement_code, increment_byte_code, increment_code, bang_code, widening_code}
 use Rattle.select_wide.specs.Selection.{way_of, shifted_code, binary_code}
 use Rattle.select_wide.specs.Sums.{chain_code, sum_code, bits_code}
 use Rattle.select_wide.specs.declared.operands.Chain.TheVariants.{Difference}
@@ -136,6 +136,26 @@ module _ (c : ℕ) where
       tame_more c (k + 1 + 2 * suc k) (3 * k + 3) (complement_code at (suc k) ++ increment_code at (suc k)) (omega arith)
       (tame_on c (k + 1) (2 * suc k) (complement_code at (suc k)) (increment_code at (suc k)) (complement_tame at h k)
       (rising_held c (increment_byte_code at) (λ w. 2 * w) 2 (λ k. omega arith) (λ k. increment_by at k (nat_eq k 0) h) (suc k)))
+
+  ors_held : (at : Byte) → IsMine c at → (k : ℕ) → Held c k (ors_code at k)
+  ors_held at h zero = pays_none c true false
+  ors_held at h (suc k) =
+      held_more c (k + 1) (suc k) (ors_code at (suc k)) (omega arith)
+      (held_on c k 1 (ors_code at k) (file_code Iorwf (byte_behind at (suc k)) W) (ors_held at h k) (file_one c Iorwf (byte_behind at (suc k)) W refl (easy_behind c at (suc k) (easy_mine c at h))))
+
+  test_tame : (at : Byte) → IsMine c at → (k : ℕ) → Tame c (k + 1) (test_code at (suc k))
+  test_tame at h k = tame_more c (1 + k) (k + 1) (test_code at (suc k)) (omega arith) (tame_on c 1 k (file_code Movf at W) (ors_code at k) (file_tame c Movf at W refl h) (ors_held at h k))
+
+  nonzero_bare : Bare c 1 nonzero_code
+  nonzero_bare has = pays_plain c (syms.Literal Addlw (Number 255)) has false (refl, refl, refl, refl, refl)
+
+  pub bang_tame : (at : Byte) → IsMine c at → (k : ℕ) → Tame c (k + 7) (bang_code at (suc k))
+  bang_tame at h k =
+      tame_more c (k + 1 + 1 + 3 + 2) (k + 7) (bang_code at (suc k)) (omega arith)
+      (tame_on c (k + 1 + 1 + 3) 2 (test_code at (suc k) ++ nonzero_code ++ choice_code 0 Btfss Carry 1) (truth_code at)
+      (tame_on c (k + 1 + 1) 3 (test_code at (suc k) ++ nonzero_code) (choice_code 0 Btfss Carry 1)
+      (tame_on c (k + 1) 1 (test_code at (suc k)) nonzero_code (test_tame at h k) (held_bare c 1 nonzero_code nonzero_bare)) (choice_held 0 Btfss Carry 1 (flag_set c Carry)))
+      (truth_held at h))
 
   -- ---- from anywhere to nothing known
   abbrev pub Loose : ℕ → List Sym → Type 0

@@ -49,19 +49,12 @@ test_within : (s n : ℕ) → n ≤ s → test_most n ≤ 4 * s + 1
 test_within s zero l = omega arith
 test_within s (suc n) l = omega (arith, l)
 
-test_small : (s n : ℕ) → n ≤ s → 1 ≤ s → test_most n ≤ 4 * s
-test_small s zero l m = omega (arith, m)
-test_small s (suc n) l m = omega (arith, l)
-
 size_within : (s : ℕ) → test_size s ≤ s
 unfolding test_size
 size_within s = omega arith
 
 pub test_four : (s : ℕ) → test_most (test_size s) ≤ 4 * s + 1
 test_four s = test_within s (test_size s) (size_within s)
-
-pub test_some : (s : ℕ) → 1 ≤ s → test_most (test_size s) ≤ 4 * s
-test_some s m = test_small s (test_size s) (size_within s) m
 
 module _ (list : List FnCopy) (root : Root) (end : Ending) (c : ℕ) where
   -- ---- numbers

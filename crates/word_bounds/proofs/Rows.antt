@@ -39,13 +39,13 @@ use Rattle.sym_code.specs.declared.code.LiteralOperation.TheVariants.{Movlw}
 use Rattle.sym_code.specs.declared.code.Operand.TheVariants as operands
 use Rattle.sym_code.specs.declared.code.Sym.TheVariants as syms
 use Rattle.select_wide.specs.Pointers.{pointer_code, load_code, store_all_code}
-use Rattle.select_wide.specs.Single.{complement_code, increment_code, unary_code}
+use Rattle.select_wide.specs.Single.{complement_code, increment_code, bang_code, unary_code}
 use Rattle.word_bounds.proofs.Chain.{never}
 use Rattle.word_bounds.proofs.Paying.{extra, IsMine, IsEasy, easy_mine, Pays, pays_none, pays_on, pays_more, pays_most, bit_held, file_mine, store_mine, Tame, tame_on, tame_more}
 use Rattle.word_bounds.proofs.Operations.{load_tame, store_all_tame, pointer_tame, address_tame, bits_tame, sum_tame}
-use Rattle.word_bounds.proofs.Operators.{whole_bytes, binary_most, operand_three, complement_tame, minus_tame, enter_pays}
+use Rattle.word_bounds.proofs.Operators.{whole_bytes, binary_most, operand_three, complement_tame, minus_tame, bang_tame, enter_pays}
 use Rattle.word_bounds.proofs.Lowered.{Costs, Takes, Tames, Helds, costs_more, costs_less, costs_none, costs_one, costs_on, takes_on, takes_more, takes_none, takes_one, tames_on, tames_one, takes_tames, helds_on, helds_more, helds_one, helds_tames, many_one, goto_pays, label_pays, test_most}
-use Rattle.word_bounds.proofs.Puts.{mine_lower, test_four, test_some, sets_tames, sets_takes, nought_takes, one_takes, result_one, copies_takes, copies_helds, copies_tames, near_if, results_if, operator_takes, operator_held, add_tamed, choice_takes}
+use Rattle.word_bounds.proofs.Puts.{mine_lower, test_four, sets_tames, sets_takes, nought_takes, one_takes, result_one, copies_takes, copies_helds, copies_tames, near_if, results_if, operator_takes, operator_held, add_tamed, choice_takes}
 
 -- ---- operators against their stated words
 pub operator_fits : (op : BinOp) (constant : Bool) (w : ℕ) → 1 ≤ w → (is_shift op && constant) ≡ false → binary_most op w + 2 ≤ operator_words op constant w
@@ -160,11 +160,12 @@ module _ (list : List FnCopy) (root : Root) (end : Ending) (c : ℕ) where
       takes_more list root end c (b.0 + 1 + 2) (4 * bytes_of ty) (code.Unary unop.Not ty at ∷ []) (omega (arith, e))
       (unary_tamed unop.Not ty at (b.0 + 1) (subst (λ (w : ℕ). Tame c (b.0 + 1) (complement_code at w)) (sym b.1) (complement_tame c at h b.0)))
 
-  pub bang_takes : (at : Byte) (size : ℕ) → IsMine c at → 1 ≤ size → Takes list root end c (4 * size + 16) (tested at size 0 1 ∷ [])
-  bang_takes at size h l =
-      let t = test_some size l in
-      takes_more list root end c (test_most (test_size size) + 7 + 4 + 5) (4 * size + 16) (tested at size 0 1 ∷ []) (omega (arith, t))
-      (choice_takes list root end c at size 4 5 (sets at 0 2) (sets at 1 2) h (nought_takes list root end c at h) (one_takes list root end c at h))
+  pub bang_takes : (ty : IntTy) (at : Byte) → IsMine c at → Takes list root end c (bytes_of ty + 8) (code.Unary unop.Bang ty at ∷ [])
+  bang_takes ty at h =
+      let b = whole_bytes ty in
+      let e = b.1 in
+      takes_more list root end c (b.0 + 7 + 2) (bytes_of ty + 8) (code.Unary unop.Bang ty at ∷ []) (omega (arith, e))
+      (unary_tamed unop.Bang ty at (b.0 + 7) (subst (λ (w : ℕ). Tame c (b.0 + 7) (bang_code at w)) (sym b.1) (bang_tame c at h b.0)))
 
   pub truth_takes : (at : Byte) (size : ℕ) → IsMine c at → Takes list root end c (4 * size + 17) (tested at size 1 0 ∷ [])
   truth_takes at size h =

@@ -8,7 +8,7 @@ use Rattle.c_ints.specs.declared.operators.BinOp.TheVariants as binop
 use Rattle.c_ints.specs.declared.types.IntTy.{IntTy}
 use Rattle.c_ints.specs.declared.types.IntTy.TheVariants as int
 use Rattle.c_typed.specs.Rules.{point_alike, binary_fits, offset_fits, moves_by, moves, counts_in, is_writable, assign_fits, integer_update_fits, update_fits, integer_step_fits, step_fits}
-use Rattle.c_typed.specs.Sameness.{same_int, same_type, is_scalar, is_promoted, is_index, pointed}
+use Rattle.c_typed.specs.Sameness.{same_int, same_type, is_promoted, is_index, pointed}
 use Rattle.c_typed.specs.Trees.{Program}
 use Rattle.c_typed.specs.Types.{type_bytes}
 use Rattle.c_typed.specs.declared.types.Qualified.{Qualified}
@@ -37,13 +37,6 @@ IsNumber sizes ty = bytes_of (operation_type ty) ≡ type_bytes sizes ty
 
 int_small : (ty : IntTy) → bytes_of ty ≤ 4
 int_small ty = let b = whole_bytes ty in let e = b.1 in let l = b.2 in omega (arith, e, l)
-
-pub scalar_some : (sizes : List ℕ) (ty : Ty) → is_scalar ty ≡ true → 1 ≤ type_bytes sizes ty
-scalar_some sizes (Int ty) e = some_bytes ty
-scalar_some sizes (Pointer target) e = omega arith
-scalar_some sizes Void e = never e
-scalar_some sizes (Array element count size) e = never e
-scalar_some sizes (Struct number) e = never e
 
 pub promoted_number : (sizes : List ℕ) (ty : Ty) → is_promoted ty ≡ true → IsNumber sizes ty
 promoted_number sizes (Int ty) e = refl

@@ -1,5 +1,6 @@
 -- Each kind of expression names bytes alone that are there, given that its parts do, and that its frame has its room.
-use Rattle.std.proofs.Common.{◌≡◌, ℕ, ◌+◌, ◌*◌, ◌≤◌, Bool, true, false, not, ◌&&◌, max, List, [], ◌∷◌, ◌++◌, Option, Some, None, slice_get, refl, sym, ap, subst, arith}
+use Rattle.std.proofs.Common.{◌≡◌, ℕ, ◌+◌, ◌*◌, ◌≤◌, Bool, true, false, not, ◌&&◌, max, nat_lt, if◌then◌else◌, List, [], ◌∷◌, ◌++◌, Option, Some, None, slice_get, refl, sym, ap, subst, arith}
+use Rattle.std.proofs.lemmas.Grind.{common_steps}
 use Rattle.c_ints.specs.Range.{bytes_of}
 use Rattle.c_ints.specs.declared.operators.BinOp.{BinOp}
 use Rattle.c_ints.specs.declared.operators.UnOp.{UnOp}
@@ -27,7 +28,7 @@ use Rattle.lower_expr.specs.Bytes.{beyond, behind, operation_type}
 use Rattle.lower_expr.specs.Layout.{Layout, width, value_width, place_width, copy_of}
 use Rattle.lower_expr.specs.Lowering.{shifts_by_constant, change_code, arguments_width, update_of, step_of}
 use Rattle.lower_expr.specs.Puts.{copies_if, sets, operator, choice}
-use Rattle.lower_expr.specs.Rows.{tested, unary_row, logical_row, binary_row, widened, read_row, written_row, value_row, assigned_row, called_row, change_of, change_row, given_byte, keeps_old, update_row, step_row, step_number}
+use Rattle.lower_expr.specs.Rows.{tested, type_of_size, unary_row, logical_row, binary_row, widened, read_row, written_row, value_row, assigned_row, called_row, change_of, change_row, given_byte, keeps_old, update_row, step_row, step_number}
 use Rattle.lower_expr.specs.Spots.{spot_of, pointer_bytes}
 use Rattle.lower_expr.specs.declared.places.Spot.{Spot}
 use Rattle.word_bounds.specs.Naming.{Memory, HasBytes, Lies, TreeLies, count_bytes}
@@ -39,6 +40,18 @@ use Rattle.word_bounds.proofs.Segments.{promoted_two}
 use Rattle.word_bounds.proofs.Rooms.{same_type_bytes}
 use Rattle.word_bounds.proofs.Standing.{Stand, at_base, binary_right, pointer_same, beyond_within, spot_lies, bit_has}
 use Rattle.word_bounds.proofs.Lying.{count_within, AllLie, lie_on, less, past, SpotLies, BitHas, sets_lie, copies_if_lie, widened_lie, choice_lie, tested_lie, operator_lie, logical_lie, shift_lie, binary_lie, moved_lie, value_lie, read_lie, written_lie, assigned_lie, called_lie}
+
+not_below : (a b : ℕ) → nat_lt a b ≡ false → b ≤ a
+not_below a b e = grind (arith, common_steps)
+
+-- The unsigned type of so many bytes has no more, but for one byte where there are none and four where there are three.
+few_of_size : (n : ℕ) → bytes_of (type_of_size n) ≤ n + 2
+few_of_size n = by (nat_lt n 2) (nat_lt n 4) refl
+  where
+    by : (one two : Bool) → nat_lt n 2 ≡ one → bytes_of (if one then int.UChar else if two then int.UInt else int.ULong) ≤ n + 2
+    by true two e = omega arith
+    by false true e = omega arith
+    by false false e = let l = not_below n 2 e in omega (arith, l)
 
 module _ (c size : ℕ) (memory : Memory) (l : Layout) (p : Program) (f : FunctionTree) (has : Stand c size memory l p f) where
   pub read_within : (base : ℕ) (place : Place) (ty : Ty) (address : List Tree) → place_fits p f place ≡ true → read_fits (place_type place) ty ≡ true → base + (address_bytes (form_of place) + type_bytes l.sizes ty) ≤ size → AllLie memory address
@@ -67,7 +80,9 @@ module _ (c size : ℕ) (memory : Memory) (l : Layout) (p : Program) (f : Functi
   unary_lies unop.Not base operand from ty rule b = (number_lies unop.Not base from ty rule (omega (arith, b)), tt)
   unary_lies unop.Bang base operand from ty rule b =
       let w = width_within l from in
-      (tested_lie memory (bytes.Frame c base) (width l from) 0 1 (at_base c size memory l p f has (width l from) base (omega (arith, b, w))) (at_base c size memory l p f has 2 base (omega (arith, b))), tt)
+      let of_size = type_of_size (width l from) in
+      let few = few_of_size (width l from) in
+      ((at_base c size memory l p f has (bytes_of of_size) base (omega (arith, b, w, few)), at_base c size memory l p f has 2 base (omega (arith, b))), tt)
 
   pub unary_within : (op : UnOp) (base operand : ℕ) (from ty : Ty) (first : List Tree) → unary_fits op from ty ≡ true → base + unary_room op operand (type_bytes l.sizes from) (type_bytes l.sizes ty) ≤ size → AllLie memory first
       → AllLie memory (first ++ unary_row op (operation_type ty) (bytes.Frame c base) (width l from))
