@@ -527,8 +527,7 @@ impl<'a> Here<'a> {
         });
         value == 0
             && (self.is_held(byte)
-                && (!self.note.apart.w
-                    && self.expects(rest, self.moved(Aim::ToByte(byte)), apart)))
+                && (!self.note.apart.w && self.expects(rest, self.moved(Aim::ToByte(byte)), apart)))
     }
 
     // The number that the operation makes, where it is known.

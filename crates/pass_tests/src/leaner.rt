@@ -492,3 +492,133 @@ fn a_byte_of_a_lent_frame_is_needed_where_fsr_is_read(rt: HostRuntime) -> Result
     assert_eq!(rt; code_of(made.get(0)), &given[..]);
     Ok(())
 }
+
+// `PORTB = 3; PORTB = 3;`: the number in W is that of the second byte, which needn't be read.
+#[test]
+fn a_number_stays_in_w(rt: HostRuntime) -> Result<(), AllocError> {
+    let given = [
+        load(3),
+        Sym::Movwf(temporary(0)),
+        load(3),
+        Sym::Movwf(temporary(1)),
+        to_w(FileOperation::Movf, temporary(0)),
+        Sym::Movwf(ticks()),
+        to_w(FileOperation::Movf, temporary(1)),
+        Sym::Movwf(ticks()),
+        goto(Label::Halt),
+    ];
+    let wanted = [
+        load(3),
+        Sym::Movwf(ticks()),
+        Sym::Movwf(ticks()),
+        goto(Label::Halt),
+    ];
+    let made = main_of(rt.alloc(), &given)?;
+    assert_eq!(rt; code_of(made.get(0)), &wanted[..]);
+    Ok(())
+}
+
+fn register_bit(op: BitOperation) -> Sym {
+    Sym::Bit {
+        op,
+        file: Operand::Byte(Byte::Device(11)),
+        bit: 2,
+    }
+}
+
+// `if (TMR0IF) ticks = 7;`: W is tested, and not stored for that.
+#[test]
+fn w_is_tested_without_a_byte(rt: HostRuntime) -> Result<(), AllocError> {
+    let given = [
+        load(0),
+        register_bit(BitOperation::Btfsc),
+        load(1),
+        Sym::Movwf(temporary(0)),
+        to_w(FileOperation::Movf, temporary(0)),
+        flag(BitOperation::Btfsc, 2),
+        goto(Label::Inner(0)),
+        load(7),
+        Sym::Movwf(ticks()),
+        Sym::Label(Label::Inner(0)),
+        goto(Label::Halt),
+    ];
+    let wanted = [
+        load(0),
+        register_bit(BitOperation::Btfsc),
+        load(1),
+        Sym::Literal {
+            op: LiteralOperation::Iorlw,
+            value: Literal::Number(0),
+        },
+        flag(BitOperation::Btfsc, 2),
+        goto(Label::Inner(0)),
+        load(7),
+        Sym::Movwf(ticks()),
+        Sym::Label(Label::Inner(0)),
+        goto(Label::Halt),
+    ];
+    let made = main_of(rt.alloc(), &given)?;
+    assert_eq!(rt; code_of(made.get(0)), &wanted[..]);
+    Ok(())
+}
+
+// `if (a ^ 5) ticks = 7;`: the result is only in W, and Z says of it what the byte would.
+#[test]
+fn a_result_in_w_sets_z(rt: HostRuntime) -> Result<(), AllocError> {
+    let given = [
+        to_w(FileOperation::Movf, temporary(0)),
+        Sym::Movwf(temporary(2)),
+        load(5),
+        to_file(FileOperation::Xorwf, temporary(2)),
+        to_w(FileOperation::Movf, temporary(2)),
+        flag(BitOperation::Btfsc, 2),
+        goto(Label::Inner(0)),
+        load(7),
+        Sym::Movwf(ticks()),
+        Sym::Label(Label::Inner(0)),
+        goto(Label::Halt),
+    ];
+    let wanted = [
+        to_w(FileOperation::Movf, temporary(0)),
+        load(5),
+        to_w(FileOperation::Xorwf, temporary(0)),
+        flag(BitOperation::Btfsc, 2),
+        goto(Label::Inner(0)),
+        load(7),
+        Sym::Movwf(ticks()),
+        Sym::Label(Label::Inner(0)),
+        goto(Label::Halt),
+    ];
+    let made = main_with(rt.alloc(), 1, &given)?;
+    assert_eq!(rt; code_of(made.get(0)), &wanted[..]);
+    Ok(())
+}
+
+// `TMR0IF = 0;`: of the two ways only one is gone, and no jump leads round the other one.
+#[test]
+fn a_jump_to_the_next_word_goes(rt: HostRuntime) -> Result<(), AllocError> {
+    let given = [
+        Sym::Clrf(temporary(0)),
+        Sym::Bit {
+            op: BitOperation::Btfss,
+            file: temporary(0),
+            bit: 0,
+        },
+        goto(Label::Inner(3)),
+        register_bit(BitOperation::Bsf),
+        goto(Label::Inner(2)),
+        Sym::Label(Label::Inner(3)),
+        register_bit(BitOperation::Bcf),
+        Sym::Label(Label::Inner(2)),
+        goto(Label::Halt),
+    ];
+    let wanted = [
+        Sym::Label(Label::Inner(3)),
+        register_bit(BitOperation::Bcf),
+        Sym::Label(Label::Inner(2)),
+        goto(Label::Halt),
+    ];
+    let made = main_of(rt.alloc(), &given)?;
+    assert_eq!(rt; code_of(made.get(0)), &wanted[..]);
+    Ok(())
+}
