@@ -521,7 +521,7 @@ fn a_number_stays_in_w(rt: HostRuntime) -> Result<(), AllocError> {
 fn register_bit(op: BitOperation) -> Sym {
     Sym::Bit {
         op,
-        file: Operand::Byte(Byte::Device(11)),
+        file: Operand::Byte(Byte::Device { address: 11 }),
         bit: 2,
     }
 }
