@@ -18,7 +18,7 @@ struct Worked {
 #[test]
 fn traces_of_programs(rt: HostRuntime) -> Result<(), Failure> {
     let alloc = rt.alloc();
-    let cases: [Worked; 19] = [
+    let cases: [Worked; 20] = [
         // one write
         Worked {
             text: "void main(void){PORTB=5;}",
@@ -32,6 +32,13 @@ fn traces_of_programs(rt: HostRuntime) -> Result<(), Failure> {
             script: "",
             status: 0,
             printed: "W PORTB 96\nEnd\n",
+        },
+        // and one whose low byte alone is used
+        Worked {
+            text: SUMS,
+            script: "",
+            status: 0,
+            printed: "W PORTB 96\nW PORTC 2C\nEnd\n",
         },
         // usual conversions and sizes
         Worked {
@@ -167,6 +174,9 @@ fn traces_of_programs(rt: HostRuntime) -> Result<(), Failure> {
     Ok(())
 }
 
+const SUMS: &str =
+    "void main(void){unsigned char a=200;unsigned char b=100;PORTB=(a+b)>>1;PORTC=a+b;}";
+
 const WAITS: &str = "void interrupt h(void){PORTB=1;INTF=0;}void main(void){INTCON=0x90;for(;;);}";
 
 const OVERLAY: &str =
@@ -189,6 +199,7 @@ fn programs_on_the_chip(rt: HostRuntime) -> Result<(), Failure> {
             "W INTCON 90\nW PORTB 01\nR INTCON 12\nW INTCON 10\n",
         ),
         (OVERLAY, "", 200_000, "W PORTB 06\nEnd\n"),
+        (SUMS, "", 20_000, "W PORTB 96\nW PORTC 2C\nEnd\n"),
         (LED, "", 0, ""),
     ] {
         let printed = simulated(&rt, alloc, text, script, instructions)?;

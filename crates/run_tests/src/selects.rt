@@ -28,6 +28,17 @@ fn firmware_has_fewer_words(rt: HostRuntime) -> Result<(), Fail> {
     Ok(())
 }
 
+// Two sums: of one the upper byte is used, of the other it isn't.
+const SUMS: &str =
+    "void main(void){unsigned char a=200;unsigned char b=100;PORTB=(a+b)>>1;PORTC=a+b;}";
+
+#[test]
+fn sums_have_fewer_words(rt: HostRuntime) -> Result<(), Fail> {
+    let (lean, plain) = words_of(rt.alloc(), SUMS)?;
+    assert!(rt; lean < plain, "{lean} and {plain}");
+    Ok(())
+}
+
 // By flow facts alone the image has a seventh fewer.
 #[test]
 fn leaner_code_is_a_sixth_shorter(rt: HostRuntime) -> Result<(), Fail> {
