@@ -9,7 +9,7 @@ use core_code::Byte;
 use sym_code::{BankBit, BlockName, Label, Operand, PageBit, Register, Sym, Target, touches};
 
 /// RP0 and RP1, where they are known, and the blocks whose page bits 3 and 4 of PCLATH name.
-#[derive(Clone, Copy, PartialEq, Eq, Debug)]
+#[derive(Clone, Copy, PartialEq, Eq)]
 pub struct Known {
     pub rp0: Option<bool>,
     pub rp1: Option<bool>,

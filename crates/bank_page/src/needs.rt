@@ -13,7 +13,7 @@ use pic_map::Placed;
 use sym_code::{Operand, Sym, Target, touches};
 
 /// What must be selected before an instruction: a bank, and the page of a target.
-#[derive(Clone, Copy, PartialEq, Eq, Debug)]
+#[derive(Clone, Copy, PartialEq, Eq)]
 pub struct Needs {
     pub bank: Option<u16>,
     pub page: Option<Target>,

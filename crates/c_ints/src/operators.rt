@@ -12,7 +12,7 @@ use crate::value::Value;
 
 /// The binary operators whose operands are both evaluated (ISO/IEC 9899:1990, 6.3.5 to 6.3.12):
 /// `* / % + - << >> < > <= >= == != & ^ |`.
-#[derive(Clone, Copy, PartialEq, Eq, Debug)]
+#[derive(Clone, Copy, PartialEq, Eq)]
 pub enum BinOp {
     Mul,
     Div,
@@ -33,7 +33,7 @@ pub enum BinOp {
 }
 
 /// The unary operators on values (ISO/IEC 9899:1990, 6.3.3.3): `+ - ~ !`.
-#[derive(Clone, Copy, PartialEq, Eq, Debug)]
+#[derive(Clone, Copy, PartialEq, Eq)]
 pub enum UnOp {
     Plus,
     Minus,

@@ -6,7 +6,7 @@ use crate::types::{IntTy, least_of, span_of};
 use std::marker::Model;
 
 /// A value of an integer type: the type, and a number that the type holds.
-#[derive(Clone, Copy, PartialEq, Eq, Debug)]
+#[derive(Clone, Copy, PartialEq, Eq)]
 pub struct Value {
     ty: IntTy,
     number: i64,

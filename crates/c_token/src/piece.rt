@@ -12,7 +12,7 @@ use crate::spelling::{KEYWORDS, PUNCTUATORS};
 use crate::token::{Keyword, Punct, TokKind};
 
 /// What stands at a place of a text, with its length in bytes.
-#[derive(Clone, Copy, PartialEq, Eq, Debug)]
+#[derive(Clone, Copy, PartialEq, Eq)]
 pub enum Piece {
     /// White space, or a whole comment.
     Blank(usize),

@@ -10,7 +10,7 @@ use std::alloc::Global;
 
 /// Where a byte stands: its offset in the text, its line, counted from 1, and the line of the last
 /// token before it, or 0 where none stands before it.
-#[derive(Clone, Copy, PartialEq, Eq, Debug)]
+#[derive(Clone, Copy, PartialEq, Eq)]
 pub struct Position {
     pub at: usize,
     pub line: usize,

@@ -2,7 +2,7 @@
 
 /// A keyword of C90 in the subset (ISO/IEC 9899:1990, 6.1.1), and `interrupt`, the HI-TECH PICC
 /// compiler's specifier for the interrupt handler.
-#[derive(Clone, Copy, PartialEq, Eq, Debug)]
+#[derive(Clone, Copy, PartialEq, Eq)]
 pub enum Keyword {
     Auto,
     Break,
@@ -36,7 +36,7 @@ pub enum Keyword {
 
 /// An operator or a punctuator (ISO/IEC 9899:1990, 6.1.5 and 6.1.6), named by its spelling where
 /// one spelling has several meanings. `Hash` begins a directive.
-#[derive(Clone, Copy, PartialEq, Eq, Debug)]
+#[derive(Clone, Copy, PartialEq, Eq)]
 pub enum Punct {
     /// `[`
     LeftBracket,
@@ -133,7 +133,7 @@ pub enum Punct {
 }
 
 /// What a token is. A name's, keyword's or string's text is its span of the source.
-#[derive(Clone, Copy, PartialEq, Eq, Debug)]
+#[derive(Clone, Copy, PartialEq, Eq)]
 pub enum TokKind {
     /// An identifier that is no keyword.
     Name,
@@ -159,7 +159,7 @@ pub enum TokKind {
 
 /// A token of a text: the bytes from `start` to before `end`, on line `line`, counted from 1.
 /// `first` says that no token stands before it on its line.
-#[derive(Clone, Copy, PartialEq, Eq, Debug)]
+#[derive(Clone, Copy, PartialEq, Eq)]
 pub struct Tok {
     pub kind: TokKind,
     pub start: u32,

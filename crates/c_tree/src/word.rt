@@ -21,14 +21,14 @@ pub struct Text {
 }
 
 /// A keyword that stands where several could, and its line.
-#[derive(Clone, Copy, PartialEq, Eq, Debug)]
+#[derive(Clone, Copy, PartialEq, Eq)]
 pub struct Word {
     pub keyword: Keyword,
     pub line: u32,
 }
 
 /// An operator that stands where several could, and its line.
-#[derive(Clone, Copy, PartialEq, Eq, Debug)]
+#[derive(Clone, Copy, PartialEq, Eq)]
 pub struct Sign {
     pub punct: Punct,
     pub line: u32,
@@ -44,7 +44,7 @@ pub struct Infix {
 }
 
 /// An integer or a character constant (ISO/IEC 9899:1990, 6.1.3), and its line.
-#[derive(Clone, Copy, PartialEq, Eq, Debug)]
+#[derive(Clone, Copy, PartialEq, Eq)]
 pub enum Constant {
     /// Its value, its base (2, 8, 10 or 16), and which suffixes it has.
     Int {

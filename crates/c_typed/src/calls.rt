@@ -7,7 +7,7 @@ use c_ints::{BinOp, IntTy};
 
 /// A routine for an operator that the chip has no instructions for: products, quotients, remainders and
 /// shifts, signed (`s`) or unsigned (`u`) where that matters, of 2 or 4 bytes.
-#[derive(Clone, Copy, PartialEq, Eq, Debug)]
+#[derive(Clone, Copy, PartialEq, Eq)]
 pub enum Helper {
     Mul2,
     Mul4,
@@ -28,7 +28,7 @@ pub enum Helper {
 }
 
 /// What is called: the function of this number in `Typed::functions`, or a helper.
-#[derive(Clone, Copy, PartialEq, Eq, Debug)]
+#[derive(Clone, Copy, PartialEq, Eq)]
 pub enum FnId {
     User(u32),
     Helper(Helper),

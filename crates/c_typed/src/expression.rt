@@ -9,7 +9,7 @@ use crate::types::{Qualified, Ty};
 use c_ints::{BinOp, IntTy, UnOp, Value};
 
 /// What a name that is a place stands for.
-#[derive(Clone, Copy, PartialEq, Eq, Debug)]
+#[derive(Clone, Copy, PartialEq, Eq)]
 pub enum Object {
     /// The object of this number in `Typed::statics`.
     Static(usize),
@@ -22,14 +22,14 @@ pub enum Object {
 }
 
 /// `&&` and `||` (ISO/IEC 9899:1990, 6.3.13 and 6.3.14).
-#[derive(Clone, Copy, PartialEq, Eq, Debug)]
+#[derive(Clone, Copy, PartialEq, Eq)]
 pub enum LogicalOp {
     And,
     Or,
 }
 
 /// `++` and `--`, before their operand or after it (ISO/IEC 9899:1990, 6.3.2.4 and 6.3.3.1).
-#[derive(Clone, Copy, PartialEq, Eq, Debug)]
+#[derive(Clone, Copy, PartialEq, Eq)]
 pub enum StepOp {
     PreIncrement,
     PreDecrement,
@@ -182,7 +182,7 @@ pub enum TExpr {
 
 /// How a place is found: by its name alone (a name, or a member of such a place), as a bit of a register,
 /// or by an address that is computed.
-#[derive(Clone, Copy, PartialEq, Eq, Debug)]
+#[derive(Clone, Copy, PartialEq, Eq)]
 pub enum PlaceForm {
     Fixed,
     Bit,

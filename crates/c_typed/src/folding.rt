@@ -11,7 +11,7 @@ use crate::types::Ty;
 use c_ints::{BinOp, IntTy, UnOp, Value, apply, convert, promote, unary};
 
 /// What an expression is as an integer constant expression (ISO/IEC 9899:1990, 6.4).
-#[derive(Clone, Copy, PartialEq, Eq, Debug)]
+#[derive(Clone, Copy, PartialEq, Eq)]
 pub enum Folded {
     /// It is none.
     Variable,

@@ -10,7 +10,7 @@ use crate::statement::TStmt;
 use crate::types::{Qualified, Structure, Ty, bytes_of};
 
 /// What a byte of a static object begins as.
-#[derive(Clone, Copy, PartialEq, Eq, Debug)]
+#[derive(Clone, Copy, PartialEq, Eq)]
 pub enum InitialByte {
     Number(u8),
     /// Byte 0 or 1 of the address of the static object of this number.
@@ -18,7 +18,7 @@ pub enum InitialByte {
 }
 
 /// A byte of a static object that is given a value, and its place in the object.
-#[derive(Clone, Copy, PartialEq, Eq, Debug)]
+#[derive(Clone, Copy, PartialEq, Eq)]
 pub struct Initial {
     pub offset: u64,
     pub byte: InitialByte,
@@ -73,7 +73,7 @@ pub struct Typed {
 /// What breaks the rules on main and on the interrupt handler: no function main; a main that isn't void
 /// without parameters, or is marked `interrupt`; a handler that isn't void without parameters; a second
 /// handler; a call of main or of the handler.
-#[derive(Clone, Copy, PartialEq, Eq, Debug)]
+#[derive(Clone, Copy, PartialEq, Eq)]
 pub enum RootKind {
     None,
     Main,

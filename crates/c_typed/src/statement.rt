@@ -4,7 +4,7 @@ use crate::expression::{TExpr, TPlace};
 use c_ints::Value;
 
 /// `while`, `do` and `for` (ISO/IEC 9899:1990, 6.6.5).
-#[derive(Clone, Copy, PartialEq, Eq, Debug)]
+#[derive(Clone, Copy, PartialEq, Eq)]
 pub enum LoopForm {
     While,
     Do,
@@ -93,7 +93,7 @@ pub struct TArm {
 
 /// A case label: its value in the type of the switch, and how many statements of the body stand
 /// before it.
-#[derive(Clone, Copy, PartialEq, Eq, Debug)]
+#[derive(Clone, Copy, PartialEq, Eq)]
 pub struct TCase {
     pub value: Value,
     pub target: usize,

@@ -7,7 +7,7 @@ ghost use Rattle.c_typed.specs.Views.{size_of};
 use c_ints::IntTy;
 
 /// A type (ISO/IEC 9899:1990, 6.1.2.5). Two types are the same exactly where these values are equal.
-#[derive(Clone, Copy, PartialEq, Eq, Hash, Debug)]
+#[derive(Clone, Copy, PartialEq, Eq, Hash)]
 pub enum Ty {
     Void,
     Int(IntTy),
@@ -38,7 +38,7 @@ impl Ty {
 }
 
 /// A type with its qualifiers (ISO/IEC 9899:1990, 6.5.3). An array has those of its elements.
-#[derive(Clone, Copy, PartialEq, Eq, Hash, Debug)]
+#[derive(Clone, Copy, PartialEq, Eq, Hash)]
 pub struct Qualified {
     pub ty: Ty,
     pub constant: bool,

@@ -12,7 +12,7 @@ ghost use Rattle.pic_world.specs.declared.Root.TheVariants as entry;
 use c_typed::{Function, RootKind, Ty, Typed, Variable};
 
 /// The numbers of main and of the interrupt handler.
-#[derive(Clone, Copy, PartialEq, Eq, Debug)]
+#[derive(Clone, Copy, PartialEq, Eq)]
 pub struct Roots {
     pub main: u32,
     pub handler: Option<u32>,

@@ -9,7 +9,7 @@ use std::alloc::AllocError;
 
 /// A copy of a function or helper: the root that reaches it, and its level, which is the length of the
 /// longest chain of calls to it from the root.
-#[derive(Clone, Copy, PartialEq, Eq, Debug)]
+#[derive(Clone, Copy, PartialEq, Eq)]
 pub struct FnCopy {
     pub root: Root,
     pub function: FnId,

@@ -30,7 +30,7 @@ const MEMORY_WORDS: u64 = 8192;
 
 /// Why some blocks have no addresses: a block is over a page, the first of those that are, with its number
 /// and its words; or they have no room in the four pages, with the sum of the words of all.
-#[derive(Debug, Drop)]
+#[derive(Drop, Debug)]
 pub enum PageError {
     NoMemory,
     Page { block: u32, words: u64 },
@@ -119,6 +119,3 @@ pub fn pages(alloc: Global, blocks: &[u64]) -> Result<Vec<u16>, PageError>
         }),
     }
 }
-
-#[cfg(test)]
-mod tests;

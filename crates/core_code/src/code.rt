@@ -4,7 +4,7 @@ use c_ints::{BinOp, IntTy, UnOp};
 use pic_world::Root;
 
 /// A byte of data memory by name. Objects and frames have no addresses yet.
-#[derive(Clone, Copy, PartialEq, Eq, Debug)]
+#[derive(Clone, Copy, PartialEq, Eq)]
 pub enum Byte {
     /// The byte of this offset of a static object, by its number in order of declaration.
     Static { object: u16, offset: u16 },
@@ -114,7 +114,7 @@ pub struct Body {
 
 /// What a byte of a static object begins as: a number, or the low or high byte of the address of the static object of
 /// this number.
-#[derive(Clone, Copy, PartialEq, Eq, Debug)]
+#[derive(Clone, Copy, PartialEq, Eq)]
 pub enum FirstByte {
     Number(u8),
     Low { object: u16 },

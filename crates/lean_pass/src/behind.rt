@@ -17,7 +17,7 @@ use crate::sets::{number_at, origin_at};
 use sym_code::{FileOperation, Literal, LiteralOperation};
 
 /// Which bytes W is what they hold, behind an instruction.
-#[derive(Clone, Copy, PartialEq, Eq, Debug)]
+#[derive(Clone, Copy, PartialEq, Eq)]
 pub enum Held {
     /// As before.
     Same,
@@ -35,7 +35,7 @@ pub enum Held {
 }
 
 /// What bytes hold, behind an instruction.
-#[derive(Clone, Copy, PartialEq, Eq, Debug)]
+#[derive(Clone, Copy, PartialEq, Eq)]
 pub enum Known {
     /// As before.
     Same,
@@ -47,7 +47,7 @@ pub enum Known {
 }
 
 /// Which bytes are copies of others, behind an instruction.
-#[derive(Clone, Copy, PartialEq, Eq, Debug)]
+#[derive(Clone, Copy, PartialEq, Eq)]
 pub enum Twins {
     /// As before.
     Same,
@@ -61,7 +61,7 @@ pub enum Twins {
 }
 
 /// What is known behind an instruction.
-#[derive(Clone, Copy, PartialEq, Eq, Debug)]
+#[derive(Clone, Copy, PartialEq, Eq)]
 pub struct Behind {
     pub number: Option<u8>,
     pub held: Held,
@@ -73,7 +73,7 @@ pub struct Behind {
 }
 
 /// The flags that an instruction writes.
-#[derive(Clone, Copy, PartialEq, Eq, Debug)]
+#[derive(Clone, Copy, PartialEq, Eq)]
 pub struct Flags {
     pub z: bool,
     pub dc: bool,
@@ -81,7 +81,7 @@ pub struct Flags {
 }
 
 /// Whether W and the flags may differ.
-#[derive(Clone, Copy, PartialEq, Eq, Debug)]
+#[derive(Clone, Copy, PartialEq, Eq)]
 pub struct Marks {
     pub w: bool,
     pub z: bool,
@@ -90,7 +90,7 @@ pub struct Marks {
 }
 
 /// Which bytes may differ behind an instruction.
-#[derive(Clone, Copy, PartialEq, Eq, Debug)]
+#[derive(Clone, Copy, PartialEq, Eq)]
 pub enum Bytes {
     /// As before.
     Same,
@@ -101,7 +101,7 @@ pub enum Bytes {
 }
 
 /// What may differ behind an instruction.
-#[derive(Clone, Copy, PartialEq, Eq, Debug)]
+#[derive(Clone, Copy, PartialEq, Eq)]
 pub struct Differs {
     pub marks: Marks,
     pub bytes: Bytes,

@@ -22,7 +22,7 @@ use sym_code::{BlockName, Operand, Register};
 const BYTES: usize = 368;
 
 /// Whose a general byte is.
-#[derive(Clone, Copy, PartialEq, Eq, Debug)]
+#[derive(Clone, Copy, PartialEq, Eq)]
 pub enum Whose {
     /// A static object's that isn't const: each access is an event.
     Watched,
@@ -33,7 +33,7 @@ pub enum Whose {
 }
 
 /// Where an operand leads.
-#[derive(Clone, Copy, PartialEq, Eq, Debug)]
+#[derive(Clone, Copy, PartialEq, Eq)]
 pub enum Aim {
     ToFsr,
     ToEvent,

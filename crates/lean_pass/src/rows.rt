@@ -9,7 +9,7 @@ pub struct ByteSet {
 }
 
 /// What becomes of an instruction.
-#[derive(Clone, Copy, PartialEq, Eq, Debug)]
+#[derive(Clone, Copy, PartialEq, Eq)]
 pub enum Act {
     Keeps,
     Drops,
@@ -26,14 +26,14 @@ pub enum Act {
 }
 
 /// A flag that a comparison leaves.
-#[derive(Clone, Copy, PartialEq, Eq, Debug)]
+#[derive(Clone, Copy, PartialEq, Eq)]
 pub enum FlagName {
     Carry,
     Zero,
 }
 
 /// What a flag of the machine that runs the code that is made tells.
-#[derive(Clone, Copy, PartialEq, Eq, Debug)]
+#[derive(Clone, Copy, PartialEq, Eq)]
 pub enum Shown {
     Unshown,
     /// Whether it is set.
@@ -45,7 +45,7 @@ pub enum Shown {
 }
 
 /// What is tied to the machine that runs the code that is made.
-#[derive(Clone, Copy, PartialEq, Eq, Debug)]
+#[derive(Clone, Copy, PartialEq, Eq)]
 pub struct Ties {
     pub carry: Option<usize>,
     pub shown: Shown,

@@ -163,7 +163,7 @@ fn put_kept(
 
 /// How the operator of an update takes its right operand: as it stands there, as a number of elements of so many bytes
 /// by which a pointer moves, or as the number by which a value is shifted.
-#[derive(Clone, Copy, PartialEq, Eq, Debug)]
+#[derive(Clone, Copy, PartialEq, Eq)]
 pub(crate) enum Change {
     Plain,
     Elements(u64),
@@ -172,7 +172,7 @@ pub(crate) enum Change {
 
 /// An update of a place: the operator and the type of the operation, the bytes of its right operand, whether the old
 /// value is what the whole gives, and whether that is wanted.
-#[derive(Clone, Copy, PartialEq, Eq, Debug)]
+#[derive(Clone, Copy, PartialEq, Eq)]
 pub(crate) struct Update {
     pub op: BinOp,
     pub change: Change,

@@ -25,7 +25,7 @@ pub struct Locals<'a> {
 
 /// Where a place is: its first byte where it is fixed, a bit of a device register, or where a pointer points to that
 /// has to be computed.
-#[derive(Clone, Copy, PartialEq, Eq, Debug)]
+#[derive(Clone, Copy, PartialEq, Eq)]
 pub enum Spot {
     Fixed(Byte),
     Bit { register: u8, bit: u8 },

@@ -21,7 +21,7 @@ use pic_world::Root;
 use std::alloc::{AllocError, Global};
 
 /// Where a structure is: from this byte on, or where the pointer in two bytes points to.
-#[derive(Clone, Copy, PartialEq, Eq, Debug)]
+#[derive(Clone, Copy, PartialEq, Eq)]
 pub(crate) enum Side {
     Here(Byte),
     Pointed(Byte),

@@ -6,7 +6,7 @@ ghost use Rattle.lower_stmt.specs.Jumps as jumps;
 /// How many loops of the code stand between a statement and the loop that `break` leaves, 0 for the innermost (ISO/IEC
 /// 9899:1990, 6.6.6.3), and between it and the loop that `continue` is about (6.6.6.2). `continue` begins that loop
 /// again where `again` is set; otherwise it leaves it, since what stands after it comes next.
-#[derive(Clone, Copy, PartialEq, Eq, Debug)]
+#[derive(Clone, Copy, PartialEq, Eq)]
 pub struct Jumps {
     pub leave: usize,
     pub turn: usize,

@@ -13,7 +13,7 @@ use std::alloc::AllocError;
 use sym_code::{BitOperation, FileOperation, Operand, SymBlock};
 
 /// Which of the two numbers that a division gives is wanted.
-#[derive(Clone, Copy, PartialEq, Eq, Debug)]
+#[derive(Clone, Copy, PartialEq, Eq)]
 pub enum Part {
     Quotient,
     Remainder,

@@ -8,7 +8,7 @@ use pic_world::Root;
 use sym_code::Operand;
 
 /// How many bytes an operand has.
-#[derive(Clone, Copy, PartialEq, Eq, Debug)]
+#[derive(Clone, Copy, PartialEq, Eq)]
 pub enum Width {
     Two,
     Four,
@@ -38,7 +38,7 @@ impl Width {
 
 /// A value that a routine works on, of as many bytes as an operand has. The first four stand in the routine's frame, one
 /// after the other.
-#[derive(Clone, Copy, PartialEq, Eq, Debug)]
+#[derive(Clone, Copy, PartialEq, Eq)]
 pub enum Value {
     /// The left operand. A dividend becomes the quotient bit by bit.
     Left,
@@ -53,7 +53,7 @@ pub enum Value {
 }
 
 /// Whose routine it is: the root that it runs under, the number of its copy, and the width of its operands.
-#[derive(Clone, Copy, PartialEq, Eq, Debug)]
+#[derive(Clone, Copy, PartialEq, Eq)]
 pub struct RoutineLayout {
     pub root: Root,
     pub copy: u16,

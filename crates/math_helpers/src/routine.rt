@@ -16,7 +16,7 @@ use std::alloc::{AllocError, Global};
 use sym_code::{BlockName, SymBlock};
 
 /// What a routine computes.
-#[derive(Clone, Copy, PartialEq, Eq, Debug)]
+#[derive(Clone, Copy, PartialEq, Eq)]
 pub enum Task {
     Product,
     Division(Part),

@@ -12,7 +12,7 @@ use std::alloc::AllocError;
 use sym_code::{BitOperation, FileOperation, SymBlock};
 
 /// Which way bits go, and what comes in after them.
-#[derive(Clone, Copy, PartialEq, Eq, Debug)]
+#[derive(Clone, Copy, PartialEq, Eq)]
 pub enum Direction {
     /// Zeros come in.
     Left,

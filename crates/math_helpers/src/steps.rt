@@ -12,7 +12,7 @@ use sym_code::{BitOperation, FileOperation, SymBlock};
 
 /// What is done with each byte of a value in turn, from the lowest one on unless said otherwise. The flag C, or Z for an
 /// increment, goes from one byte to the next.
-#[derive(Clone, Copy, PartialEq, Eq, Debug)]
+#[derive(Clone, Copy, PartialEq, Eq)]
 pub enum Step {
     /// The value becomes 0.
     Clear(Value),

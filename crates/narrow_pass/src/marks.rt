@@ -12,7 +12,7 @@ use core_code::Byte;
 use std::alloc::{AllocError, Global};
 
 /// What is known of a byte, in the given program and in the one that is made.
-#[derive(Clone, Copy, PartialEq, Eq, Debug)]
+#[derive(Clone, Copy, PartialEq, Eq)]
 pub enum Mark {
     /// Both hold 0.
     Zero,

@@ -584,7 +584,7 @@ pub fn put_cut(
 // ---- conditions
 
 /// How a condition is made: as it is, by the low byte of its test alone, or by that with its ways changed over.
-#[derive(Clone, Copy, PartialEq, Eq, Debug)]
+#[derive(Clone, Copy, PartialEq, Eq)]
 pub enum Way {
     Whole,
     Low,

@@ -244,35 +244,3 @@ fn literal_ins(word: u16) -> Option<Ins>
         _ => Some(Ins::Addlw { k }),
     }
 }
-
-#[test]
-fn words_of_the_data_sheet(rt: HostRuntime) {
-    let rows = [
-        (0x0000, Ins::Nop),
-        (0x0060, Ins::Nop),
-        (0x0008, Ins::Return),
-        (0x0063, Ins::Sleep),
-        (0x00a0, Ins::Movwf { f: 0x20 }),
-        (0x017f, Ins::Clrw),
-        (0x0183, Ins::Clrf { f: 3 }),
-        (0x07f1, Ins::Addwf { f: 0x71, d: true }),
-        (0x0820, Ins::Movf { f: 0x20, d: false }),
-        (0x1683, Ins::Bsf { f: 3, b: 5 }),
-        (0x1f0b, Ins::Btfss { f: 0x0b, b: 6 }),
-        (0x2123, Ins::Call { k: 0x123 }),
-        (0x2805, Ins::Goto { k: 5 }),
-        (0x33ff, Ins::Movlw { k: 0xff }),
-        (0x3a0f, Ins::Xorlw { k: 0x0f }),
-        (0x3dff, Ins::Sublw { k: 0xff }),
-    ];
-    for (word, ins) in rows {
-        assert_eq!(rt; decode(word & 0x3fff), Some(ins), "{word:x}");
-    }
-    for hole in [0x0001, 0x000a, 0x0062, 0x0065, 0x3b00, 0x3bff] {
-        assert_eq!(rt; decode(hole & 0x3fff), None, "{hole:x}");
-    }
-    assert_eq!(rt; encode(Ins::Addwf { f: 0x71, d: true }), 0x07f1);
-    assert_eq!(rt; encode(Ins::Bsf { f: 3, b: 5 }), 0x1683);
-    assert_eq!(rt; encode(Ins::Goto { k: 5 }), 0x2805);
-    assert_eq!(rt; encode(Ins::Movlw { k: 0xff }), 0x30ff);
-}

@@ -26,7 +26,7 @@ pub use write::write_map;
 
 /// Where a static object stands. `fixed` for one that is const; the address is one of data memory,
 /// below 200h, and the size is in bytes, 0 to 352.
-#[derive(Debug, Drop)]
+#[derive(Drop)]
 pub struct ObjLine {
     pub fixed: bool,
     pub name: Vec<u8>,
@@ -35,7 +35,7 @@ pub struct ObjLine {
 }
 
 /// Where the frame of a function copy stands, and whose copy it is. Address and size are as in `ObjLine`.
-#[derive(Debug, Drop)]
+#[derive(Drop)]
 pub struct FrameLine {
     pub root: Root,
     pub name: Vec<u8>,
@@ -54,7 +54,7 @@ pub struct Placed {
 
 /// What a map file tells: the addresses of program memory, below 2000h, at which main begins and halts;
 /// the static objects, in order; and the frames, in the order of placing.
-#[derive(Debug, Drop)]
+#[derive(Drop)]
 pub struct Map {
     pub main: u16,
     pub halt: u16,

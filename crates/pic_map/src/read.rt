@@ -18,7 +18,7 @@ use thiserror::Error;
 
 /// Which line a map file may have next. The object lines come before the frame lines, and `end` after
 /// them.
-#[derive(Clone, Copy, PartialEq, Eq, Debug)]
+#[derive(Clone, Copy, PartialEq, Eq)]
 pub enum Stage {
     Heading,
     MainPoint,

@@ -8,7 +8,7 @@ use pic_world::Script;
 use std::alloc::AllocError;
 
 /// A byte that went between the chip and a device register, which is named by its lowest address.
-#[derive(Clone, Copy, PartialEq, Eq, Debug)]
+#[derive(Clone, Copy, PartialEq, Eq)]
 pub struct Exchange {
     pub register: u8,
     pub value: u8,

@@ -63,6 +63,3 @@ pub enum Event {
     Write { cell: Cell, value: u8 },
     End,
 }
-
-#[cfg(test)]
-mod tests;

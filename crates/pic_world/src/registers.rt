@@ -205,27 +205,3 @@ fn find_name<'a>(mut table: &[(&'a str, u8)], address: u8) -> Option<&'a str>
     }
     None
 }
-
-#[test]
-fn registers_and_bits_by_name(rt: HostRuntime) {
-    assert_eq!(rt; register(b"PORTB"), Some(0x06));
-    assert_eq!(rt; register(b"TMR0"), Some(0x01));
-    assert_eq!(rt; register(b"OPTION_REG"), Some(0x81));
-    assert_eq!(rt; register(b"INTCON"), Some(0x0b));
-    assert_eq!(rt; register(b"ADCON1"), Some(0x9f));
-    assert_eq!(rt; register(b"PCLATH"), None);
-    assert_eq!(rt; register(b"porta"), None);
-    assert_eq!(rt; register(b""), None);
-    assert_eq!(rt; bit(b"RE2"), Some((0x09, 2)));
-    assert_eq!(rt; bit(b"RE3"), None);
-    assert_eq!(rt; bit(b"TRISA5"), Some((0x85, 5)));
-    assert_eq!(rt; bit(b"GIE"), Some((0x0b, 7)));
-    assert_eq!(rt; bit(b"T0IE"), Some((0x0b, 5)));
-    assert_eq!(rt; bit(b"TMR0IF"), Some((0x0b, 2)));
-    assert_eq!(rt; bit(b"PSPIE"), Some((0x8c, 7)));
-    assert_eq!(rt; bit(b"TMR2ON"), Some((0x12, 2)));
-    assert_eq!(rt; register_name(0x06), Some("PORTB"));
-    assert_eq!(rt; register_name(0x9f), Some("ADCON1"));
-    assert_eq!(rt; register_name(0x03), None);
-    assert_eq!(rt; register_name(0x8b), None);
-}

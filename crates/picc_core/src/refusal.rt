@@ -14,7 +14,7 @@ use ram_place::PlaceError;
 use std::alloc::AllocError;
 
 /// A limit on texts (the project's own).
-#[derive(Clone, Copy, PartialEq, Eq, Debug)]
+#[derive(Clone, Copy, PartialEq, Eq)]
 pub enum LimitKind {
     /// The text has more than 262,144 bytes.
     Text,

@@ -25,7 +25,7 @@ use std::alloc::{AllocError, Global};
 use typed_numbers::see_numbers;
 
 /// What is known of a program's run on the chip beside that of its source.
-#[derive(Clone, Copy, PartialEq, Eq, Debug)]
+#[derive(Clone, Copy, PartialEq, Eq)]
 pub enum Agreed {
     /// The source run is defined as far as it is looked at, and so many events the chip has made.
     Same { events: u32 },

@@ -19,14 +19,14 @@ use std::alloc::{AllocError, Global};
 const MOST_STEPS: u64 = 1_152_921_504_606_846_975;
 
 /// A step of the source that is undefined: why, and the line.
-#[derive(Clone, Copy, PartialEq, Eq, Debug)]
+#[derive(Clone, Copy, PartialEq, Eq)]
 pub(crate) struct Fault {
     pub kind: Undef,
     pub line: u32,
 }
 
 /// How a run goes on.
-#[derive(Clone, Copy, PartialEq, Eq, Debug)]
+#[derive(Clone, Copy, PartialEq, Eq)]
 pub(crate) enum Going {
     Went,
     Idle,

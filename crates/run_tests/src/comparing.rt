@@ -21,7 +21,7 @@ pub struct Case {
 }
 
 // How a source run ended within its steps.
-#[derive(Clone, Copy, PartialEq, Eq, Debug)]
+#[derive(Clone, Copy, PartialEq, Eq)]
 enum Ending {
     Idle,
     Undefined,

@@ -20,7 +20,7 @@ use sym_code::{BlockName, Label, PlainOperation, Sym, SymBlock, Target};
 
 /// How a body ends: main's at the place where main has ended, the handler's where the context comes back, any other by a
 /// return.
-#[derive(Clone, Copy, PartialEq, Eq, Debug)]
+#[derive(Clone, Copy, PartialEq, Eq)]
 pub enum Ending {
     Halt,
     Restore,

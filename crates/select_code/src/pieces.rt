@@ -12,7 +12,7 @@ use sym_code::{
 };
 
 /// A bit of STATUS (Microchip data sheet DS39582, STATUS register). `Irp` is the ninth bit of the address that FSR names.
-#[derive(Clone, Copy, PartialEq, Eq, Debug)]
+#[derive(Clone, Copy, PartialEq, Eq)]
 pub enum Flag {
     Carry,
     Zero,

@@ -30,6 +30,3 @@ mod single;
 mod sums;
 
 pub use selection::{handler_at, select};
-
-#[cfg(test)]
-mod tests;

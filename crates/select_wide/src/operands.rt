@@ -6,7 +6,7 @@ use core_code::Byte;
 
 /// Where the value of a binary operator goes, where its operands stand, and how many bytes each of them has. The value
 /// and an operand stand at one place or apart.
-#[derive(Clone, Copy, PartialEq, Eq, Debug)]
+#[derive(Clone, Copy, PartialEq, Eq)]
 pub struct Operands {
     pub to: Byte,
     pub left: Byte,
@@ -15,14 +15,14 @@ pub struct Operands {
 }
 
 /// Sums and differences, which carry from byte to byte.
-#[derive(Clone, Copy, PartialEq, Eq, Debug)]
+#[derive(Clone, Copy, PartialEq, Eq)]
 pub enum Chain {
     Sum,
     Difference,
 }
 
 /// Which way a shift's bits go, and what comes in at the other end: zeros, or copies of the sign.
-#[derive(Clone, Copy, PartialEq, Eq, Debug)]
+#[derive(Clone, Copy, PartialEq, Eq)]
 pub enum Way {
     Left,
     Right,

@@ -16,7 +16,7 @@ use std::alloc::{AllocError, Global};
 use std::test::Fail;
 
 /// What is told of a program.
-#[derive(Debug, PartialEq, Eq, Drop)]
+#[derive(PartialEq, Eq, Drop)]
 enum Told {
     /// The sum of all stated words, the greatest block, how many addresses are covered, and the depth.
     Sizes {

@@ -43,7 +43,7 @@ use std::alloc::{AllocError, Global};
 /// How a step ended: it was taken, with the event that it made if it made one; it is undefined, for
 /// this reason and at this line; or there is none to take, since main has ended, no handler runs and
 /// none is due.
-#[derive(Clone, Copy, PartialEq, Eq, Debug)]
+#[derive(Clone, Copy, PartialEq, Eq)]
 pub enum SrcEnd {
     Went(Option<Event>),
     Undefined { kind: Undef, line: u32 },

@@ -138,7 +138,7 @@ pub enum Spot {
 }
 
 /// Why a step is undefined.
-#[derive(Clone, Copy, PartialEq, Eq, Debug)]
+#[derive(Clone, Copy, PartialEq, Eq)]
 pub enum Undef {
     /// The divisor is 0.
     Division,

@@ -8,7 +8,7 @@ use std::alloc::{AllocError, Global};
 
 /// A register of the chip's core (Microchip data sheet DS39582, special function registers). Each stands in every bank.
 /// `Indf` is the byte that FSR and IRP name.
-#[derive(Clone, Copy, PartialEq, Eq, Debug)]
+#[derive(Clone, Copy, PartialEq, Eq)]
 pub enum Register {
     Indf,
     Status,
@@ -17,7 +17,7 @@ pub enum Register {
 }
 
 /// Where the context of main is kept while the handler runs. Each stands in every bank.
-#[derive(Clone, Copy, PartialEq, Eq, Debug)]
+#[derive(Clone, Copy, PartialEq, Eq)]
 pub enum Saved {
     W,
     Status,
@@ -26,7 +26,7 @@ pub enum Saved {
 }
 
 /// A file operand by name.
-#[derive(Clone, Copy, PartialEq, Eq, Debug)]
+#[derive(Clone, Copy, PartialEq, Eq)]
 pub enum Operand {
     Byte(Byte),
     Register(Register),
@@ -34,14 +34,14 @@ pub enum Operand {
 }
 
 /// Where a result goes.
-#[derive(Clone, Copy, PartialEq, Eq, Debug)]
+#[derive(Clone, Copy, PartialEq, Eq)]
 pub enum Into {
     W,
     File,
 }
 
 /// A row of the instruction table that reads a file register, and whose result goes to W or to that register.
-#[derive(Clone, Copy, PartialEq, Eq, Debug)]
+#[derive(Clone, Copy, PartialEq, Eq)]
 pub enum FileOperation {
     Addwf,
     Andwf,
@@ -60,7 +60,7 @@ pub enum FileOperation {
 }
 
 /// A row of the instruction table on one bit of a file register.
-#[derive(Clone, Copy, PartialEq, Eq, Debug)]
+#[derive(Clone, Copy, PartialEq, Eq)]
 pub enum BitOperation {
     Bcf,
     Bsf,
@@ -69,7 +69,7 @@ pub enum BitOperation {
 }
 
 /// A row of the instruction table on W and a literal.
-#[derive(Clone, Copy, PartialEq, Eq, Debug)]
+#[derive(Clone, Copy, PartialEq, Eq)]
 pub enum LiteralOperation {
     Addlw,
     Andlw,
@@ -81,7 +81,7 @@ pub enum LiteralOperation {
 }
 
 /// A row of the instruction table without an operand.
-#[derive(Clone, Copy, PartialEq, Eq, Debug)]
+#[derive(Clone, Copy, PartialEq, Eq)]
 pub enum PlainOperation {
     Clrw,
     Nop,
@@ -90,7 +90,7 @@ pub enum PlainOperation {
 }
 
 /// A literal: a number, or the low 8 bits or the ninth bit of the address of a byte.
-#[derive(Clone, Copy, PartialEq, Eq, Debug)]
+#[derive(Clone, Copy, PartialEq, Eq)]
 pub enum Literal {
     Number(u8),
     Low(Byte),
@@ -98,7 +98,7 @@ pub enum Literal {
 }
 
 /// A block of code: the start block, or the block of a function copy or helper, by the copy's number.
-#[derive(Clone, Copy, PartialEq, Eq, Debug)]
+#[derive(Clone, Copy, PartialEq, Eq)]
 pub enum BlockName {
     Start,
     Copy(u16),
@@ -106,7 +106,7 @@ pub enum BlockName {
 
 /// A place in the code: one within its own block, by a number; in the start block, the place where main has ended, and
 /// the one where the handler goes to when it ends.
-#[derive(Clone, Copy, PartialEq, Eq, Debug)]
+#[derive(Clone, Copy, PartialEq, Eq)]
 pub enum Label {
     Inner(usize),
     Halt,
@@ -115,7 +115,7 @@ pub enum Label {
 
 /// What a jump or call goes to: the front of a block, or a label. An inner label is one of the block that the jump
 /// stands in.
-#[derive(Clone, Copy, PartialEq, Eq, Debug)]
+#[derive(Clone, Copy, PartialEq, Eq)]
 pub enum Target {
     Block(BlockName),
     Label(Label),
@@ -123,7 +123,7 @@ pub enum Target {
 
 /// A bit of STATUS that selects banks: RP0 and RP1, bits 5 and 6, by the 7 low bits of an address in an instruction, and
 /// IRP, bit 7, by an address in FSR.
-#[derive(Clone, Copy, PartialEq, Eq, Debug)]
+#[derive(Clone, Copy, PartialEq, Eq)]
 pub enum BankBit {
     Rp0,
     Rp1,
@@ -131,7 +131,7 @@ pub enum BankBit {
 }
 
 /// A bit of PCLATH that selects pages of program memory: bit 3 and bit 4.
-#[derive(Clone, Copy, PartialEq, Eq, Debug)]
+#[derive(Clone, Copy, PartialEq, Eq)]
 pub enum PageBit {
     Low,
     High,
@@ -139,7 +139,7 @@ pub enum PageBit {
 
 /// A symbolic instruction: one of the chip, whose operands have names; a label, which is no instruction; or a select of
 /// one bit, which is a BCF or BSF.
-#[derive(Clone, Copy, PartialEq, Eq, Debug)]
+#[derive(Clone, Copy, PartialEq, Eq)]
 pub enum Sym {
     File {
         op: FileOperation,

@@ -4,7 +4,7 @@ use itoa::Buffer;
 use std::alloc::{AllocError, Global};
 
 /// What stands before the next part of a line.
-#[derive(Clone, Copy, PartialEq, Eq, Debug)]
+#[derive(Clone, Copy, PartialEq, Eq)]
 enum Before {
     Space,
     Comma,

@@ -3,7 +3,7 @@
 /// How many words of 64 bits the general bytes take.
 const WORDS: usize = 6;
 
-#[derive(Clone, Copy, PartialEq, Eq, Debug)]
+#[derive(Clone, Copy, PartialEq, Eq)]
 pub struct Bits {
     words: [u64; 6],
 }

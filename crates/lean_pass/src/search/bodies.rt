@@ -17,7 +17,7 @@ use sym_code::{
 };
 
 /// Where the code goes on behind an instruction.
-#[derive(Clone, Copy, PartialEq, Eq, Debug)]
+#[derive(Clone, Copy, PartialEq, Eq)]
 pub enum Way {
     On,
     Label,
@@ -32,7 +32,7 @@ pub enum Way {
 }
 
 /// The numbers of bytes that stand side by side.
-#[derive(Clone, Copy, PartialEq, Eq, Debug)]
+#[derive(Clone, Copy, PartialEq, Eq)]
 pub struct Span {
     pub first: usize,
     pub end: usize,
@@ -64,7 +64,7 @@ pub struct Place {
 }
 
 /// W, flags and bytes: those that are read further on before they are written, or those that may differ.
-#[derive(Clone, Copy, PartialEq, Eq, Debug)]
+#[derive(Clone, Copy, PartialEq, Eq)]
 pub struct Live {
     pub bytes: Bits,
     pub w: bool,

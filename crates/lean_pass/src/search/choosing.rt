@@ -25,7 +25,7 @@ fn is_dead(effect: Effect, after: Live) -> bool {
 }
 
 /// What is looked for, one at a time: what is said of one kind rests on what the others did before.
-#[derive(Clone, Copy, PartialEq, Eq, Debug)]
+#[derive(Clone, Copy, PartialEq, Eq)]
 pub enum Aims {
     /// What writes nothing that is live.
     Dead,

@@ -11,7 +11,7 @@ use std::alloc::{AllocError, Global};
 const ROUNDS: usize = 16;
 
 /// Whether an operator on two values may be done on the low bytes.
-#[derive(Clone, Copy, PartialEq, Eq, Debug)]
+#[derive(Clone, Copy, PartialEq, Eq)]
 pub enum Able {
     Never,
     /// Where no more of the result is asked for.

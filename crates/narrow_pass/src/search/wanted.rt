@@ -13,7 +13,7 @@ use std::alloc::{AllocError, Global};
 const ROUNDS: usize = 16;
 
 // How much is asked of a byte.
-#[derive(Clone, Copy, PartialEq, Eq, Debug)]
+#[derive(Clone, Copy, PartialEq, Eq)]
 enum Asked {
     Nothing,
     // A condition tests the value that it is a byte of, or it is above the low byte of an operand that this stands for.
