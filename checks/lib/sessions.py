@@ -3,15 +3,16 @@ name that begins each printed line, and the pages.
 
 A session stands in an indented or fenced block. A line `$ COMMAND` is a command for the shell; where it ends in <<'WORD', the lines
 up to WORD belong to it. The lines after it are what it prints. `(status N)` as the last of them says that it ends with N, and
-without such a line it ends with 0. Each section, from one `## ` to the next, has a new folder with the folder examples/ and the
-program in it, so `./picc` and `picc` are the same there."""
+without such a line it ends with 0. Each section, from one `## ` to the next, has a new folder with the folders examples/ and crates/ and
+the program in it, so `./picc` and `picc` are the same there."""
 import os
 import re
 import subprocess
 import sys
 import tempfile
 
-SECONDS = 300
+# A run of the sources without a proof takes two minutes of a processor.
+SECONDS = 900
 
 
 class Command:
@@ -92,7 +93,8 @@ def environment(folder):
 
 def prepare(folder, top, picc):
     os.symlink(picc, os.path.join(folder, 'picc'))
-    os.symlink(os.path.join(top, 'examples'), os.path.join(folder, 'examples'))
+    for name in ('examples', 'crates'):
+        os.symlink(os.path.join(top, name), os.path.join(folder, name))
 
 
 def differs(command, folder):
