@@ -3,41 +3,41 @@ use Rattle.std.proofs.Common.{◌≡◌, ℕ, [], ◌∷◌, ◌++◌, Some, Non
 use Rattle.c_token.specs.declared.token.Keyword.TheVariants as words
 use Rattle.c_token.specs.declared.token.Punct.TheVariants.{LeftBracket, RightBracket, LeftParenthesis, RightParenthesis, LeftBrace, RightBrace, Question, Colon, Semicolon, Comma}
 use Rattle.c_token.specs.declared.token.Punct.TheVariants as marks
-use Rattle.c_tree.specs.Words.{Symbol, Symbols, key, punct, keyed, signed, named, flat, spell_constant, spell_pointers, spell_tag, type_named, spelled_comma}
-use Rattle.c_tree.specs.Trees.{Tree, DeclaratorTree, ParamTree, spelled, spelled_post, spelled_pre, spelled_type, spelled_specs, spelled_spec, spelled_member, spelled_declarator, spelled_suffix, spelled_param, EnumeratorTree, spelled_enumerator}
-use Rattle.c_tree.specs.Lists.{ChoiceParts}
-use Rattle.c_tree.specs.Views.{binary_of, operand_of, param_of, postfix_suffix_of, prefix_of, primary_of, spec_of, suffix_of, assign_of, choice_of, cond_of, declarator_of, member_of, next_assign_of, next_declarator_of, next_operand_of, next_param_of, specs_of, target_of, enumerator_of, next_enumerator_of}
+use Rattle.c_nodes.specs.Words.{Symbol, Symbols, key, punct, keyed, signed, named, flat, spell_constant, spell_pointers, spell_tag, type_named, spelled_comma}
+use Rattle.c_nodes.specs.Trees.{Tree, DeclaratorTree, ParamTree, spelled, spelled_post, spelled_pre, spelled_type, spelled_specs, spelled_spec, spelled_member, spelled_declarator, spelled_suffix, spelled_param, EnumeratorTree, spelled_enumerator}
+use Rattle.c_nodes.specs.Lists.{ChoiceParts}
+use Rattle.c_nodes.specs.Views.{binary_of, operand_of, param_of, postfix_suffix_of, prefix_of, primary_of, spec_of, suffix_of, assign_of, choice_of, cond_of, declarator_of, member_of, next_assign_of, next_declarator_of, next_operand_of, next_param_of, specs_of, target_of, enumerator_of, next_enumerator_of}
 use Rattle.c_tree.specs.Spelling.{spell_binary, spell_operand, spell_param, spell_postfix_suffix, spell_prefix, spell_primary, spell_spec, spell_suffix, spell_assign, spell_cast, spell_choice, spell_cond, spell_declarator, spell_expr, spell_member, spell_next_assign, spell_next_declarator, spell_next_operand, spell_next_param, spell_postfix, spell_specs, spell_struct_body, spell_target, spell_type_name, spell_enum_body, spell_enumerator, spell_next_enumerator}
 use Rattle.c_tree.proofs.Lists.{spelled_posted, spelled_joined, spelled_listed, spelled_prefixed, spelled_chosen, spelled_assigned, specs_listed, members_listed, declarators_listed, suffixes_listed, params_listed, enumerators_listed}
-use Rattle.c_tree.proofs.Shapes.{show_binary_operand, show_binary_chain, show_operand_postfix, show_operand_sizeof_type, show_param_named, show_param_unnamed, show_postfix_suffix_index, show_postfix_suffix_call_bare, show_postfix_suffix_call, show_postfix_suffix_member, show_postfix_suffix_step, show_prefix_operator, show_prefix_sizeof, show_prefix_cast, show_primary_name, show_primary_constant, show_primary_group, show_spec_word, show_spec_reference, show_spec_body, show_suffix_array_unsized, show_suffix_array, show_suffix_empty, show_suffix_void, show_suffix_params, show_assign, show_cast, show_choice, show_cond, show_declarator, show_expr, show_member, show_next_assign, show_next_declarator, show_next_operand, show_next_param, show_postfix, show_specs, show_struct_body, show_target, show_type_name, show_enumerator_bare, show_enumerator_valued, show_spec_type_name, show_spec_enum_reference, show_spec_enum_body, show_enum_body, show_next_enumerator}
-use Rattle.c_tree.specs.declared.expression.Assign.{Assign}
-use Rattle.c_tree.specs.declared.expression.Cast.{Cast}
-use Rattle.c_tree.specs.declared.expression.Choice.{Choice}
-use Rattle.c_tree.specs.declared.expression.Cond.{Cond}
-use Rattle.c_tree.specs.declared.expression.Declarator.{Declarator}
-use Rattle.c_tree.specs.declared.expression.EnumBody.{EnumBody}
-use Rattle.c_tree.specs.declared.expression.Expr.{Expr}
-use Rattle.c_tree.specs.declared.expression.Member.{Member}
-use Rattle.c_tree.specs.declared.expression.NextAssign.{NextAssign}
-use Rattle.c_tree.specs.declared.expression.NextDeclarator.{NextDeclarator}
-use Rattle.c_tree.specs.declared.expression.NextEnumerator.{NextEnumerator}
-use Rattle.c_tree.specs.declared.expression.NextOperand.{NextOperand}
-use Rattle.c_tree.specs.declared.expression.NextParam.{NextParam}
-use Rattle.c_tree.specs.declared.expression.Postfix.{Postfix}
-use Rattle.c_tree.specs.declared.expression.Specs.{Specs}
-use Rattle.c_tree.specs.declared.expression.StructBody.{StructBody}
-use Rattle.c_tree.specs.declared.expression.Target.{Target}
-use Rattle.c_tree.specs.declared.expression.TypeName.{TypeName}
-use Rattle.c_tree.specs.declared.expression.Binary.TheVariants as Binary
-use Rattle.c_tree.specs.declared.expression.Enumerator.TheVariants as Enumerator
-use Rattle.c_tree.specs.declared.expression.Operand.TheVariants as Operand
-use Rattle.c_tree.specs.declared.expression.Param.TheVariants as Param
-use Rattle.c_tree.specs.declared.expression.PostfixSuffix.TheVariants as PostfixSuffix
-use Rattle.c_tree.specs.declared.expression.Prefix.TheVariants as Prefix
-use Rattle.c_tree.specs.declared.expression.Primary.TheVariants as Primary
-use Rattle.c_tree.specs.declared.expression.Spec.TheVariants as Spec
-use Rattle.c_tree.specs.declared.expression.Suffix.TheVariants as Suffix
-use Rattle.c_tree.specs.declared.expression.Binary.TheViews.{out-Assign, out-Cast, out-Choice, out-Cond, out-Declarator, out-EnumBody, out-Expr, out-Member, out-NextAssign, out-NextDeclarator, out-NextEnumerator, out-NextOperand, out-NextParam, out-Postfix, out-Specs, out-StructBody, out-Target, out-TypeName}
+use Rattle.c_nodes.proofs.Shapes.{show_binary_operand, show_binary_chain, show_operand_postfix, show_operand_sizeof_type, show_param_named, show_param_unnamed, show_postfix_suffix_index, show_postfix_suffix_call_bare, show_postfix_suffix_call, show_postfix_suffix_member, show_postfix_suffix_step, show_prefix_operator, show_prefix_sizeof, show_prefix_cast, show_primary_name, show_primary_constant, show_primary_group, show_spec_word, show_spec_reference, show_spec_body, show_suffix_array_unsized, show_suffix_array, show_suffix_empty, show_suffix_void, show_suffix_params, show_assign, show_cast, show_choice, show_cond, show_declarator, show_expr, show_member, show_next_assign, show_next_declarator, show_next_operand, show_next_param, show_postfix, show_specs, show_struct_body, show_target, show_type_name, show_enumerator_bare, show_enumerator_valued, show_spec_type_name, show_spec_enum_reference, show_spec_enum_body, show_enum_body, show_next_enumerator}
+use Rattle.c_nodes.specs.declared.expression.Assign.{Assign}
+use Rattle.c_nodes.specs.declared.expression.Cast.{Cast}
+use Rattle.c_nodes.specs.declared.expression.Choice.{Choice}
+use Rattle.c_nodes.specs.declared.expression.Cond.{Cond}
+use Rattle.c_nodes.specs.declared.expression.Declarator.{Declarator}
+use Rattle.c_nodes.specs.declared.expression.EnumBody.{EnumBody}
+use Rattle.c_nodes.specs.declared.expression.Expr.{Expr}
+use Rattle.c_nodes.specs.declared.expression.Member.{Member}
+use Rattle.c_nodes.specs.declared.expression.NextAssign.{NextAssign}
+use Rattle.c_nodes.specs.declared.expression.NextDeclarator.{NextDeclarator}
+use Rattle.c_nodes.specs.declared.expression.NextEnumerator.{NextEnumerator}
+use Rattle.c_nodes.specs.declared.expression.NextOperand.{NextOperand}
+use Rattle.c_nodes.specs.declared.expression.NextParam.{NextParam}
+use Rattle.c_nodes.specs.declared.expression.Postfix.{Postfix}
+use Rattle.c_nodes.specs.declared.expression.Specs.{Specs}
+use Rattle.c_nodes.specs.declared.expression.StructBody.{StructBody}
+use Rattle.c_nodes.specs.declared.expression.Target.{Target}
+use Rattle.c_nodes.specs.declared.expression.TypeName.{TypeName}
+use Rattle.c_nodes.specs.declared.expression.Binary.TheVariants as Binary
+use Rattle.c_nodes.specs.declared.expression.Enumerator.TheVariants as Enumerator
+use Rattle.c_nodes.specs.declared.expression.Operand.TheVariants as Operand
+use Rattle.c_nodes.specs.declared.expression.Param.TheVariants as Param
+use Rattle.c_nodes.specs.declared.expression.PostfixSuffix.TheVariants as PostfixSuffix
+use Rattle.c_nodes.specs.declared.expression.Prefix.TheVariants as Prefix
+use Rattle.c_nodes.specs.declared.expression.Primary.TheVariants as Primary
+use Rattle.c_nodes.specs.declared.expression.Spec.TheVariants as Spec
+use Rattle.c_nodes.specs.declared.expression.Suffix.TheVariants as Suffix
+use Rattle.c_nodes.specs.declared.expression.Binary.TheViews.{out-Assign, out-Cast, out-Choice, out-Cond, out-Declarator, out-EnumBody, out-Expr, out-Member, out-NextAssign, out-NextDeclarator, out-NextEnumerator, out-NextOperand, out-NextParam, out-Postfix, out-Specs, out-StructBody, out-Target, out-TypeName}
 
 pub see_binary_operand : (operand : _) → spell_binary (Binary.Operand operand) ≡ spell_cast operand
 see_binary_operand operand = ap spelled (show_binary_operand operand)

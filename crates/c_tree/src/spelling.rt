@@ -3,15 +3,15 @@
 //! Each function puts the kinds of the tokens of one part after those that are there.
 
 ghost use Rattle.std.specs.Prelude.{◌≡◌, ◌++◌, IfOk, map};
-ghost use Rattle.c_tree.specs.Words.{kinds_of, flat, spell_pointers};
+ghost use Rattle.c_nodes.specs.Words.{kinds_of, flat, spell_pointers};
 ghost use Rattle.c_tree.specs.Spelling.{spell_assign, spell_binary, spell_cast, spell_choice, spell_cond, spell_declarator, spell_expr, spell_member, spell_next_assign, spell_next_declarator, spell_next_operand, spell_next_param, spell_operand, spell_param, spell_postfix, spell_postfix_suffix, spell_prefix, spell_primary, spell_spec, spell_specs, spell_enum_body, spell_enumerator, spell_next_enumerator, spell_struct_body, spell_suffix, spell_target, spell_type_name};
 
-use crate::expression::{
+use crate::marks::{comma, constant, name, pointers, punct, tag, type_name, word};
+use c_nodes::expression::{
     Assign, Binary, Cast, Choice, Cond, Declarator, EnumBody, Enumerator, Expr, Member, NextAssign,
     NextDeclarator, NextEnumerator, NextOperand, NextParam, Operand, Param, Postfix, PostfixSuffix,
     Prefix, Primary, Spec, Specs, StructBody, Suffix, Target, TypeName,
 };
-use crate::marks::{comma, constant, name, pointers, punct, tag, type_name, word};
 use c_token::{Keyword, Punct, TokKind};
 use std::alloc::AllocError;
 

@@ -5,7 +5,7 @@
 
 ghost use Rattle.std.specs.Prelude.{◌≡◌, ◌∷◌, [], map};
 ghost use Rattle.c_token.specs.declared.token.TokKind.TheVariants as kinds;
-ghost use Rattle.c_tree.specs.Views.{assign_of, binary_of, cast_of, choice_of, cond_of, expr_of, next_assign_of, next_operand_of, operand_of as tree_operand_of, postfix_of, postfix_suffix_of, primary_of, target_of};
+ghost use Rattle.c_nodes.specs.Views.{assign_of, binary_of, cast_of, choice_of, cond_of, expr_of, next_assign_of, next_operand_of, operand_of as tree_operand_of, postfix_of, postfix_suffix_of, primary_of, target_of};
 ghost use Rattle.type_rules.specs.Expressions as rule;
 ghost use Rattle.c_operate.specs.Answers.{Answers};
 ghost use Rattle.c_operate.specs.Tables.{known_of};
@@ -16,6 +16,11 @@ ghost use Rattle.check_expr.specs.Views.{unlisted};
 
 use crate::prefixes::{Applied, apply_prefix, listed};
 use crate::type_name::size_of_name;
+use c_nodes::expression::{
+    Assign, Binary, Cast, Choice, Cond, Expr, NextAssign, NextOperand, Operand as TreeOperand,
+    Postfix, PostfixSuffix, Primary, Target as TreeTarget,
+};
+use c_nodes::word::Sign;
 use c_operate::calls::{call, refuse_undefined};
 use c_operate::checker::Checker;
 use c_operate::error::CheckError;
@@ -25,11 +30,6 @@ use c_operate::primary::{constant_term, grouped, named};
 use c_operate::term::{Operand, Term, refuse_table, used};
 use c_operate::writes::{assignment, stepped};
 use c_token::Punct;
-use c_tree::expression::{
-    Assign, Binary, Cast, Choice, Cond, Expr, NextAssign, NextOperand, Operand as TreeOperand,
-    Postfix, PostfixSuffix, Primary, Target as TreeTarget,
-};
-use c_tree::word::Sign;
 use c_typed::StepOp;
 
 /// Assignments between commas.

@@ -1,10 +1,10 @@
 use Rattle.std.proofs.Common.{◌+◌, map, drop, ap}
 use Rattle.std.proofs.lemmas.Result.{err_from_is_err_and}
-use Rattle.c_tree.specs.Lists.{suffixes_of, more_members, more_params, more_enumerators}
-use Rattle.c_tree.specs.Views.{cond_of, declarator_of, member_of, next_declarator_of, next_param_of, param_of, spec_of, specs_of, struct_body_of, suffix_of, enumerator_of, next_enumerator_of}
-use Rattle.c_tree.specs.Words.{named, type_named, spell_pointers, spell_tag}
-use Rattle.c_tree.specs.declared.expression.Binary.TheViews.{out-Declarator, out-Member, out-NextDeclarator, out-NextParam, out-Specs, out-StructBody, out-EnumBody}
-use Rattle.c_tree.proofs.Shapes.{show_declarator, show_member, show_next_declarator, show_next_param, show_param_named, show_param_unnamed, show_spec_word, show_spec_reference, show_spec_body, show_spec_type_name, show_spec_enum_reference, show_spec_enum_body, show_enum_body, show_specs, show_struct_body, show_suffix_array, show_suffix_array_unsized, show_suffix_empty, show_suffix_params, show_suffix_void}
+use Rattle.c_nodes.specs.Lists.{suffixes_of, more_members, more_params, more_enumerators}
+use Rattle.c_nodes.specs.Views.{cond_of, declarator_of, member_of, next_declarator_of, next_param_of, param_of, spec_of, specs_of, struct_body_of, suffix_of, enumerator_of, next_enumerator_of}
+use Rattle.c_nodes.specs.Words.{named, type_named, spell_pointers, spell_tag}
+use Rattle.c_nodes.specs.declared.expression.Binary.TheViews.{out-Declarator, out-Member, out-NextDeclarator, out-NextParam, out-Specs, out-StructBody, out-EnumBody}
+use Rattle.c_nodes.proofs.Shapes.{show_declarator, show_member, show_next_declarator, show_next_param, show_param_named, show_param_unnamed, show_spec_word, show_spec_reference, show_spec_body, show_spec_type_name, show_spec_enum_reference, show_spec_enum_body, show_enum_body, show_specs, show_struct_body, show_suffix_array, show_suffix_array_unsized, show_suffix_empty, show_suffix_params, show_suffix_void}
 use Rattle.c_operate.specs.Tables.{known_of}
 use Rattle.type_rules.specs.Declarators.{members, spec_rule, specified}
 use Rattle.type_rules.specs.Faults as kind

@@ -1,9 +1,9 @@
 use Rattle.std.proofs.Common.{◌+◌, drop, map, Ok, refl, sym, ap, ◌∙◌}
 use Rattle.std.proofs.lemmas.Result.{err_from_is_err_and}
 use Rattle.c_token.specs.declared.token.TokKind.TheVariants as kinds
-use Rattle.c_tree.specs.Words.{signed, named, spell_constant}
-use Rattle.c_tree.specs.Views.{assign_of, binary_of, choice_of, cond_of, expr_of, next_assign_of, next_operand_of, operand_of as tree_operand_of, postfix_suffix_of, prefix_of, primary_of, target_of, type_name_of}
-use Rattle.c_tree.proofs.Shapes.{show_assign, show_binary_operand, show_binary_chain, show_cast, show_choice, show_cond, show_expr, show_next_assign, show_next_operand, show_operand_postfix, show_operand_sizeof_type, show_postfix, show_postfix_suffix_index, show_postfix_suffix_call_bare, show_postfix_suffix_call, show_postfix_suffix_member, show_postfix_suffix_step, show_primary_name, show_primary_constant, show_primary_group, show_target}
+use Rattle.c_nodes.specs.Words.{signed, named, spell_constant}
+use Rattle.c_nodes.specs.Views.{assign_of, binary_of, choice_of, cond_of, expr_of, next_assign_of, next_operand_of, operand_of as tree_operand_of, postfix_suffix_of, prefix_of, primary_of, target_of, type_name_of}
+use Rattle.c_nodes.proofs.Shapes.{show_assign, show_binary_operand, show_binary_chain, show_cast, show_choice, show_cond, show_expr, show_next_assign, show_next_operand, show_operand_postfix, show_operand_sizeof_type, show_postfix, show_postfix_suffix_index, show_postfix_suffix_call_bare, show_postfix_suffix_call, show_postfix_suffix_member, show_postfix_suffix_step, show_primary_name, show_primary_constant, show_primary_group, show_target}
 use Rattle.c_operate.specs.Tables.{known_of}
 use Rattle.c_operate.specs.Terms.{operand_of, term_of}
 use Rattle.check_expr.specs.Folds.{barely, sequenced_from, combined_from, arguments_from, arguments_read, sides_from, choices_from}
@@ -13,13 +13,13 @@ use Rattle.check_expr.proofs.Clauses.{judged_leaf, judged_group, behind_index, b
 use Rattle.check_expr.proofs.Folded.{judged_listed, judged_arguments, spread, spread_whole, judged_joined, judged_posted, judged_assigned, judged_chosen, judged_prefixed}
 use Rattle.check_expr.proofs.Runs.{unseen}
 use Rattle.check_expr.proofs.Signs.{alone}
-use Rattle.c_tree.specs.Lists.{posted, prefixed, joined, listed, chosen, assigned}
-use Rattle.c_tree.specs.Trees as tree
+use Rattle.c_nodes.specs.Lists.{posted, prefixed, joined, listed, chosen, assigned}
+use Rattle.c_nodes.specs.Trees as tree
 use Rattle.type_rules.specs.Expressions.{judged, judged_behind, bracketed, selected}
 use Rattle.type_rules.specs.Known.{given}
 use Rattle.type_rules.specs.Writes.{stepped, call}
-use Rattle.c_tree.specs.declared.expression.PostfixSuffix.TheVariants as PostfixSuffix
-use Rattle.c_tree.specs.declared.expression.Binary.TheViews.{out-Assign, out-Cast, out-Choice, out-Cond, out-Expr, out-NextOperand, out-Postfix}
+use Rattle.c_nodes.specs.declared.expression.PostfixSuffix.TheVariants as PostfixSuffix
+use Rattle.c_nodes.specs.declared.expression.Binary.TheViews.{out-Assign, out-Cast, out-Choice, out-Cond, out-Expr, out-NextOperand, out-Postfix}
 use Rattle.check_expr.proofs.expression.+expression.Goals as goal
 
 pub assigned-returns-in_err-targets : goal.assigned-returns-in_err-targets

@@ -1,9 +1,9 @@
 use Rattle.std.proofs.Common.{◌+◌, map, drop}
 use Rattle.std.proofs.lemmas.Result.{err_from_is_err_and}
-use Rattle.c_tree.specs.Views.{spec_of, specs_of, type_name_of}
-use Rattle.c_tree.specs.Words.{spell_pointers}
-use Rattle.c_tree.specs.declared.expression.Binary.TheViews.{out-TypeName, out-Specs}
-use Rattle.c_tree.proofs.Shapes.{show_type_name, show_specs}
+use Rattle.c_nodes.specs.Views.{spec_of, specs_of, type_name_of}
+use Rattle.c_nodes.specs.Words.{spell_pointers}
+use Rattle.c_nodes.specs.declared.expression.Binary.TheViews.{out-TypeName, out-Specs}
+use Rattle.c_nodes.proofs.Shapes.{show_type_name, show_specs}
 use Rattle.c_operate.specs.Tables.{known_of}
 use Rattle.type_rules.specs.Specifiers.{OfTypeName, nothing_gathered, specifiers, specs_line}
 use Rattle.type_rules.specs.TypeNames.{named_spec, type_named}

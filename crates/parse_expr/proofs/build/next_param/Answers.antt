@@ -1,4 +1,4 @@
-use Rattle.c_tree.proofs.Shapes.{made_next_param}
+use Rattle.c_nodes.proofs.Shapes.{made_next_param}
 use Rattle.parse_expr.proofs.build.next_param.Goals as goal
 
 pub returns : goal.returns

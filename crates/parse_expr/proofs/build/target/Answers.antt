@@ -1,4 +1,4 @@
-use Rattle.c_tree.proofs.Shapes.{made_target}
+use Rattle.c_nodes.proofs.Shapes.{made_target}
 use Rattle.parse_expr.proofs.build.target.Goals as goal
 
 pub returns : goal.returns

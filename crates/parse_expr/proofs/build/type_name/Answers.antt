@@ -1,4 +1,4 @@
-use Rattle.c_tree.proofs.Shapes.{made_type_name}
+use Rattle.c_nodes.proofs.Shapes.{made_type_name}
 use Rattle.parse_expr.proofs.build.type_name.Goals as goal
 
 pub returns : goal.returns

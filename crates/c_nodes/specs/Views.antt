@@ -1,38 +1,38 @@
 -- The trees that the code has, as pure data.
 use Rattle.std.specs.Prelude.{ℕ, Some, None}
-use Rattle.c_tree.specs.Words.{Symbol, keyed, signed, named, type_named, spell_constant, spell_pointers, spell_tag}
-use Rattle.c_tree.specs.Trees as tree
-use Rattle.c_tree.specs.Trees.{Tree, Post, Pre, TypeTree, SpecTrees, SpecTree, MemberTree, DeclaratorTree, SuffixTree, ParamTree, EnumeratorTree}
-use Rattle.c_tree.specs.Lists.{posted, prefixed, joined, listed, ChoiceParts, chosen, assigned, more_specs, more_members, more_declarators, suffixes_of, more_params, more_enumerators}
-use Rattle.c_tree.specs.declared.expression.Binary.{Binary}
-use Rattle.c_tree.specs.declared.expression.Enumerator.{Enumerator}
-use Rattle.c_tree.specs.declared.expression.Operand.{Operand}
-use Rattle.c_tree.specs.declared.expression.Param.{Param}
-use Rattle.c_tree.specs.declared.expression.PostfixSuffix.{PostfixSuffix}
-use Rattle.c_tree.specs.declared.expression.Prefix.{Prefix}
-use Rattle.c_tree.specs.declared.expression.Primary.{Primary}
-use Rattle.c_tree.specs.declared.expression.Spec.{Spec}
-use Rattle.c_tree.specs.declared.expression.Suffix.{Suffix}
-use Rattle.c_tree.specs.declared.expression.Assign.{Assign}
-use Rattle.c_tree.specs.declared.expression.Cast.{Cast}
-use Rattle.c_tree.specs.declared.expression.Choice.{Choice}
-use Rattle.c_tree.specs.declared.expression.Cond.{Cond}
-use Rattle.c_tree.specs.declared.expression.Declarator.{Declarator}
-use Rattle.c_tree.specs.declared.expression.EnumBody.{EnumBody}
-use Rattle.c_tree.specs.declared.expression.Expr.{Expr}
-use Rattle.c_tree.specs.declared.expression.Member.{Member}
-use Rattle.c_tree.specs.declared.expression.NextAssign.{NextAssign}
-use Rattle.c_tree.specs.declared.expression.NextDeclarator.{NextDeclarator}
-use Rattle.c_tree.specs.declared.expression.NextEnumerator.{NextEnumerator}
-use Rattle.c_tree.specs.declared.expression.NextOperand.{NextOperand}
-use Rattle.c_tree.specs.declared.expression.NextParam.{NextParam}
-use Rattle.c_tree.specs.declared.expression.Postfix.{Postfix}
-use Rattle.c_tree.specs.declared.expression.Specs.{Specs}
-use Rattle.c_tree.specs.declared.expression.StructBody.{StructBody}
-use Rattle.c_tree.specs.declared.expression.Target.{Target}
-use Rattle.c_tree.specs.declared.expression.TypeName.{TypeName}
-use Rattle.c_tree.specs.declared.expression.Binary.TheOpen as Open
-use Rattle.c_tree.specs.declared.expression.Binary.TheFolds.{fold-Binary, fold-Enumerator, fold-Operand, fold-Param, fold-PostfixSuffix, fold-Prefix, fold-Primary, fold-Spec, fold-Suffix, fold-Assign, fold-Cast, fold-Choice, fold-Cond, fold-Declarator, fold-EnumBody, fold-Expr, fold-Member, fold-NextAssign, fold-NextDeclarator, fold-NextEnumerator, fold-NextOperand, fold-NextParam, fold-Postfix, fold-Specs, fold-StructBody, fold-Target, fold-TypeName}
+use Rattle.c_nodes.specs.Words.{Symbol, keyed, signed, named, type_named, spell_constant, spell_pointers, spell_tag}
+use Rattle.c_nodes.specs.Trees as tree
+use Rattle.c_nodes.specs.Trees.{Tree, Post, Pre, TypeTree, SpecTrees, SpecTree, MemberTree, DeclaratorTree, SuffixTree, ParamTree, EnumeratorTree}
+use Rattle.c_nodes.specs.Lists.{posted, prefixed, joined, listed, ChoiceParts, chosen, assigned, more_specs, more_members, more_declarators, suffixes_of, more_params, more_enumerators}
+use Rattle.c_nodes.specs.declared.expression.Binary.{Binary}
+use Rattle.c_nodes.specs.declared.expression.Enumerator.{Enumerator}
+use Rattle.c_nodes.specs.declared.expression.Operand.{Operand}
+use Rattle.c_nodes.specs.declared.expression.Param.{Param}
+use Rattle.c_nodes.specs.declared.expression.PostfixSuffix.{PostfixSuffix}
+use Rattle.c_nodes.specs.declared.expression.Prefix.{Prefix}
+use Rattle.c_nodes.specs.declared.expression.Primary.{Primary}
+use Rattle.c_nodes.specs.declared.expression.Spec.{Spec}
+use Rattle.c_nodes.specs.declared.expression.Suffix.{Suffix}
+use Rattle.c_nodes.specs.declared.expression.Assign.{Assign}
+use Rattle.c_nodes.specs.declared.expression.Cast.{Cast}
+use Rattle.c_nodes.specs.declared.expression.Choice.{Choice}
+use Rattle.c_nodes.specs.declared.expression.Cond.{Cond}
+use Rattle.c_nodes.specs.declared.expression.Declarator.{Declarator}
+use Rattle.c_nodes.specs.declared.expression.EnumBody.{EnumBody}
+use Rattle.c_nodes.specs.declared.expression.Expr.{Expr}
+use Rattle.c_nodes.specs.declared.expression.Member.{Member}
+use Rattle.c_nodes.specs.declared.expression.NextAssign.{NextAssign}
+use Rattle.c_nodes.specs.declared.expression.NextDeclarator.{NextDeclarator}
+use Rattle.c_nodes.specs.declared.expression.NextEnumerator.{NextEnumerator}
+use Rattle.c_nodes.specs.declared.expression.NextOperand.{NextOperand}
+use Rattle.c_nodes.specs.declared.expression.NextParam.{NextParam}
+use Rattle.c_nodes.specs.declared.expression.Postfix.{Postfix}
+use Rattle.c_nodes.specs.declared.expression.Specs.{Specs}
+use Rattle.c_nodes.specs.declared.expression.StructBody.{StructBody}
+use Rattle.c_nodes.specs.declared.expression.Target.{Target}
+use Rattle.c_nodes.specs.declared.expression.TypeName.{TypeName}
+use Rattle.c_nodes.specs.declared.expression.Binary.TheOpen as Open
+use Rattle.c_nodes.specs.declared.expression.Binary.TheFolds.{fold-Binary, fold-Enumerator, fold-Operand, fold-Param, fold-PostfixSuffix, fold-Prefix, fold-Primary, fold-Spec, fold-Suffix, fold-Assign, fold-Cast, fold-Choice, fold-Cond, fold-Declarator, fold-EnumBody, fold-Expr, fold-Member, fold-NextAssign, fold-NextDeclarator, fold-NextEnumerator, fold-NextOperand, fold-NextParam, fold-Postfix, fold-Specs, fold-StructBody, fold-Target, fold-TypeName}
 
 -- One layer of a tree, with the pure data of each part in the place of that part.
 abbrev pub LayerBinary : Type 0

@@ -1,40 +1,40 @@
 -- What each tree of the code is as pure data.
 use Rattle.std.proofs.Common.{◌≡◌, ℕ, Some, None, map, sym, ap, ◌∙◌}
-use Rattle.c_tree.specs.Words.{Symbol, keyed, signed, named, type_named, spell_constant, spell_pointers, spell_tag}
-use Rattle.c_tree.specs.Trees as tree
-use Rattle.c_tree.specs.Trees.{Tree, Post, Pre, TypeTree, SpecTrees, SpecTree, MemberTree, DeclaratorTree, SuffixTree, ParamTree, EnumeratorTree}
-use Rattle.c_tree.specs.Lists.{posted, prefixed, joined, listed, ChoiceParts, chosen, assigned, more_specs, more_members, more_declarators, suffixes_of, more_params, more_enumerators}
-use Rattle.c_tree.specs.Views.{binary_of, enumerator_of, operand_of, param_of, postfix_suffix_of, prefix_of, primary_of, spec_of, suffix_of, assign_of, cast_of, choice_of, cond_of, declarator_of, enum_body_of, expr_of, member_of, next_assign_of, next_declarator_of, next_enumerator_of, next_operand_of, next_param_of, postfix_of, specs_of, struct_body_of, target_of, type_name_of, binary_step, enumerator_step, operand_step, param_step, postfix_suffix_step, prefix_step, primary_step, spec_step, suffix_step, assign_step, cast_step, choice_step, cond_step, declarator_step, enum_body_step, expr_step, member_step, next_assign_step, next_declarator_step, next_enumerator_step, next_operand_step, next_param_step, postfix_step, specs_step, struct_body_step, target_step, type_name_step}
-use Rattle.c_tree.specs.declared.expression.Assign.{Assign}
-use Rattle.c_tree.specs.declared.expression.Cast.{Cast}
-use Rattle.c_tree.specs.declared.expression.Choice.{Choice}
-use Rattle.c_tree.specs.declared.expression.Cond.{Cond}
-use Rattle.c_tree.specs.declared.expression.Declarator.{Declarator}
-use Rattle.c_tree.specs.declared.expression.EnumBody.{EnumBody}
-use Rattle.c_tree.specs.declared.expression.Expr.{Expr}
-use Rattle.c_tree.specs.declared.expression.Member.{Member}
-use Rattle.c_tree.specs.declared.expression.NextAssign.{NextAssign}
-use Rattle.c_tree.specs.declared.expression.NextDeclarator.{NextDeclarator}
-use Rattle.c_tree.specs.declared.expression.NextEnumerator.{NextEnumerator}
-use Rattle.c_tree.specs.declared.expression.NextOperand.{NextOperand}
-use Rattle.c_tree.specs.declared.expression.NextParam.{NextParam}
-use Rattle.c_tree.specs.declared.expression.Postfix.{Postfix}
-use Rattle.c_tree.specs.declared.expression.Specs.{Specs}
-use Rattle.c_tree.specs.declared.expression.StructBody.{StructBody}
-use Rattle.c_tree.specs.declared.expression.Target.{Target}
-use Rattle.c_tree.specs.declared.expression.TypeName.{TypeName}
-use Rattle.c_tree.specs.declared.expression.Binary.TheVariants as Binary
-use Rattle.c_tree.specs.declared.expression.Enumerator.TheVariants as Enumerator
-use Rattle.c_tree.specs.declared.expression.Operand.TheVariants as Operand
-use Rattle.c_tree.specs.declared.expression.Param.TheVariants as Param
-use Rattle.c_tree.specs.declared.expression.PostfixSuffix.TheVariants as PostfixSuffix
-use Rattle.c_tree.specs.declared.expression.Prefix.TheVariants as Prefix
-use Rattle.c_tree.specs.declared.expression.Primary.TheVariants as Primary
-use Rattle.c_tree.specs.declared.expression.Spec.TheVariants as Spec
-use Rattle.c_tree.specs.declared.expression.Suffix.TheVariants as Suffix
-use Rattle.c_tree.specs.declared.expression.Binary.TheOpen as Open
-use Rattle.c_tree.specs.declared.expression.Binary.TheViews.{out-Assign, out-Cast, out-Choice, out-Cond, out-Declarator, out-EnumBody, out-Expr, out-Member, out-NextAssign, out-NextDeclarator, out-NextEnumerator, out-NextOperand, out-NextParam, out-Postfix, out-Specs, out-StructBody, out-Target, out-TypeName, roll-Assign, roll-Cast, roll-Choice, roll-Cond, roll-Declarator, roll-EnumBody, roll-Expr, roll-Member, roll-NextAssign, roll-NextDeclarator, roll-NextEnumerator, roll-NextOperand, roll-NextParam, roll-Postfix, roll-Specs, roll-StructBody, roll-Target, roll-TypeName}
-use Rattle.c_tree.specs.declared.expression.Binary.TheFolds.{fold-Binary, fold-roll-Binary, fold-Enumerator, fold-roll-Enumerator, fold-Operand, fold-roll-Operand, fold-Param, fold-roll-Param, fold-PostfixSuffix, fold-roll-PostfixSuffix, fold-Prefix, fold-roll-Prefix, fold-Primary, fold-roll-Primary, fold-Spec, fold-roll-Spec, fold-Suffix, fold-roll-Suffix, fold-roll-Assign, fold_out-Assign, fold-roll-Cast, fold_out-Cast, fold-roll-Choice, fold_out-Choice, fold-roll-Cond, fold_out-Cond, fold-roll-Declarator, fold_out-Declarator, fold-roll-EnumBody, fold_out-EnumBody, fold-roll-Expr, fold_out-Expr, fold-roll-Member, fold_out-Member, fold-roll-NextAssign, fold_out-NextAssign, fold-roll-NextDeclarator, fold_out-NextDeclarator, fold-roll-NextEnumerator, fold_out-NextEnumerator, fold-roll-NextOperand, fold_out-NextOperand, fold-roll-NextParam, fold_out-NextParam, fold-roll-Postfix, fold_out-Postfix, fold-roll-Specs, fold_out-Specs, fold-roll-StructBody, fold_out-StructBody, fold-roll-Target, fold_out-Target, fold-roll-TypeName, fold_out-TypeName}
+use Rattle.c_nodes.specs.Words.{Symbol, keyed, signed, named, type_named, spell_constant, spell_pointers, spell_tag}
+use Rattle.c_nodes.specs.Trees as tree
+use Rattle.c_nodes.specs.Trees.{Tree, Post, Pre, TypeTree, SpecTrees, SpecTree, MemberTree, DeclaratorTree, SuffixTree, ParamTree, EnumeratorTree}
+use Rattle.c_nodes.specs.Lists.{posted, prefixed, joined, listed, ChoiceParts, chosen, assigned, more_specs, more_members, more_declarators, suffixes_of, more_params, more_enumerators}
+use Rattle.c_nodes.specs.Views.{binary_of, enumerator_of, operand_of, param_of, postfix_suffix_of, prefix_of, primary_of, spec_of, suffix_of, assign_of, cast_of, choice_of, cond_of, declarator_of, enum_body_of, expr_of, member_of, next_assign_of, next_declarator_of, next_enumerator_of, next_operand_of, next_param_of, postfix_of, specs_of, struct_body_of, target_of, type_name_of, binary_step, enumerator_step, operand_step, param_step, postfix_suffix_step, prefix_step, primary_step, spec_step, suffix_step, assign_step, cast_step, choice_step, cond_step, declarator_step, enum_body_step, expr_step, member_step, next_assign_step, next_declarator_step, next_enumerator_step, next_operand_step, next_param_step, postfix_step, specs_step, struct_body_step, target_step, type_name_step}
+use Rattle.c_nodes.specs.declared.expression.Assign.{Assign}
+use Rattle.c_nodes.specs.declared.expression.Cast.{Cast}
+use Rattle.c_nodes.specs.declared.expression.Choice.{Choice}
+use Rattle.c_nodes.specs.declared.expression.Cond.{Cond}
+use Rattle.c_nodes.specs.declared.expression.Declarator.{Declarator}
+use Rattle.c_nodes.specs.declared.expression.EnumBody.{EnumBody}
+use Rattle.c_nodes.specs.declared.expression.Expr.{Expr}
+use Rattle.c_nodes.specs.declared.expression.Member.{Member}
+use Rattle.c_nodes.specs.declared.expression.NextAssign.{NextAssign}
+use Rattle.c_nodes.specs.declared.expression.NextDeclarator.{NextDeclarator}
+use Rattle.c_nodes.specs.declared.expression.NextEnumerator.{NextEnumerator}
+use Rattle.c_nodes.specs.declared.expression.NextOperand.{NextOperand}
+use Rattle.c_nodes.specs.declared.expression.NextParam.{NextParam}
+use Rattle.c_nodes.specs.declared.expression.Postfix.{Postfix}
+use Rattle.c_nodes.specs.declared.expression.Specs.{Specs}
+use Rattle.c_nodes.specs.declared.expression.StructBody.{StructBody}
+use Rattle.c_nodes.specs.declared.expression.Target.{Target}
+use Rattle.c_nodes.specs.declared.expression.TypeName.{TypeName}
+use Rattle.c_nodes.specs.declared.expression.Binary.TheVariants as Binary
+use Rattle.c_nodes.specs.declared.expression.Enumerator.TheVariants as Enumerator
+use Rattle.c_nodes.specs.declared.expression.Operand.TheVariants as Operand
+use Rattle.c_nodes.specs.declared.expression.Param.TheVariants as Param
+use Rattle.c_nodes.specs.declared.expression.PostfixSuffix.TheVariants as PostfixSuffix
+use Rattle.c_nodes.specs.declared.expression.Prefix.TheVariants as Prefix
+use Rattle.c_nodes.specs.declared.expression.Primary.TheVariants as Primary
+use Rattle.c_nodes.specs.declared.expression.Spec.TheVariants as Spec
+use Rattle.c_nodes.specs.declared.expression.Suffix.TheVariants as Suffix
+use Rattle.c_nodes.specs.declared.expression.Binary.TheOpen as Open
+use Rattle.c_nodes.specs.declared.expression.Binary.TheViews.{out-Assign, out-Cast, out-Choice, out-Cond, out-Declarator, out-EnumBody, out-Expr, out-Member, out-NextAssign, out-NextDeclarator, out-NextEnumerator, out-NextOperand, out-NextParam, out-Postfix, out-Specs, out-StructBody, out-Target, out-TypeName, roll-Assign, roll-Cast, roll-Choice, roll-Cond, roll-Declarator, roll-EnumBody, roll-Expr, roll-Member, roll-NextAssign, roll-NextDeclarator, roll-NextEnumerator, roll-NextOperand, roll-NextParam, roll-Postfix, roll-Specs, roll-StructBody, roll-Target, roll-TypeName}
+use Rattle.c_nodes.specs.declared.expression.Binary.TheFolds.{fold-Binary, fold-roll-Binary, fold-Enumerator, fold-roll-Enumerator, fold-Operand, fold-roll-Operand, fold-Param, fold-roll-Param, fold-PostfixSuffix, fold-roll-PostfixSuffix, fold-Prefix, fold-roll-Prefix, fold-Primary, fold-roll-Primary, fold-Spec, fold-roll-Spec, fold-Suffix, fold-roll-Suffix, fold-roll-Assign, fold_out-Assign, fold-roll-Cast, fold_out-Cast, fold-roll-Choice, fold_out-Choice, fold-roll-Cond, fold_out-Cond, fold-roll-Declarator, fold_out-Declarator, fold-roll-EnumBody, fold_out-EnumBody, fold-roll-Expr, fold_out-Expr, fold-roll-Member, fold_out-Member, fold-roll-NextAssign, fold_out-NextAssign, fold-roll-NextDeclarator, fold_out-NextDeclarator, fold-roll-NextEnumerator, fold_out-NextEnumerator, fold-roll-NextOperand, fold_out-NextOperand, fold-roll-NextParam, fold_out-NextParam, fold-roll-Postfix, fold_out-Postfix, fold-roll-Specs, fold_out-Specs, fold-roll-StructBody, fold_out-StructBody, fold-roll-Target, fold_out-Target, fold-roll-TypeName, fold_out-TypeName}
 
 pub show_binary_operand : (operand : _) → binary_of (Binary.Operand operand) ≡ cast_of operand
 unfolding binary_of enumerator_of operand_of param_of postfix_suffix_of prefix_of primary_of spec_of suffix_of assign_of cast_of choice_of cond_of declarator_of enum_body_of expr_of member_of next_assign_of next_declarator_of next_enumerator_of next_operand_of next_param_of postfix_of specs_of struct_body_of target_of type_name_of
