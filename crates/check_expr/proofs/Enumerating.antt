@@ -7,9 +7,8 @@ use Rattle.c_ints.specs.Quantity.{Quantity}
 use Rattle.c_nodes.specs.Lists.{more_enumerators}
 use Rattle.c_nodes.specs.Trees as tree
 use Rattle.c_nodes.specs.Trees.{Tree, SpecTree, EnumeratorTree}
-use Rattle.c_nodes.specs.Views.{next_enumerator_of}
+use Rattle.c_nodes.specs.Views.{next_enumerator_of, NextEnumerator}
 use Rattle.c_nodes.specs.Words.{Symbol, Symbols}
-use Rattle.c_nodes.specs.declared.expression.NextEnumerator.{NextEnumerator}
 use Rattle.c_operate.specs.Answers.{Refuses, Learns}
 use Rattle.c_operate.specs.declared.error.CheckError.{CheckError}
 use Rattle.c_operate.specs.declared.error.CheckError.TheVariants as errors

@@ -209,7 +209,7 @@ fn members(member: &Member, checker: &mut Checker, structure: usize) -> Result<(
     let specified = specified(&member.specs, checker, MEMBER)?;
     field(&member.first, checker, structure, specified)?;
     for next in &member.others {
-        field(&next.declarator, checker, structure, specified)?;
+        field(&next.1, checker, structure, specified)?;
     }
     Ok(())
 }
@@ -292,7 +292,7 @@ fn params(
     ensures { Lists result (map views.param_of list.new.params.items) (known_of checker.new) (rule.more_params (more_params (map next_param_of others.now)) bodies (map views.param_of list.old.params.items) (known_of checker.old)) }
 {
     for next in others {
-        param(&next.param, checker, bodies, list)?;
+        param(&next.1, checker, bodies, list)?;
     }
     Ok(())
 }

@@ -79,7 +79,7 @@ fn enumerators(
 {
     let mut next = next;
     for other in others {
-        next = enumerator(&other.enumerator, checker, next)?;
+        next = enumerator(&other.1, checker, next)?;
     }
     Ok(next)
 }

@@ -49,7 +49,7 @@ fn sequence(others: &[NextAssign], checker: &mut Checker, first: Term) -> Result
     let mut left = first;
     for next in others {
         let dropped = used(left, checker)?;
-        let right = assigned(&next.assign, checker)?;
+        let right = assigned(&next.1, checker)?;
         let right = used(right, checker)?;
         left = sequenced(checker.alloc, dropped, right)?;
     }
@@ -87,11 +87,11 @@ fn places(targets: &[TreeTarget], checker: &mut Checker) -> Result<Vec<Target>, 
 {
     let mut places = Vec::new(checker.alloc);
     for target in targets {
-        let term = cast(&target.place, checker)?;
+        let term = cast(&target.0, checker)?;
         refuse_table(&term)?;
         places.push(Target {
             term,
-            sign: target.operator,
+            sign: target.1,
         })?;
     }
     Ok(places)
@@ -180,15 +180,9 @@ fn chain(others: &[NextOperand], checker: &mut Checker, first: Term) -> Result<T
     let mut left = first;
     for next in others {
         let a = used(left, checker)?;
-        let b = operands(&next.operand, checker)?;
+        let b = operands(&next.1, checker)?;
         let b = used(b, checker)?;
-        left = combined(
-            checker.alloc,
-            &checker.types,
-            next.operator.sign.punct,
-            a,
-            b,
-        )?;
+        left = combined(checker.alloc, &checker.types, next.0.sign.punct, a, b)?;
     }
     Ok(left)
 }
@@ -347,7 +341,7 @@ fn further_arguments(
     let mut arguments = Vec::new(checker.alloc);
     arguments.push(first)?;
     for next in others {
-        let argument = assigned(&next.assign, checker)?;
+        let argument = assigned(&next.1, checker)?;
         arguments.push(used(argument, checker)?)?;
     }
     Ok(arguments)

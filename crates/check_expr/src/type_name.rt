@@ -163,16 +163,16 @@ pub(crate) fn pointers(
 pub(crate) fn type_named(name: &TypeName, checker: &mut Checker) -> Result<Qualified, CheckError>
     ensures { Answers (λ ty. ty) result (known_of checker.new) (rule.type_named (type_name_of name.now) (known_of checker.old)) }
 {
-    let mut words = type_word(&name.specs.first, checker, Words::none())?;
-    for spec in &name.specs.others {
+    let mut words = type_word(&name.0.first, checker, Words::none())?;
+    for spec in &name.0.others {
         words = type_word(spec, checker, words)?;
     }
     let in_file = checker.scopes.is_file();
-    let base = words.finished(Site::TypeName, in_file, line_of(&name.specs))?;
+    let base = words.finished(Site::TypeName, in_file, line_of(&name.0))?;
     if base.incomplete {
         return refused(Kind::Incomplete, base.line);
     }
-    pointers(&name.pointers, checker, base.ty)
+    pointers(&name.1, checker, base.ty)
 }
 
 /// `sizeof` of the name of a type; `line` is that of the keyword.

@@ -55,11 +55,10 @@ pub fn expr(first: Assign, others: Vec<NextAssign>) -> Expr
 }
 
 /// A comma, and the assignment expression after it (ISO/IEC 9899:1990, 6.3.17).
-#[tactic(auto, using(c_nodes::proofs::Shapes::made_next_assign))]
 pub fn next_assign(comma: u32, assign: Assign) -> NextAssign
     ensures { next_assign_of result ≡ (comma, assign_of assign) }
 {
-    NextAssign { comma, assign }
+    (comma, assign)
 }
 
 /// `value`, and the left sides that it is assigned to, the outermost first; without any it is `value` alone
@@ -72,11 +71,10 @@ pub fn assign(targets: Vec<Target>, value: Cond) -> Assign
 }
 
 /// The left side of an assignment, and its operator (ISO/IEC 9899:1990, 6.3.16).
-#[tactic(auto, using(c_nodes::proofs::Shapes::made_target))]
 pub fn target(place: Cast, operator: Sign) -> Target
     ensures { target_of result ≡ (cast_of place, signed operator) }
 {
-    Target { place, operator }
+    (place, operator)
 }
 
 /// Choices by `?` and `:`, the outermost first, and the operand after the last `:`; without any it is `last`
@@ -129,11 +127,10 @@ pub fn chain(alloc: Global, first: Binary, others: Vec<NextOperand>) -> Result<B
 }
 
 /// A binary operator, and the operand on its right (ISO/IEC 9899:1990, 6.3.5 to 6.3.14).
-#[tactic(auto, using(c_nodes::proofs::Shapes::made_next_operand))]
 pub fn next_operand(operator: Infix, operand: Binary) -> NextOperand
     ensures { next_operand_of result ≡ (signed operator.sign, binary_of operand) }
 {
-    NextOperand { operator, operand }
+    (operator, operand)
 }
 
 /// An operand with its prefixes, the outermost first (ISO/IEC 9899:1990, 6.3.3 and 6.3.4).
@@ -279,11 +276,10 @@ pub fn step(operator: Sign) -> PostfixSuffix
 }
 
 /// The name of a type: specifiers, and any number of `*` (ISO/IEC 9899:1990, 6.5.5).
-#[tactic(auto, using(c_nodes::proofs::Shapes::made_type_name))]
 pub fn type_name(specs: Specs, pointers: Vec<Pointer>) -> TypeName
     ensures { type_name_of result ≡ tree.TypeOf (specs_of specs) (spell_pointers pointers.items) }
 {
-    TypeName { specs, pointers }
+    (specs, pointers)
 }
 
 /// The specifiers of a declaration, at least one (ISO/IEC 9899:1990, 6.5).
@@ -345,11 +341,10 @@ pub fn enum_body(
 }
 
 /// A comma, and the enumerator after it (ISO/IEC 9899:1990, 6.5.2.2).
-#[tactic(auto, using(c_nodes::proofs::Shapes::made_next_enumerator))]
 pub fn next_enumerator(comma: u32, enumerator: Enumerator) -> NextEnumerator
     ensures { next_enumerator_of result ≡ (comma, enumerator_of enumerator) }
 {
-    NextEnumerator { comma, enumerator }
+    (comma, enumerator)
 }
 
 /// An enumerator without a value (ISO/IEC 9899:1990, 6.5.2.2).
@@ -424,11 +419,10 @@ pub fn member(
 }
 
 /// A comma, and the declarator of a member after it (ISO/IEC 9899:1990, 6.5.2.1).
-#[tactic(auto, using(c_nodes::proofs::Shapes::made_next_declarator))]
 pub fn next_declarator(comma: u32, declarator: Declarator) -> NextDeclarator
     ensures { next_declarator_of result ≡ (comma, declarator_of declarator) }
 {
-    NextDeclarator { comma, declarator }
+    (comma, declarator)
 }
 
 /// A declarator: any number of `*`, the name, and the suffixes in the order of the text (ISO/IEC 9899:1990,
@@ -511,11 +505,10 @@ pub fn params(
 }
 
 /// A comma, and the parameter after it (ISO/IEC 9899:1990, 6.5.4.3).
-#[tactic(auto, using(c_nodes::proofs::Shapes::made_next_param))]
 pub fn next_param(comma: u32, param: Param) -> NextParam
     ensures { next_param_of result ≡ (comma, param_of param) }
 {
-    NextParam { comma, param }
+    (comma, param)
 }
 
 /// A parameter with a name (ISO/IEC 9899:1990, 6.5.4.3).
