@@ -33,7 +33,7 @@ use crate::known::Front;
 use crate::refusal::{CompileError, LimitKind, Refusal, limit};
 use c_check::{Typed, check};
 use c_nodes::statement::Unit;
-use c_parse::{mark, parse};
+use c_parse::{let_go, mark, parse};
 use c_pre::tokens;
 use c_token::{Tok, raw};
 use call_graph::{Copies, FnCopy, FnId, copies};
@@ -83,7 +83,9 @@ fn typed_of(alloc: Global, text: &[u8]) -> Result<Typed, CompileError>
     ensures long { 262144 < length text.now → result ≡ Err (Refused (refusals.Limit kinds.Text 0)) }
 {
     let unit = tree_of(alloc, text)?;
-    Ok(check(alloc, &unit)?)
+    let typed = check(alloc, &unit);
+    let_go(unit);
+    Ok(typed?)
 }
 
 /// The copies of a typed program, or the first refusal of it up to its return stack.
