@@ -1,4 +1,4 @@
-"""Reads C texts of the subset by themselves, and makes of each the tree that c_tree's definitions have (specs/Trees.antt and
+"""Reads C texts of the subset by themselves, and makes of each the tree that c_nodes's definitions have (specs/Trees.antt and
 Programs.antt), as values that the interpreter of definitions takes. It knows the grammar, directives and the replacement of names, and
 no limits. It is written apart from the compiler's own parser."""
 import re

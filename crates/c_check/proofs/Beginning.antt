@@ -1,7 +1,7 @@
 -- What a value or a string gives to a part, path by path.
 use Rattle.std.proofs.Common.{◌≡◌, ℕ, Bool, true, not, if◌then◌else◌, List, Option, Some, None, Result, Ok, Err, sym, ap, subst, ◌∙◌}
 use Rattle.std.specs.Prelude.{IfErr, OnOk}
-use Rattle.c_tree.specs.Words.{Symbol}
+use Rattle.c_nodes.specs.Words.{Symbol}
 use Rattle.c_typed.specs.Sameness.{same_type}
 use Rattle.c_typed.specs.Trees as typed
 use Rattle.c_typed.specs.Trees.{Expression, Place}

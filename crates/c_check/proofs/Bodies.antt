@@ -3,22 +3,22 @@ use Rattle.std.proofs.Common.{◌≡◌, ℕ, ◌+◌, ◌<◌, ◌≤◌, List,
 use Rattle.std.proofs.lemmas.List.{map-append}
 use Rattle.std.specs.Global.{Box}
 use Rattle.c_ints.specs.declared.types.IntTy.{IntTy}
-use Rattle.c_tree.proofs.ProgramShapes as shapes
-use Rattle.c_tree.specs.ProgramViews as views
-use Rattle.c_tree.specs.Programs as tree
-use Rattle.c_tree.specs.Programs.{ArmTree, Arms, BlockTree, HeadTree, Items, StatementTree}
-use Rattle.c_tree.specs.Trees.{Tree}
-use Rattle.c_tree.specs.Views.{expr_of}
-use Rattle.c_tree.specs.declared.statement.Arm.{Arm}
-use Rattle.c_tree.specs.declared.statement.Block.{Block}
-use Rattle.c_tree.specs.declared.statement.ElseArm.{ElseArm}
-use Rattle.c_tree.specs.declared.statement.IfChain.{IfChain}
-use Rattle.c_tree.specs.declared.statement.Label.{Label}
-use Rattle.c_tree.specs.declared.statement.Otherwise.{Otherwise}
-use Rattle.c_tree.specs.declared.statement.Statement.{Statement as StatementCode}
-use Rattle.c_tree.specs.declared.statement.SwitchItem.{SwitchItem}
-use Rattle.c_tree.specs.declared.statement.SwitchItem.TheVariants as SwitchItem
-use Rattle.c_tree.specs.declared.statement.Statement.TheViews.{out-Arm, out-Block, out-ElseArm, out-IfChain, out-Otherwise}
+use Rattle.c_nodes.proofs.ProgramShapes as shapes
+use Rattle.c_nodes.specs.ProgramViews as views
+use Rattle.c_nodes.specs.Programs as tree
+use Rattle.c_nodes.specs.Programs.{ArmTree, Arms, BlockTree, HeadTree, Items, StatementTree}
+use Rattle.c_nodes.specs.Trees.{Tree}
+use Rattle.c_nodes.specs.Views.{expr_of}
+use Rattle.c_nodes.specs.declared.statement.Arm.{Arm}
+use Rattle.c_nodes.specs.declared.statement.Block.{Block}
+use Rattle.c_nodes.specs.declared.statement.ElseArm.{ElseArm}
+use Rattle.c_nodes.specs.declared.statement.IfChain.{IfChain}
+use Rattle.c_nodes.specs.declared.statement.Label.{Label}
+use Rattle.c_nodes.specs.declared.statement.Otherwise.{Otherwise}
+use Rattle.c_nodes.specs.declared.statement.Statement.{Statement as StatementCode}
+use Rattle.c_nodes.specs.declared.statement.SwitchItem.{SwitchItem}
+use Rattle.c_nodes.specs.declared.statement.SwitchItem.TheVariants as SwitchItem
+use Rattle.c_nodes.specs.declared.statement.Statement.TheViews.{out-Arm, out-Block, out-ElseArm, out-IfChain, out-Otherwise}
 use Rattle.c_typed.proofs.Shapes as typed_shapes
 use Rattle.c_typed.specs.Trees as typed
 use Rattle.c_typed.specs.Trees.{Expression, Statement}

@@ -1,6 +1,6 @@
 -- Declarations of functions and objects, and the loops over declarators.
 use Rattle.std.proofs.Common.{◌≡◌, ℕ, Bool, true, false, not, ◌||◌, List, [], ◌∷◌, ◌++◌, slice_get, Option, Some, None, is_some, Result, Ok, Err, refl, sym, ap, subst, ◌∙◌}
-use Rattle.c_tree.specs.Programs.{BegunTree, DeclarationTree, InitTree}
+use Rattle.c_nodes.specs.Programs.{BegunTree, DeclarationTree, InitTree}
 use Rattle.c_typed.specs.Trees.{Statement}
 use Rattle.c_typed.specs.declared.types.Qualified.{Qualified}
 use Rattle.c_typed.specs.declared.types.Ty.{Ty}

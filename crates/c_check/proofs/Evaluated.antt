@@ -1,6 +1,6 @@
 -- The value of an expression whose term was read without what stands between its commas.
 use Rattle.std.proofs.Common.{◌≡◌, Result, Ok, Err, [], refl, sym, ap, subst, ◌∙◌}
-use Rattle.c_tree.specs.Trees.{Tree}
+use Rattle.c_nodes.specs.Trees.{Tree}
 use Rattle.type_rules.specs.Expressions.{judged, value_of}
 use Rattle.type_rules.specs.Faults.{Fault}
 use Rattle.type_rules.specs.Known.{Known, go_on}

@@ -1,9 +1,9 @@
 -- The loops over statements, arms, labels and declarations, one element more at a time.
 use Rattle.std.proofs.Common.{◌≡◌, ℕ, ◌+◌, List, [], ◌∷◌, ◌++◌, Some, None, Result, Ok, Err, refl, sym, ap, subst, ◌∙◌, append_assoc}
 use Rattle.c_ints.specs.declared.types.IntTy.{IntTy}
-use Rattle.c_tree.specs.Programs as tree
-use Rattle.c_tree.specs.Programs.{ArmTree, Arms, BlockTree, DeclarationTree, Items, Statements, StatementTree}
-use Rattle.c_tree.specs.declared.statement.Statement.{Statement}
+use Rattle.c_nodes.specs.Programs as tree
+use Rattle.c_nodes.specs.Programs.{ArmTree, Arms, BlockTree, DeclarationTree, Items, Statements, StatementTree}
+use Rattle.c_nodes.specs.declared.statement.Statement.{Statement}
 use Rattle.c_typed.specs.Trees as typed
 use Rattle.type_rules.specs.Declarations as declarations
 use Rattle.type_rules.specs.Faults.{Fault}

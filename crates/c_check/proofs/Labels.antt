@@ -6,7 +6,7 @@ use Rattle.std.specs.List.{list_any}
 use Rattle.c_ints.specs.Operators.{cut_to}
 use Rattle.c_ints.specs.Quantity.{Quantity}
 use Rattle.c_ints.specs.declared.types.IntTy.{IntTy}
-use Rattle.c_tree.specs.Trees.{Tree}
+use Rattle.c_nodes.specs.Trees.{Tree}
 use Rattle.c_typed.specs.declared.statement.TCase.{TCase}
 use Rattle.type_rules.specs.Constants.{constant_value}
 use Rattle.type_rules.specs.Faults as kind

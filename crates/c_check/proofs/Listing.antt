@@ -2,18 +2,18 @@
 use Rattle.std.proofs.Common.{◌≡◌, ℕ, suc, ◌+◌, ◌<◌, ◌≤◌, Bool, true, List, ◌∷◌, map, length, drop, get_or, Option, Result, Ok, refl, sym, ap, subst, ◌∙◌, arith, drop-cons, Vec, Global}
 use Rattle.std.specs.Global.{Box}
 use Rattle.std.proofs.lemmas.List.{drop_all}
-use Rattle.c_tree.proofs.ProgramShapes.{show_init_assign, show_init_text, show_init_list, show_next_init}
-use Rattle.c_tree.specs.Programs as tree
-use Rattle.c_tree.specs.Programs.{InitTree, MoreInits}
-use Rattle.c_tree.specs.ProgramViews.{init_of, next_init_of, more_inits}
-use Rattle.c_tree.specs.Views.{assign_of}
-use Rattle.c_tree.specs.Words.{quoted}
-use Rattle.c_tree.specs.declared.expression.Assign.{Assign}
-use Rattle.c_tree.specs.declared.statement.Init.{Init}
-use Rattle.c_tree.specs.declared.statement.Init.TheVariants as Inits
-use Rattle.c_tree.specs.declared.statement.Init.TheViews.{out-NextInit}
-use Rattle.c_tree.specs.declared.statement.NextInit.{NextInit}
-use Rattle.c_tree.specs.declared.word.Text.{Text}
+use Rattle.c_nodes.proofs.ProgramShapes.{show_init_assign, show_init_text, show_init_list, show_next_init}
+use Rattle.c_nodes.specs.Programs as tree
+use Rattle.c_nodes.specs.Programs.{InitTree, MoreInits}
+use Rattle.c_nodes.specs.ProgramViews.{init_of, next_init_of, more_inits}
+use Rattle.c_nodes.specs.Views.{assign_of}
+use Rattle.c_nodes.specs.Words.{quoted}
+use Rattle.c_nodes.specs.declared.expression.Assign.{Assign}
+use Rattle.c_nodes.specs.declared.statement.Init.{Init}
+use Rattle.c_nodes.specs.declared.statement.Init.TheVariants as Inits
+use Rattle.c_nodes.specs.declared.statement.Init.TheViews.{out-NextInit}
+use Rattle.c_nodes.specs.declared.statement.NextInit.{NextInit}
+use Rattle.c_nodes.specs.declared.word.Text.{Text}
 use Rattle.type_rules.specs.Expressions.{value_of}
 use Rattle.type_rules.specs.Faults.{Fault}
 use Rattle.type_rules.specs.Initializers.{begins, more_begins, items_in, value_rule, text_rule}

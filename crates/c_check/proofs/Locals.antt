@@ -3,10 +3,10 @@ use Rattle.std.proofs.Common.{◌≡◌, ℕ, ◌-◌, ◌<◌, Bool, true, fals
 use Rattle.std.specs.Global.{Box}
 use Rattle.std.specs.Option.{option_map}
 use Rattle.std.specs.Vec.{vec_len}
-use Rattle.c_tree.proofs.ProgramShapes.{show_init_assign, show_init_text, show_init_list}
-use Rattle.c_tree.specs.Programs.{InitTree}
-use Rattle.c_tree.specs.ProgramViews.{init_of}
-use Rattle.c_tree.specs.declared.statement.Init.TheVariants as Init
+use Rattle.c_nodes.proofs.ProgramShapes.{show_init_assign, show_init_text, show_init_list}
+use Rattle.c_nodes.specs.Programs.{InitTree}
+use Rattle.c_nodes.specs.ProgramViews.{init_of}
+use Rattle.c_nodes.specs.declared.statement.Init.TheVariants as Init
 use Rattle.c_typed.proofs.Shapes.{show_expression_struct_assign, show_place_name, show_statement_init_scalar, show_statement_init_list, show_statement_declare, show_statement_expr}
 use Rattle.c_typed.specs.Sameness.{is_scalar}
 use Rattle.c_typed.specs.Trees as typed

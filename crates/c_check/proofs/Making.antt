@@ -1,7 +1,7 @@
 -- The rules of objects, path by path: their types, static objects, locals.
 use Rattle.std.proofs.Common.{◌≡◌, ℕ, ◌*◌, Bool, true, false, not, ◌&&◌, ◌||◌, nat_le, nat_lt, List, [], ◌∷◌, map, Option, Some, None, Result, Ok, Err, sym, ap, subst, ◌∙◌, Vec, Global}
 use Rattle.std.proofs.lemmas.Bool.{lt-leb, ltb-true}
-use Rattle.c_tree.specs.Programs.{InitTree}
+use Rattle.c_nodes.specs.Programs.{InitTree}
 use Rattle.c_typed.specs.Sameness.{is_array}
 use Rattle.c_typed.specs.Sound.{kept}
 use Rattle.c_typed.specs.Trees as typed

@@ -2,7 +2,7 @@
 use Rattle.std.proofs.Common.{◌≡◌, ℕ, false, [], ◌∷◌, Option, Some, Result, Ok, Err, refl, sym, ap, subst, ◌∙◌}
 use Rattle.c_ints.specs.Conversions.{promoted}
 use Rattle.c_ints.specs.declared.types.IntTy.{IntTy}
-use Rattle.c_tree.specs.Trees.{Tree}
+use Rattle.c_nodes.specs.Trees.{Tree}
 use Rattle.c_typed.specs.Sameness.{is_void}
 use Rattle.c_typed.specs.Trees as typed
 use Rattle.c_typed.specs.Trees.{Expression, Statement}

@@ -2,13 +2,13 @@
 use Rattle.std.proofs.Common.{◌≡◌, ℕ, List, [], ◌∷◌, ◌++◌, map, Option, Some, None, Result, Ok, Err, refl, ap, ◌∙◌}
 use Rattle.c_ints.specs.Conversions.{promoted}
 use Rattle.c_ints.specs.declared.types.IntTy.{IntTy}
-use Rattle.c_tree.proofs.ProgramShapes as shapes
-use Rattle.c_tree.specs.ProgramViews as views
-use Rattle.c_tree.specs.Programs as tree
-use Rattle.c_tree.specs.Programs.{ArmTree, Arms, BlockTree, ConditionTree, HeadTree, Items, Statements, StatementTree}
-use Rattle.c_tree.specs.Trees.{Tree}
-use Rattle.c_tree.specs.Views.{expr_of}
-use Rattle.c_tree.specs.declared.statement.Statement.TheVariants as node
+use Rattle.c_nodes.proofs.ProgramShapes as shapes
+use Rattle.c_nodes.specs.ProgramViews as views
+use Rattle.c_nodes.specs.Programs as tree
+use Rattle.c_nodes.specs.Programs.{ArmTree, Arms, BlockTree, ConditionTree, HeadTree, Items, Statements, StatementTree}
+use Rattle.c_nodes.specs.Trees.{Tree}
+use Rattle.c_nodes.specs.Views.{expr_of}
+use Rattle.c_nodes.specs.declared.statement.Statement.TheVariants as node
 use Rattle.c_typed.specs.Trees as typed
 use Rattle.c_typed.specs.Trees.{Expression, Statement}
 use Rattle.c_typed.specs.Types.{type_of}

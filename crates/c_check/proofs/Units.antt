@@ -4,16 +4,16 @@ use Rattle.std.proofs.lemmas.List.{length-map, map-append}
 use Rattle.std.specs.List.{list_any}
 use Rattle.std.specs.Prelude.{◌^◌}
 use Rattle.indexmap.specs.IndexSet.{insert_key}
-use Rattle.c_tree.specs.ProgramViews.{block_of, declaration_of, item_of}
-use Rattle.c_tree.specs.Programs as tree
-use Rattle.c_tree.specs.Programs.{BlockTree, DeclarationTree, ItemTree, spelled_block, spelled_declaration, spelled_unit}
-use Rattle.c_tree.specs.Trees.{DeclaratorTree, SpecTrees, spelled_declarator, spelled_specs}
-use Rattle.c_tree.specs.Views.{declarator_of, specs_of}
-use Rattle.c_tree.specs.Words.{Symbols}
-use Rattle.c_tree.specs.declared.statement.Declaration.{Declaration}
-use Rattle.c_tree.specs.declared.statement.Function as code
-use Rattle.c_tree.specs.declared.statement.Item.{Item}
-use Rattle.c_tree.specs.declared.statement.Item.TheVariants as node
+use Rattle.c_nodes.specs.ProgramViews.{block_of, declaration_of, item_of}
+use Rattle.c_nodes.specs.Programs as tree
+use Rattle.c_nodes.specs.Programs.{BlockTree, DeclarationTree, ItemTree, spelled_block, spelled_declaration, spelled_unit}
+use Rattle.c_nodes.specs.Trees.{DeclaratorTree, SpecTrees, spelled_declarator, spelled_specs}
+use Rattle.c_nodes.specs.Views.{declarator_of, specs_of}
+use Rattle.c_nodes.specs.Words.{Symbols}
+use Rattle.c_nodes.specs.declared.statement.Declaration.{Declaration}
+use Rattle.c_nodes.specs.declared.statement.Function as code
+use Rattle.c_nodes.specs.declared.statement.Item.{Item}
+use Rattle.c_nodes.specs.declared.statement.Item.TheVariants as node
 use Rattle.c_typed.specs.Nodes.{program_size}
 use Rattle.c_typed.specs.Shown as made
 use Rattle.c_typed.specs.Sound.{is_sound}

@@ -4,9 +4,9 @@ use Rattle.std.specs.Global.{Box}
 use Rattle.c_ints.specs.Conversions.{promoted}
 use Rattle.c_ints.specs.Operators.{cut_to}
 use Rattle.c_ints.specs.declared.types.IntTy.{IntTy}
-use Rattle.c_tree.specs.Programs as tree
-use Rattle.c_tree.specs.Programs.{ArmTree, Arms, BlockTree, StatementTree, HeadTree, InitTree, Items}
-use Rattle.c_tree.specs.Trees.{Tree}
+use Rattle.c_nodes.specs.Programs as tree
+use Rattle.c_nodes.specs.Programs.{ArmTree, Arms, BlockTree, StatementTree, HeadTree, InitTree, Items}
+use Rattle.c_nodes.specs.Trees.{Tree}
 use Rattle.c_typed.specs.Sameness.{is_void}
 use Rattle.c_typed.specs.Trees as typed
 use Rattle.c_typed.specs.Trees.{Expression, FunctionTree, Statement, VariableTree}

@@ -1,9 +1,9 @@
 -- What an initializer initializes and has given so far, as the rules speak of it.
 use Rattle.std.specs.Prelude.{ℕ, List, [], ◌∷◌, map, Option, Some, None}
 use Rattle.std.specs.Borrow.{Bor}
-use Rattle.c_tree.specs.Programs.{InitTree}
-use Rattle.c_tree.specs.ProgramViews.{init_of}
-use Rattle.c_tree.specs.declared.statement.Init.{Init}
+use Rattle.c_nodes.specs.Programs.{InitTree}
+use Rattle.c_nodes.specs.ProgramViews.{init_of}
+use Rattle.c_nodes.specs.declared.statement.Init.{Init}
 use Rattle.c_typed.specs.Trees as typed
 use Rattle.c_typed.specs.Views.{item_of}
 use Rattle.c_typed.specs.declared.types.Ty.{Ty}

@@ -1,8 +1,8 @@
 //! Declarations in the file and in blocks (ISO/IEC 9899:1990, 6.5 and 6.7).
 
 ghost use Rattle.std.specs.Prelude.{◌≡◌, ◌||◌, [], ◌∷◌, map, Some, None, is_some, IfOk};
-ghost use Rattle.c_tree.specs.ProgramViews.{begun_of, declaration_of, declared_of, equals_of};
-ghost use Rattle.c_tree.specs.Views.{declarator_of};
+ghost use Rattle.c_nodes.specs.ProgramViews.{begun_of, declaration_of, declared_of, equals_of};
+ghost use Rattle.c_nodes.specs.Views.{declarator_of};
 ghost use Rattle.c_typed.specs.Views.{statement_of};
 ghost use Rattle.type_rules.specs.Declarations as rule;
 ghost use Rattle.type_rules.specs.Declarators as declarators;
@@ -19,11 +19,11 @@ ghost use Rattle.c_check.specs.StatementViews.{function_known, object_in_block};
 
 use crate::initializer::begun;
 use crate::objects::{block_static, local_object, object_type, static_object};
+use c_nodes::expression::Declarator;
+use c_nodes::statement::{Declaration, Declared as DeclaredTree, EqualsInit, Init, InitDeclarator};
 use c_operate::checker::Checker;
 use c_operate::error::{CheckError, Kind, refused};
 use c_operate::scope::Binding;
-use c_tree::expression::Declarator;
-use c_tree::statement::{Declaration, Declared as DeclaredTree, EqualsInit, Init, InitDeclarator};
 use c_typed::{Qualified, TStmt, Ty};
 use check_expr::declarator::{Context, outline, specified};
 use check_expr::outline::{Declared, Outline, ParamShape, line_of};

@@ -1,8 +1,8 @@
 //! Initializers, from the tree's root down (ISO/IEC 9899:1990, 6.5.7).
 
 ghost use Rattle.std.specs.Prelude.{◌≡◌, ◌+◌, false, map, IfOk};
-ghost use Rattle.c_tree.specs.ProgramViews.{init_of, more_inits, next_init_of};
-ghost use Rattle.c_tree.specs.Views.{assign_of};
+ghost use Rattle.c_nodes.specs.ProgramViews.{init_of, more_inits, next_init_of};
+ghost use Rattle.c_nodes.specs.Views.{assign_of};
 ghost use Rattle.type_rules.specs.Expressions.{value_of};
 ghost use Rattle.type_rules.specs.Initializers as rule;
 ghost use Rattle.type_rules.specs.Known.{Known};
@@ -15,12 +15,12 @@ ghost use Rattle.c_check.specs.Views.{any_slot, begun_of, list_closed};
 use crate::parts::{put_text, put_value};
 use crate::slot::Slot;
 use crate::slots::{Sink, count_items, has_more, part};
+use c_nodes::expression::Assign;
+use c_nodes::statement::{Init, NextInit};
 use c_operate::checker::Checker;
 use c_operate::error::{CheckError, Kind, refused};
 use c_operate::term::{Operand, used};
 use c_operate::types::Types;
-use c_tree::expression::Assign;
-use c_tree::statement::{Init, NextInit};
 use check_expr::expression::assign;
 
 /// What an initializer gives to an object, or to nothing, where its expressions are checked all the same.

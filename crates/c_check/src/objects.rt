@@ -2,7 +2,7 @@
 
 ghost use Rattle.std.specs.Prelude.{◌≡◌, ◌&&◌, ◌||◌, not, nat_le, nat_lt, map, [], ◌∷◌, Some, IfOk};
 ghost use Rattle.std.specs.Option.{option_map};
-ghost use Rattle.c_tree.specs.ProgramViews.{init_of};
+ghost use Rattle.c_nodes.specs.ProgramViews.{init_of};
 ghost use Rattle.c_typed.specs.Sameness.{is_array, is_scalar};
 ghost use Rattle.c_typed.specs.Trees as typed;
 ghost use Rattle.c_typed.specs.Views.{expression_of, item_of, place_of, statement_of};
@@ -20,11 +20,11 @@ ghost use Rattle.c_check.specs.Views.{any_init, only_one, slot_of};
 use crate::initializer::begun;
 use crate::slot::Slot;
 use crate::types::{both, either};
+use c_nodes::statement::Init;
 use c_operate::checker::Checker;
 use c_operate::error::{CheckError, Kind, refused};
 use c_operate::scope::{Binding, Scopes};
 use c_operate::types::{Types, like};
-use c_tree::statement::Init;
 use c_typed::{Object, Qualified, TExpr, TItem, TPlace, TStmt, Ty, is_array, is_scalar};
 use check_expr::outline::{Declared, Outline};
 use check_expr::specifiers::{Specified, Storage};

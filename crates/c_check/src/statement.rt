@@ -2,8 +2,8 @@
 
 ghost use Rattle.std.specs.Prelude.{[], map};
 ghost use Rattle.std.specs.Option.{option_map};
-ghost use Rattle.c_tree.specs.ProgramViews as views;
-ghost use Rattle.c_tree.specs.Views.{expr_of};
+ghost use Rattle.c_nodes.specs.ProgramViews as views;
+ghost use Rattle.c_nodes.specs.Views.{expr_of};
 ghost use Rattle.c_typed.specs.Trees as typed;
 ghost use Rattle.c_typed.specs.Views.{arm_of, expression_of, statement_of};
 ghost use Rattle.type_rules.specs.Known.{Known, given};
@@ -19,10 +19,10 @@ use crate::values::{
     LoopHead, condition, condition_if_any, dropped, evaluated_if_any, returned, switched,
 };
 use c_ints::IntTy;
+use c_nodes::expression::Expr;
+use c_nodes::statement::{Arm, Block, ForHead, IfChain, Otherwise, Statement, SwitchItem};
 use c_operate::checker::Checker;
 use c_operate::error::CheckError;
-use c_tree::expression::Expr;
-use c_tree::statement::{Arm, Block, ForHead, IfChain, Otherwise, Statement, SwitchItem};
 use c_typed::{LoopForm, TArm, TStmt};
 use std::alloc::Global;
 

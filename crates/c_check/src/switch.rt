@@ -3,8 +3,8 @@
 ghost use Rattle.std.specs.Prelude.{◌≡◌, [], ◌∷◌, ◌++◌, length, is_some, Some, OnOk, IfErr};
 ghost use Rattle.c_ints.specs.Operators.{cut_to};
 ghost use Rattle.c_ints.specs.declared.types.IntTy.{IntTy};
-ghost use Rattle.c_tree.specs.ProgramViews.{label_of};
-ghost use Rattle.c_tree.specs.Views.{cond_of};
+ghost use Rattle.c_nodes.specs.ProgramViews.{label_of};
+ghost use Rattle.c_nodes.specs.Views.{cond_of};
 ghost use Rattle.c_typed.specs.Views.{expression_of, statement_of};
 ghost use Rattle.type_rules.specs.Statements as rule;
 ghost use Rattle.c_operate.specs.Answers.{Answers, Learns};
@@ -13,10 +13,10 @@ ghost use Rattle.c_operate.specs.declared.error.CheckError.TheVariants.{NoMemory
 ghost use Rattle.c_check.specs.StatementViews.{body_of, case_rule, default_rule, switch_of, Labels, Sees};
 
 use c_ints::{IntTy, convert};
+use c_nodes::expression::Cond;
+use c_nodes::statement::Label;
 use c_operate::checker::Checker;
 use c_operate::error::{CheckError, Kind, refused};
-use c_tree::expression::Cond;
-use c_tree::statement::Label;
 use c_typed::{TCase, TExpr, TStmt};
 use check_expr::constants::constant_value;
 use indexmap::IndexSet;

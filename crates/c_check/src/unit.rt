@@ -1,9 +1,9 @@
 //! Functions, and the whole unit (ISO/IEC 9899:1990, 6.7).
 
 ghost use Rattle.std.specs.Prelude.{◌≡◌, ◌≤◌, [], ◌∷◌, length, map, Ok, IfOk, IfErr, OnOk};
-ghost use Rattle.c_tree.specs.ProgramViews.{block_of, unit_of};
-ghost use Rattle.c_tree.specs.Programs.{spelled_unit};
-ghost use Rattle.c_tree.specs.Views.{declarator_of, specs_of};
+ghost use Rattle.c_nodes.specs.ProgramViews.{block_of, unit_of};
+ghost use Rattle.c_nodes.specs.Programs.{spelled_unit};
+ghost use Rattle.c_nodes.specs.Views.{declarator_of, specs_of};
 ghost use Rattle.c_typed.specs.Views.{function_of, program_of, statement_of, variable_of};
 ghost use Rattle.type_rules.specs.Declarators.{line_in, name_in};
 ghost use Rattle.type_rules.specs.Faults as faults;
@@ -19,11 +19,11 @@ ghost use Rattle.c_check.specs.StatementViews.{inner_rule, no_function};
 use crate::declaration::{declare_function, file_declaration, in_file, name_of};
 use crate::flow::Flow;
 use crate::statement::block;
+use c_nodes::statement::{Function, Item, Unit};
 use c_operate::body::Body;
 use c_operate::checker::Checker;
 use c_operate::error::{CheckError, Kind, refused};
 use c_operate::scope::Names;
-use c_tree::statement::{Function, Item, Unit};
 use c_typed::{Function as TypedFunction, TStmt, Ty, Typed, Variable};
 use check_expr::declarator::{outline, specified};
 use check_expr::outline::{Declared, Outline, ParamShape, line_of};

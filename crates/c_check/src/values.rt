@@ -2,8 +2,8 @@
 
 ghost use Rattle.std.specs.Prelude.{◌≡◌, not, [], ◌∷◌, Some, None};
 ghost use Rattle.std.specs.Option.{option_map};
-ghost use Rattle.c_tree.specs.Views.{expr_of};
-ghost use Rattle.c_tree.specs.ProgramViews.{any_of};
+ghost use Rattle.c_nodes.specs.Views.{expr_of};
+ghost use Rattle.c_nodes.specs.ProgramViews.{any_of};
 ghost use Rattle.c_typed.specs.Sameness.{is_void};
 ghost use Rattle.c_typed.specs.Views.{expression_of, statement_of};
 ghost use Rattle.type_rules.specs.Expressions.{value_of};
@@ -16,11 +16,11 @@ ghost use Rattle.c_operate.specs.Terms.{operand_of};
 ghost use Rattle.c_check.specs.StatementViews.{switched_rule, valued_return};
 
 use c_ints::{IntTy, promote};
+use c_nodes::expression::Expr;
 use c_operate::checker::Checker;
 use c_operate::conversion::{assigned, converted};
 use c_operate::error::{CheckError, Kind, refused};
 use c_operate::term::{Operand, used};
-use c_tree::expression::Expr;
 use c_typed::{TExpr, TStmt, Ty, is_scalar, is_void};
 use check_expr::expression::expression;
 

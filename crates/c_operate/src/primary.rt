@@ -1,7 +1,7 @@
 //! Names, constants and brackets (ISO/IEC 9899:1990, 6.3.1).
 
 ghost use Rattle.std.specs.Prelude.{◌≡◌, false, Ok, None, []};
-ghost use Rattle.c_tree.specs.Words.{spell_constant};
+ghost use Rattle.c_nodes.specs.Words.{spell_constant};
 ghost use Rattle.type_rules.specs.Expressions as rule;
 ghost use Rattle.type_rules.specs.Known.{Known};
 ghost use Rattle.type_rules.specs.Terms.{number_of_type};
@@ -13,7 +13,7 @@ use crate::error::{CheckError, Kind, refused};
 use crate::scope::{Binding, Scopes};
 use crate::term::{Form, Lvalue, Term, constant, lvalue_term, value_term};
 use c_ints::IntTy;
-use c_tree::word::{Constant, Name};
+use c_nodes::word::{Constant, Name};
 use c_typed::TPlace;
 
 // What has no value and no place, at this line.

@@ -3,11 +3,11 @@ use Rattle.std.proofs.Common.{◌≡◌, ℕ, zero, suc, ◌≤◌, Bool, true, 
 use Rattle.c_token.specs.declared.token.TokKind.{TokKind}
 use Rattle.c_token.specs.declared.token.TokKind.TheVariants as kinds
 use Rattle.c_token.specs.declared.token.Punct.TheVariants as marks
-use Rattle.c_tree.specs.Words.{Symbol, Symbols, punct, spelled_comma}
-use Rattle.c_tree.specs.Kinds.{is_punct, is_text, is_spec}
-use Rattle.c_tree.specs.Trees.{Tree, SpecTrees, DeclaratorTree, spelled, spelled_specs, spelled_declarator, IsDeclarator}
-use Rattle.c_tree.specs.Programs.{InitTree, Value, Quoted, Listed, MoreInits, NoInit, AndInit, BegunTree, DeclaredTrees, DeclarationTree, spelled_init, spelled_more_inits, spelled_equals, spelled_begun, spelled_more_begun, spelled_declared, spelled_declaration, spelled_declarations, IsInit, AreMoreInits, IsEquals, IsBegun, AreMoreBegun, AreDeclared, IsDeclaration, AreDeclarations}
-use Rattle.c_tree.specs.ProgramViews.{more_inits}
+use Rattle.c_nodes.specs.Words.{Symbol, Symbols, punct, spelled_comma}
+use Rattle.c_nodes.specs.Kinds.{is_punct, is_text, is_spec}
+use Rattle.c_nodes.specs.Trees.{Tree, SpecTrees, DeclaratorTree, spelled, spelled_specs, spelled_declarator, IsDeclarator}
+use Rattle.c_nodes.specs.Programs.{InitTree, Value, Quoted, Listed, MoreInits, NoInit, AndInit, BegunTree, DeclaredTrees, DeclarationTree, spelled_init, spelled_more_inits, spelled_equals, spelled_begun, spelled_more_begun, spelled_declared, spelled_declaration, spelled_declarations, IsInit, AreMoreInits, IsEquals, IsBegun, AreMoreBegun, AreDeclared, IsDeclaration, AreDeclarations}
+use Rattle.c_nodes.specs.ProgramViews.{more_inits}
 use Rattle.parse_expr.specs.Reader.{Reader, front_is, punct_at, comma_at, collect}
 use Rattle.parse_expr.proofs.Knots.{goes_on_specs, goes_on_suffixes, begins_expr, Stops}
 use Rattle.parse_expr.proofs.Collects.{front_not, punct_none, collect_ends, collect_more}

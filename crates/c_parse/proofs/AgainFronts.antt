@@ -6,10 +6,10 @@ use Rattle.c_token.specs.declared.token.Keyword.{Keyword}
 use Rattle.c_token.specs.declared.token.Keyword.TheVariants as words
 use Rattle.c_token.specs.declared.token.Punct.{Punct}
 use Rattle.c_token.specs.declared.token.Punct.TheVariants as marks
-use Rattle.c_tree.specs.Words.{Symbols, punct}
-use Rattle.c_tree.specs.Kinds.{is_punct, is_key, is_text, is_spec}
-use Rattle.c_tree.specs.Trees.{Tree, spelled, spelled_specs, spelled_declarator, IsTree}
-use Rattle.c_tree.specs.Programs.{InitTree, Value, Quoted, Listed, DeclarationTree, StatementTree, Braced, Plain, Chain, While, Do, For, Switch, Break, Continue, Return, Block, Arm, ItemTree, Function, Declaration, spelled_any, spelled_init, spelled_declared, spelled_declaration, spelled_statement, spelled_block, spelled_item, IsAny, IsInit, IsDeclaration, IsStatement, IsItem, is_chain}
+use Rattle.c_nodes.specs.Words.{Symbols, punct}
+use Rattle.c_nodes.specs.Kinds.{is_punct, is_key, is_text, is_spec}
+use Rattle.c_nodes.specs.Trees.{Tree, spelled, spelled_specs, spelled_declarator, IsTree}
+use Rattle.c_nodes.specs.Programs.{InitTree, Value, Quoted, Listed, DeclarationTree, StatementTree, Braced, Plain, Chain, While, Do, For, Switch, Break, Continue, Return, Block, Arm, ItemTree, Function, Declaration, spelled_any, spelled_init, spelled_declared, spelled_declaration, spelled_statement, spelled_block, spelled_item, IsAny, IsInit, IsDeclaration, IsStatement, IsItem, is_chain}
 use Rattle.parse_expr.specs.Reader.{front_is}
 use Rattle.parse_expr.proofs.Knots.{begins_expr}
 use Rattle.parse_expr.proofs.Plain.{punct_kind, key_kind}

@@ -7,11 +7,11 @@ use Rattle.c_token.specs.declared.token.Keyword.{Keyword}
 use Rattle.c_token.specs.declared.token.Keyword.TheVariants as words
 use Rattle.c_token.specs.declared.token.Punct.{Punct}
 use Rattle.c_token.specs.declared.token.Punct.TheVariants as marks
-use Rattle.c_tree.specs.Words.{Symbol, Symbols, key, punct}
-use Rattle.c_tree.specs.Kinds.{number_of, is_key, is_spec}
-use Rattle.c_tree.specs.Trees.{Tree, spelled, IsTree}
-use Rattle.c_tree.specs.Programs.{ConditionTree, HeadTree, LabelTree, Case, Default, DeclarationTree, StatementTree, Braced, Plain, Chain, While, Do, For, Switch, Break, Continue, Return, BlockTree, Block, Statements, NoStatement, AndStatement, ArmTree, Arm, Arms, NoElse, Else, ElseIf, Items, NoItem, AndLabel, AndInner, spelled_any, spelled_condition, spelled_head, spelled_label, spelled_declarations, spelled_statement, spelled_block, spelled_statements, spelled_arm, spelled_arms, spelled_items, IsAny, IsHead, IsLabel, IsStatement, IsBlock, AreStatements, IsArm, AreArms, AreItems, is_open, is_open_arms, MayPrecede, depth, depth_block, depth_statements, depth_arm, depth_arms, depth_items}
-use Rattle.c_tree.specs.ProgramViews.{statements_of, arms_of, InnerTree, LabelInner, StatementInner, items_of}
+use Rattle.c_nodes.specs.Words.{Symbol, Symbols, key, punct}
+use Rattle.c_nodes.specs.Kinds.{number_of, is_key, is_spec}
+use Rattle.c_nodes.specs.Trees.{Tree, spelled, IsTree}
+use Rattle.c_nodes.specs.Programs.{ConditionTree, HeadTree, LabelTree, Case, Default, DeclarationTree, StatementTree, Braced, Plain, Chain, While, Do, For, Switch, Break, Continue, Return, BlockTree, Block, Statements, NoStatement, AndStatement, ArmTree, Arm, Arms, NoElse, Else, ElseIf, Items, NoItem, AndLabel, AndInner, spelled_any, spelled_condition, spelled_head, spelled_label, spelled_declarations, spelled_statement, spelled_block, spelled_statements, spelled_arm, spelled_arms, spelled_items, IsAny, IsHead, IsLabel, IsStatement, IsBlock, AreStatements, IsArm, AreArms, AreItems, is_open, is_open_arms, MayPrecede, depth, depth_block, depth_statements, depth_arm, depth_arms, depth_items}
+use Rattle.c_nodes.specs.ProgramViews.{statements_of, arms_of, InnerTree, LabelInner, StatementInner, items_of}
 use Rattle.parse_expr.specs.Reader.{◌>>=◌, Reader, front_is, punct_at, key_at, got, collect}
 use Rattle.parse_expr.proofs.Knots.{begins_expr, Stops}
 use Rattle.parse_expr.proofs.Collects.{front_not, punct_none, collect_ends, collect_more}

@@ -1,10 +1,10 @@
 -- Units are read again from their spelling.
 use Rattle.std.proofs.Common.{◌≡◌, ℕ, zero, suc, ◌≤◌, Bool, true, false, ◌&&◌, List, [], ◌∷◌, ◌++◌, length, Option, Some, None, refl, ap, ◌∙◌, append_assoc, length-append, arith}
 use Rattle.c_token.specs.declared.token.Punct.TheVariants as marks
-use Rattle.c_tree.specs.Words.{Symbols, punct}
-use Rattle.c_tree.specs.Kinds.{is_punct, is_spec}
-use Rattle.c_tree.specs.Trees.{SpecTrees, DeclaratorTree, spelled_specs, spelled_declarator, IsDeclarator}
-use Rattle.c_tree.specs.Programs.{InitTree, BegunTree, DeclaredTrees, DeclarationTree, BlockTree, Block, ItemTree, Function, Declaration, spelled_equals, spelled_begun, spelled_more_begun, spelled_declared, spelled_declaration, spelled_block, spelled_item, spelled_unit, IsEquals, AreMoreBegun, AreDeclared, IsDeclaration, IsItem, IsUnit, is_function}
+use Rattle.c_nodes.specs.Words.{Symbols, punct}
+use Rattle.c_nodes.specs.Kinds.{is_punct, is_spec}
+use Rattle.c_nodes.specs.Trees.{SpecTrees, DeclaratorTree, spelled_specs, spelled_declarator, IsDeclarator}
+use Rattle.c_nodes.specs.Programs.{InitTree, BegunTree, DeclaredTrees, DeclarationTree, BlockTree, Block, ItemTree, Function, Declaration, spelled_equals, spelled_begun, spelled_more_begun, spelled_declared, spelled_declaration, spelled_block, spelled_item, spelled_unit, IsEquals, AreMoreBegun, AreDeclared, IsDeclaration, IsItem, IsUnit, is_function}
 use Rattle.parse_expr.specs.Reader.{front_is, punct_at, collect}
 use Rattle.parse_expr.proofs.Knots.{goes_on_specs, goes_on_suffixes}
 use Rattle.parse_expr.proofs.Collects.{punct_none, collect_ends, collect_more}

@@ -2,9 +2,9 @@
 use Rattle.std.proofs.Common.{◌≡◌, ℕ, List, Some, refl}
 use Rattle.c_token.specs.declared.token.Keyword.TheVariants as words
 use Rattle.c_token.specs.declared.token.Punct.TheVariants as marks
-use Rattle.c_tree.specs.Words.{Symbols}
-use Rattle.c_tree.specs.Trees.{SpecTrees}
-use Rattle.c_tree.specs.Programs.{BegunTree, ConditionTree, StatementTree}
+use Rattle.c_nodes.specs.Words.{Symbols}
+use Rattle.c_nodes.specs.Trees.{SpecTrees}
+use Rattle.c_nodes.specs.Programs.{BegunTree, ConditionTree, StatementTree}
 use Rattle.parse_expr.specs.declared.error.ParseError.{ParseError}
 use Rattle.parse_expr.specs.declared.error.ParseError.TheVariants as errors
 use Rattle.parse_expr.specs.Reader.{Reader, Fails, punct_at, key_at, all_that}

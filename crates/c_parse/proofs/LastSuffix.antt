@@ -1,12 +1,12 @@
 -- Which declarators end in a list of parameters.
 use Rattle.std.proofs.Common.{◌≡◌, suc, ◌-◌, true, false, List, [], ◌∷◌, length, Some, None, map, refl, sym, ap, ◌∙◌, arith}
 use Rattle.std.specs.List.{slice_get}
-use Rattle.c_tree.specs.Views.{suffix_of}
-use Rattle.c_tree.specs.Programs.{is_bracketed, ends_bracketed}
-use Rattle.c_tree.specs.Lists.{suffixes_of}
-use Rattle.c_tree.specs.declared.expression.Suffix.{Suffix}
-use Rattle.c_tree.specs.declared.expression.Suffix.TheVariants as suffixes
-use Rattle.c_tree.proofs.Shapes.{show_suffix_array_unsized, show_suffix_array, show_suffix_empty, show_suffix_void, show_suffix_params}
+use Rattle.c_nodes.specs.Views.{suffix_of}
+use Rattle.c_nodes.specs.Programs.{is_bracketed, ends_bracketed}
+use Rattle.c_nodes.specs.Lists.{suffixes_of}
+use Rattle.c_nodes.specs.declared.expression.Suffix.{Suffix}
+use Rattle.c_nodes.specs.declared.expression.Suffix.TheVariants as suffixes
+use Rattle.c_nodes.proofs.Shapes.{show_suffix_array_unsized, show_suffix_array, show_suffix_empty, show_suffix_void, show_suffix_params}
 
 pub array_is : (opening : _) (size : _) (closing : _) → is_bracketed (suffix_of (suffixes.Array opening size closing)) ≡ false
 array_is opening None closing = ap is_bracketed (show_suffix_array_unsized opening closing)

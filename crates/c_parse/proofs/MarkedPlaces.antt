@@ -9,7 +9,7 @@ use Rattle.c_token.specs.declared.token.TokKind.TheVariants as kinds
 use Rattle.c_token.specs.declared.token.Keyword.TheVariants as words
 use Rattle.c_token.specs.declared.token.Punct.TheVariants as marks
 use Rattle.c_pre.specs.Words.{word_of}
-use Rattle.c_tree.specs.Kinds.{is_punct, is_key, is_name}
+use Rattle.c_nodes.specs.Kinds.{is_punct, is_key, is_name}
 use Rattle.c_parse.specs.Limits.{open_after}
 use Rattle.c_parse.specs.Marks.{Marking, nothing_marked, is_among, is_tag_word, hides, is_marked, marked_token, begins, known_behind, marked_from}
 use Rattle.c_parse.specs.MarkPlaces.{depth_behind, is_outside, kind_or, kind_at, kind_before, ends_at, IsMarkedAt, GivesMarks}

@@ -5,7 +5,7 @@ use Rattle.std.proofs.lemmas.Slice.Eq.{bytes_eq-Decides}
 use Rattle.c_token.specs.declared.token.Tok.{Tok}
 use Rattle.c_token.specs.declared.token.Keyword.TheVariants as words
 use Rattle.c_pre.specs.Words.{word_of}
-use Rattle.c_tree.specs.Kinds.{is_key, is_name}
+use Rattle.c_nodes.specs.Kinds.{is_key, is_name}
 use Rattle.c_parse.specs.Marks.{is_among, with_names, is_tag_word}
 use Rattle.c_parse.specs.MarkPlaces.{is_outside, kind_at, kind_before, ends_at, IsTypedef, IsTypeName}
 use Rattle.c_parse.proofs.MarkedNames.{put_are, put_keeps, put_all, word_last, last_word, first_words}

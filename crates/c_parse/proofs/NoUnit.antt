@@ -1,7 +1,7 @@
 -- A text with a run of tokens that has too many `?` has no tree.
 use Rattle.std.proofs.Common.{◌≡◌, ℕ, Bool, true, false, ◌&&◌, if◌then◌else◌, List, [], ◌∷◌, Option, Some, None, refl, sym, ap, ◌∙◌, append-nil, arith}
 use Rattle.c_token.specs.declared.token.Tok.{Tok}
-use Rattle.c_tree.specs.Programs.{ItemTree, IsUnit, spelled_unit}
+use Rattle.c_nodes.specs.Programs.{ItemTree, IsUnit, spelled_unit}
 use Rattle.parse_expr.specs.Reader.{symbols_in}
 use Rattle.parse_expr.proofs.Plain.{symbols_plain}
 use Rattle.c_parse.specs.Limits.{run_after}

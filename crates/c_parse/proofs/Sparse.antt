@@ -2,7 +2,7 @@
 use Rattle.std.proofs.Common.{◌≡◌, ℕ, ◌+◌, ◌-◌, ◌*◌, ◌≤◌, Bool, true, false, ◌&&◌, if◌then◌else◌, [], ◌∷◌, ◌++◌, refl, ap, ◌∙◌, append_assoc, arith}
 use Rattle.c_token.specs.declared.token.Punct.TheVariants as marks
 use Rattle.std.proofs.lemmas.Bool.Decides.{nat_tests}
-use Rattle.c_tree.specs.Words.{Symbol, Symbols, punct}
+use Rattle.c_nodes.specs.Words.{Symbol, Symbols, punct}
 use Rattle.c_parse.specs.Limits.{run_after}
 use Rattle.c_parse.specs.Choices.{choices_after, ends_run, is_crowded}
 use Rattle.c_parse.proofs.QuietKinds.{Quiet}

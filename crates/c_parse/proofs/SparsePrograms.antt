@@ -3,10 +3,10 @@ use Rattle.std.proofs.Common.{ℕ, List, [], ◌∷◌, ◌++◌, Option, Some, 
 use Rattle.c_token.specs.declared.token.Keyword.{Keyword}
 use Rattle.c_token.specs.declared.token.Keyword.TheVariants as words
 use Rattle.c_token.specs.declared.token.Punct.TheVariants as marks
-use Rattle.c_tree.specs.Words.{Symbols, key, punct, spelled_comma}
-use Rattle.c_tree.specs.Kinds.{is_text}
-use Rattle.c_tree.specs.Trees.{Tree, spelled, spelled_specs, spelled_declarator, IsTree}
-use Rattle.c_tree.specs.Programs.{ConditionTree, HeadTree, LabelTree, Case, Default, InitTree, Value, Quoted, Listed, MoreInits, NoInit, AndInit, BegunTree, DeclaredTrees, DeclarationTree, StatementTree, Braced, Plain, Chain, While, Do, For, Switch, Break, Continue, Return, BlockTree, Block, Statements, NoStatement, AndStatement, ArmTree, Arm, Arms, NoElse, Else, ElseIf, Items, NoItem, AndLabel, AndInner, ItemTree, Function, Declaration, spelled_any, spelled_condition, spelled_head, spelled_label, spelled_init, spelled_more_inits, spelled_equals, spelled_begun, spelled_more_begun, spelled_declared, spelled_declaration, spelled_declarations, spelled_statement, spelled_block, spelled_statements, spelled_arm, spelled_arms, spelled_items, spelled_item, spelled_unit, IsAny, IsHead, IsLabel, IsInit, AreMoreInits, IsEquals, IsBegun, AreMoreBegun, AreDeclared, IsDeclaration, AreDeclarations, IsStatement, IsBlock, AreStatements, IsArm, AreArms, AreItems, IsItem, IsUnit}
+use Rattle.c_nodes.specs.Words.{Symbols, key, punct, spelled_comma}
+use Rattle.c_nodes.specs.Kinds.{is_text}
+use Rattle.c_nodes.specs.Trees.{Tree, spelled, spelled_specs, spelled_declarator, IsTree}
+use Rattle.c_nodes.specs.Programs.{ConditionTree, HeadTree, LabelTree, Case, Default, InitTree, Value, Quoted, Listed, MoreInits, NoInit, AndInit, BegunTree, DeclaredTrees, DeclarationTree, StatementTree, Braced, Plain, Chain, While, Do, For, Switch, Break, Continue, Return, BlockTree, Block, Statements, NoStatement, AndStatement, ArmTree, Arm, Arms, NoElse, Else, ElseIf, Items, NoItem, AndLabel, AndInner, ItemTree, Function, Declaration, spelled_any, spelled_condition, spelled_head, spelled_label, spelled_init, spelled_more_inits, spelled_equals, spelled_begun, spelled_more_begun, spelled_declared, spelled_declaration, spelled_declarations, spelled_statement, spelled_block, spelled_statements, spelled_arm, spelled_arms, spelled_items, spelled_item, spelled_unit, IsAny, IsHead, IsLabel, IsInit, AreMoreInits, IsEquals, IsBegun, AreMoreBegun, AreDeclared, IsDeclaration, AreDeclarations, IsStatement, IsBlock, AreStatements, IsArm, AreArms, AreItems, IsItem, IsUnit}
 use Rattle.c_parse.proofs.QuietKinds.{quiet, key_quiet, comma, colon, equals, opens, closes}
 use Rattle.c_parse.proofs.Sparse.{Good, good_none, weaker, good_then, good_behind, good_braced, Steady, steady, steady_none, steady_then, steady_behind, steady_semicolon, steady_end, steady_closing}
 use Rattle.c_parse.proofs.SparseTrees.{tree_good, specs_good, declarator_good, closed}

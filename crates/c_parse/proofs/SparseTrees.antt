@@ -3,9 +3,9 @@ use Rattle.std.proofs.Common.{◌≡◌, ℕ, ◌<◌, Bool, true, false, nat_lt
 use Rattle.std.proofs.lemmas.Bool.{lt-ltb}
 use Rattle.c_token.specs.declared.token.Keyword.TheVariants as words
 use Rattle.c_token.specs.declared.token.Punct.TheVariants as marks
-use Rattle.c_tree.specs.Words.{Symbol, Symbols, key, punct, spelled_comma}
-use Rattle.c_tree.specs.Kinds.{is_punct, is_name, is_leaf, level_of, is_assignment, is_prefix, is_step, is_field, is_qualifier, is_spec_word, is_type_name}
-use Rattle.c_tree.specs.Trees.{Tree, Leaf, Group, Behind, Before, Measure, Join, Choose, Assign, Post, Index, CallBare, Call, Field, Step, Pre, Sign, Sizeof, Cast, TypeTree, TypeOf, SpecTrees, Specified, MoreSpecs, NoSpec, AndSpec, SpecTree, OneWord, Tagged, Body, NamedType, EnumTagged, EnumBody, MoreEnumerators, NoEnumerator, AndEnumerator, EnumeratorTree, Bare, Valued, spelled_more_enumerators, spelled_enumerator, AreMoreEnumerators, IsEnumerator, MoreMembers, NoMember, AndMember, MemberTree, Members, MoreDeclarators, NoDeclarator, AndDeclarator, DeclaratorTree, Declares, SuffixTrees, NoSuffix, AndSuffix, SuffixTree, Unsized, Sized, Empty, VoidOnly, Params, MoreParams, NoParam, AndParam, ParamTree, Named, Unnamed, spelled, spelled_post, spelled_pre, spelled_type, spelled_specs, spelled_more_specs, spelled_spec, spelled_more_members, spelled_member, spelled_more_declarators, spelled_declarator, spelled_suffixes, spelled_suffix, spelled_more_params, spelled_param, are_stars, are_pointers, is_tag, IsTree, IsPost, IsPre, IsType, AreSpecs, AreMoreSpecs, IsSpec, AreMoreMembers, IsMember, AreMoreDeclarators, IsDeclarator, AreSuffixes, IsSuffix, AreMoreParams, IsParam}
+use Rattle.c_nodes.specs.Words.{Symbol, Symbols, key, punct, spelled_comma}
+use Rattle.c_nodes.specs.Kinds.{is_punct, is_name, is_leaf, level_of, is_assignment, is_prefix, is_step, is_field, is_qualifier, is_spec_word, is_type_name}
+use Rattle.c_nodes.specs.Trees.{Tree, Leaf, Group, Behind, Before, Measure, Join, Choose, Assign, Post, Index, CallBare, Call, Field, Step, Pre, Sign, Sizeof, Cast, TypeTree, TypeOf, SpecTrees, Specified, MoreSpecs, NoSpec, AndSpec, SpecTree, OneWord, Tagged, Body, NamedType, EnumTagged, EnumBody, MoreEnumerators, NoEnumerator, AndEnumerator, EnumeratorTree, Bare, Valued, spelled_more_enumerators, spelled_enumerator, AreMoreEnumerators, IsEnumerator, MoreMembers, NoMember, AndMember, MemberTree, Members, MoreDeclarators, NoDeclarator, AndDeclarator, DeclaratorTree, Declares, SuffixTrees, NoSuffix, AndSuffix, SuffixTree, Unsized, Sized, Empty, VoidOnly, Params, MoreParams, NoParam, AndParam, ParamTree, Named, Unnamed, spelled, spelled_post, spelled_pre, spelled_type, spelled_specs, spelled_more_specs, spelled_spec, spelled_more_members, spelled_member, spelled_more_declarators, spelled_declarator, spelled_suffixes, spelled_suffix, spelled_more_params, spelled_param, are_stars, are_pointers, is_tag, IsTree, IsPost, IsPre, IsType, AreSpecs, AreMoreSpecs, IsSpec, AreMoreMembers, IsMember, AreMoreDeclarators, IsDeclarator, AreSuffixes, IsSuffix, AreMoreParams, IsParam}
 use Rattle.c_parse.proofs.QuietKinds.{Quiet, quiet, key_quiet, comma, equals, opens, closes, bracket, closing_bracket}
 use Rattle.c_parse.proofs.Sparse.{Good, good_none, weaker, good_then, good_behind, good_one, good_choice, Steady, steady, steady_none, steady_then, steady_end, steady_closing, good_braced}
 

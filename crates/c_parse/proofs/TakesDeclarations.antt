@@ -1,11 +1,11 @@
 -- What is read as an initializer or as a declaration is a tree of its kind.
 use Rattle.std.proofs.Common.{◌≡◌, ℕ, zero, suc, List, [], ◌∷◌, ◌++◌, Some, None, refl, sym, ap, subst, ◌∙◌}
 use Rattle.c_token.specs.declared.token.Punct.TheVariants as marks
-use Rattle.c_tree.specs.Words.{Symbols, punct, spelled_comma}
-use Rattle.c_tree.specs.Kinds.{is_punct, is_text}
-use Rattle.c_tree.specs.Trees.{SpecTrees, DeclaratorTree, spelled_specs, spelled_declarator, AreSpecs, IsDeclarator}
-use Rattle.c_tree.specs.Programs.{InitTree, Value, Quoted, Listed, BegunTree, DeclarationTree, spelled_init, spelled_more_inits, spelled_begun, spelled_more_begun, spelled_declaration, spelled_declarations, IsInit, AreMoreInits, IsBegun, AreMoreBegun, IsDeclaration, AreDeclarations}
-use Rattle.c_tree.specs.ProgramViews.{more_inits}
+use Rattle.c_nodes.specs.Words.{Symbols, punct, spelled_comma}
+use Rattle.c_nodes.specs.Kinds.{is_punct, is_text}
+use Rattle.c_nodes.specs.Trees.{SpecTrees, DeclaratorTree, spelled_specs, spelled_declarator, AreSpecs, IsDeclarator}
+use Rattle.c_nodes.specs.Programs.{InitTree, Value, Quoted, Listed, BegunTree, DeclarationTree, spelled_init, spelled_more_inits, spelled_begun, spelled_more_begun, spelled_declaration, spelled_declarations, IsInit, AreMoreInits, IsBegun, AreMoreBegun, IsDeclaration, AreDeclarations}
+use Rattle.c_nodes.specs.ProgramViews.{more_inits}
 use Rattle.parse_expr.specs.Reader.{◌>>=◌, Reader, front_is, punct_at, specs_come, comma_at, all_that}
 use Rattle.parse_expr.proofs.Knots.{ArePlain, Takes, Sound, SoundStep}
 use Rattle.parse_expr.proofs.Plain.{punct_is}

@@ -4,11 +4,11 @@ use Rattle.std.proofs.lemmas.Option.{same_Some}
 use Rattle.c_token.specs.declared.token.Keyword.TheVariants as words
 use Rattle.c_token.specs.declared.token.Punct.{Punct}
 use Rattle.c_token.specs.declared.token.Punct.TheVariants as marks
-use Rattle.c_tree.specs.Words.{Symbol, Symbols, key, punct}
-use Rattle.c_tree.specs.Kinds.{is_punct, is_key}
-use Rattle.c_tree.specs.Trees.{Tree, IsTree}
-use Rattle.c_tree.specs.Programs.{HeadTree, LabelTree, Case, Default, StatementTree, Braced, Plain, Chain, While, Do, For, Switch, Break, Continue, Return, BlockTree, Block, ArmTree, Arm, Arms, NoElse, Else, ElseIf, spelled_any, spelled_condition, spelled_head, spelled_label, spelled_statement, spelled_block, spelled_statements, spelled_arm, spelled_arms, spelled_items, IsAny, IsHead, IsLabel, IsStatement, IsBlock, AreStatements, IsArm, AreArms, AreItems, is_open, is_open_arms, is_chain, MayPrecede, depth, depth_block, depth_statements, depth_arm, depth_arms, depth_items}
-use Rattle.c_tree.specs.ProgramViews.{statements_of, arms_of, InnerTree, LabelInner, StatementInner, items_of}
+use Rattle.c_nodes.specs.Words.{Symbol, Symbols, key, punct}
+use Rattle.c_nodes.specs.Kinds.{is_punct, is_key}
+use Rattle.c_nodes.specs.Trees.{Tree, IsTree}
+use Rattle.c_nodes.specs.Programs.{HeadTree, LabelTree, Case, Default, StatementTree, Braced, Plain, Chain, While, Do, For, Switch, Break, Continue, Return, BlockTree, Block, ArmTree, Arm, Arms, NoElse, Else, ElseIf, spelled_any, spelled_condition, spelled_head, spelled_label, spelled_statement, spelled_block, spelled_statements, spelled_arm, spelled_arms, spelled_items, IsAny, IsHead, IsLabel, IsStatement, IsBlock, AreStatements, IsArm, AreArms, AreItems, is_open, is_open_arms, is_chain, MayPrecede, depth, depth_block, depth_statements, depth_arm, depth_arms, depth_items}
+use Rattle.c_nodes.specs.ProgramViews.{statements_of, arms_of, InnerTree, LabelInner, StatementInner, items_of}
 use Rattle.parse_expr.specs.Reader.{◌>>=◌, Reader, front_is, punct_at, key_at, got, all_that, collect, collect_on}
 use Rattle.parse_expr.proofs.Knots.{ArePlain, Takes, Sound, SoundStep}
 use Rattle.parse_expr.proofs.Collects.{and_both}

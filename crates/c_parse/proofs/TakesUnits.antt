@@ -3,10 +3,10 @@ use Rattle.std.proofs.Common.{◌≡◌, ℕ, true, ◌&&◌, List, [], ◌∷�
 use Rattle.std.proofs.lemmas.List.{append-nil}
 use Rattle.std.proofs.lemmas.Option.{same_Some}
 use Rattle.c_token.specs.declared.token.Punct.TheVariants as marks
-use Rattle.c_tree.specs.Words.{Symbols}
-use Rattle.c_tree.specs.Kinds.{is_punct}
-use Rattle.c_tree.specs.Trees.{SpecTrees, DeclaratorTree, spelled_specs, spelled_declarator, AreSpecs, IsDeclarator}
-use Rattle.c_tree.specs.Programs.{ItemTree, Function, Declaration, spelled_declaration, spelled_item, spelled_unit, IsItem, IsUnit, is_function}
+use Rattle.c_nodes.specs.Words.{Symbols}
+use Rattle.c_nodes.specs.Kinds.{is_punct}
+use Rattle.c_nodes.specs.Trees.{SpecTrees, DeclaratorTree, spelled_specs, spelled_declarator, AreSpecs, IsDeclarator}
+use Rattle.c_nodes.specs.Programs.{ItemTree, Function, Declaration, spelled_declaration, spelled_item, spelled_unit, IsItem, IsUnit, is_function}
 use Rattle.parse_expr.specs.Reader.{front_is, punct_at, all_that}
 use Rattle.parse_expr.proofs.Knots.{ArePlain, Takes, Sound, SoundStep}
 use Rattle.parse_expr.proofs.Collects.{and_both}

@@ -1,7 +1,7 @@
 -- What the answer tells of the trees that the tokens spell.
 use Rattle.std.proofs.Common.{◌≡◌, ℕ, List, [], ◌∷◌, Option, Some, None, Result, Ok, Err, IfOk, Bool, true, false, length, nat_lt, cond, refl, sym, ap, subst, ◌∙◌}
 use Rattle.c_token.specs.declared.token.Tok.{Tok}
-use Rattle.c_tree.specs.Programs.{ItemTree, IsUnit, spelled_unit}
+use Rattle.c_nodes.specs.Programs.{ItemTree, IsUnit, spelled_unit}
 use Rattle.parse_expr.specs.declared.error.ParseError.{ParseError}
 use Rattle.parse_expr.specs.declared.error.ParseError.TheVariants.{NoMemory, Nesting, Run, Syntax}
 use Rattle.std.proofs.lemmas.List.{length-map}

@@ -6,7 +6,7 @@ use Rattle.c_token.specs.declared.token.TokKind.TheVariants as kinds
 use Rattle.c_token.specs.declared.token.Keyword.TheVariants as words
 use Rattle.c_token.specs.declared.token.Punct.TheVariants as marks
 use Rattle.c_pre.specs.Words.{word_of}
-use Rattle.c_tree.specs.Kinds.{is_punct, is_key, is_name}
+use Rattle.c_nodes.specs.Kinds.{is_punct, is_key, is_name}
 use Rattle.c_parse.specs.Limits.{open_after}
 use Rattle.c_parse.specs.Marks.{is_tag_word, hides, marked}
 

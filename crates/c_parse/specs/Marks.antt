@@ -9,7 +9,7 @@ use Rattle.c_token.specs.declared.token.TokKind.TheVariants as kinds
 use Rattle.c_token.specs.declared.token.Keyword.TheVariants as words
 use Rattle.c_token.specs.declared.token.Punct.TheVariants as marks
 use Rattle.c_pre.specs.Words.{word_of}
-use Rattle.c_tree.specs.Kinds.{is_punct, is_key, is_name}
+use Rattle.c_nodes.specs.Kinds.{is_punct, is_key, is_name}
 use Rattle.c_parse.specs.Limits.{open_after}
 
 -- What is known at a token: how many brackets are open, as for the limits; the kind of the token before; whether it stands in the declaration of

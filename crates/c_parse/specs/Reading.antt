@@ -4,11 +4,11 @@ use Rattle.std.specs.Prelude.{◌≡◌, ℕ, zero, suc, Bool, true, false, ◌&
 use Rattle.c_token.specs.declared.token.Keyword.TheVariants as words
 use Rattle.c_token.specs.declared.token.Punct.{Punct}
 use Rattle.c_token.specs.declared.token.Punct.TheVariants as marks
-use Rattle.c_tree.specs.Words.{Symbol, Symbols}
-use Rattle.c_tree.specs.Kinds.{is_punct, is_key, is_text}
-use Rattle.c_tree.specs.Trees.{Tree, SpecTrees, DeclaratorTree}
-use Rattle.c_tree.specs.Programs.{ConditionTree, HeadTree, LabelTree, Case, Default, InitTree, Value, Quoted, Listed, BegunTree, DeclaredTrees, DeclarationTree, StatementTree, Braced, Plain, Chain, While, Do, For, Switch, Break, Continue, Return, BlockTree, Block, ArmTree, Arm, is_function, ItemTree, Function, Declaration}
-use Rattle.c_tree.specs.ProgramViews.{more_inits, statements_of, arms_of, InnerTree, LabelInner, StatementInner, items_of}
+use Rattle.c_nodes.specs.Words.{Symbol, Symbols}
+use Rattle.c_nodes.specs.Kinds.{is_punct, is_key, is_text}
+use Rattle.c_nodes.specs.Trees.{Tree, SpecTrees, DeclaratorTree}
+use Rattle.c_nodes.specs.Programs.{ConditionTree, HeadTree, LabelTree, Case, Default, InitTree, Value, Quoted, Listed, BegunTree, DeclaredTrees, DeclarationTree, StatementTree, Braced, Plain, Chain, While, Do, For, Switch, Break, Continue, Return, BlockTree, Block, ArmTree, Arm, is_function, ItemTree, Function, Declaration}
+use Rattle.c_nodes.specs.ProgramViews.{more_inits, statements_of, arms_of, InnerTree, LabelInner, StatementInner, items_of}
 use Rattle.parse_expr.specs.Reader.{◌>>=◌, Reader, Step, front_is, punct_at, key_at, specs_come, comma_at, got, all_that}
 use Rattle.parse_expr.specs.Reading.{at, expr_by, cond_by, assign_by, specs_by, declarator_by}
 

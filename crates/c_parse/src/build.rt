@@ -4,22 +4,22 @@
 //! ran out.
 
 ghost use Rattle.std.specs.Prelude.{◌≡◌, ℕ, Some, None, IfOk, map};
-ghost use Rattle.c_tree.specs.Words.{quoted};
-ghost use Rattle.c_tree.specs.Programs as tree;
-ghost use Rattle.c_tree.specs.Views.{assign_of, specs_of, declarator_of};
-ghost use Rattle.c_tree.specs.ProgramViews.{any_of, condition_of, head_of, label_of, more_inits, init_of, next_init_of, begun_of, next_begun_of, declaration_of, statements_of, arms_of, LabelInner, StatementInner, items_of, statement_of, switch_item_of, arm_of, block_of, else_arm_of, otherwise_of, otherwise_in, item_of};
+ghost use Rattle.c_nodes.specs.Words.{quoted};
+ghost use Rattle.c_nodes.specs.Programs as tree;
+ghost use Rattle.c_nodes.specs.Views.{assign_of, specs_of, declarator_of};
+ghost use Rattle.c_nodes.specs.ProgramViews.{any_of, condition_of, head_of, label_of, more_inits, init_of, next_init_of, begun_of, next_begun_of, declaration_of, statements_of, arms_of, LabelInner, StatementInner, items_of, statement_of, switch_item_of, arm_of, block_of, else_arm_of, otherwise_of, otherwise_in, item_of};
 
-use c_tree::expression::{Assign, Declarator, Expr, Specs};
-use c_tree::statement::{
+use c_nodes::expression::{Assign, Declarator, Expr, Specs};
+use c_nodes::statement::{
     Arm, Block, Condition, Declaration, Declared, ElseArm, EqualsInit, ForHead, Function, IfChain,
     Init, InitDeclarator, Item, Label, NextInit, NextInitDeclarator, Otherwise, Statement,
     SwitchItem,
 };
-use c_tree::word::Text;
+use c_nodes::word::Text;
 use std::alloc::{AllocError, Global};
 
 /// An assignment expression as an initializer (ISO/IEC 9899:1990, 6.5.7).
-#[tactic(auto, using(c_tree::proofs::ProgramShapes::show_init_assign))]
+#[tactic(auto, using(c_nodes::proofs::ProgramShapes::show_init_assign))]
 pub fn value(assign: Assign) -> Init
     ensures { init_of result ≡ tree.Value (assign_of assign) }
 {
@@ -27,7 +27,7 @@ pub fn value(assign: Assign) -> Init
 }
 
 /// A string literal as an initializer (ISO/IEC 9899:1990, 6.5.7).
-#[tactic(auto, using(c_tree::proofs::ProgramShapes::show_init_text))]
+#[tactic(auto, using(c_nodes::proofs::ProgramShapes::show_init_text))]
 pub fn text(text: Text) -> Init
     ensures { init_of result ≡ tree.Quoted (quoted text) }
 {
@@ -36,7 +36,7 @@ pub fn text(text: Text) -> Init
 
 /// `{ first, others }`; `last_comma` is the line of the comma after the last item, if there is one (ISO/IEC
 /// 9899:1990, 6.5.7).
-#[tactic(auto, using(c_tree::proofs::ProgramShapes::show_init_list))]
+#[tactic(auto, using(c_nodes::proofs::ProgramShapes::show_init_list))]
 pub fn list(
     alloc: Global,
     opening: u32,
@@ -135,7 +135,7 @@ pub fn block(
 }
 
 /// A block as a statement (ISO/IEC 9899:1990, 6.6.2).
-#[tactic(auto, using(c_tree::proofs::ProgramShapes::show_statement_block))]
+#[tactic(auto, using(c_nodes::proofs::ProgramShapes::show_statement_block))]
 pub fn braced(block: Block) -> Statement
     ensures { statement_of result ≡ tree.Braced (block_of block) }
 {
@@ -143,7 +143,7 @@ pub fn braced(block: Block) -> Statement
 }
 
 /// `expr;`, or `;` where there is none (ISO/IEC 9899:1990, 6.6.3).
-#[tactic(auto, using(c_tree::proofs::ProgramShapes::show_statement_expr))]
+#[tactic(auto, using(c_nodes::proofs::ProgramShapes::show_statement_expr))]
 pub fn plain(expr: Option<Expr>, semicolon: u32) -> Statement
     ensures { statement_of result ≡ tree.Plain (any_of expr) semicolon }
 {
@@ -186,7 +186,7 @@ pub fn otherwise(
 }
 
 /// `if`, each `else if`, and the last `else` if there is one, as one statement (ISO/IEC 9899:1990, 6.6.4.1).
-#[tactic(auto, using(c_tree::proofs::ProgramShapes::show_statement_if, c_tree::proofs::ProgramShapes::made_if_chain))]
+#[tactic(auto, using(c_nodes::proofs::ProgramShapes::show_statement_if, c_nodes::proofs::ProgramShapes::made_if_chain))]
 pub fn chain(
     alloc: Global,
     first: Arm,
@@ -204,7 +204,7 @@ pub fn chain(
 }
 
 /// `while condition body` (ISO/IEC 9899:1990, 6.6.5.1).
-#[tactic(auto, using(c_tree::proofs::ProgramShapes::show_statement_while))]
+#[tactic(auto, using(c_nodes::proofs::ProgramShapes::show_statement_while))]
 pub fn while_loop(
     alloc: Global,
     keyword: u32,
@@ -222,7 +222,7 @@ pub fn while_loop(
 }
 
 /// `do body while condition;` (ISO/IEC 9899:1990, 6.6.5.2).
-#[tactic(auto, using(c_tree::proofs::ProgramShapes::show_statement_do))]
+#[tactic(auto, using(c_nodes::proofs::ProgramShapes::show_statement_do))]
 pub fn do_loop(
     alloc: Global,
     keyword: u32,
@@ -244,7 +244,7 @@ pub fn do_loop(
 }
 
 /// `for head body` (ISO/IEC 9899:1990, 6.6.5.3).
-#[tactic(auto, using(c_tree::proofs::ProgramShapes::show_statement_for))]
+#[tactic(auto, using(c_nodes::proofs::ProgramShapes::show_statement_for))]
 pub fn for_loop(
     alloc: Global,
     keyword: u32,
@@ -263,7 +263,7 @@ pub fn for_loop(
 }
 
 /// `switch value { items }` (ISO/IEC 9899:1990, 6.6.4.2).
-#[tactic(auto, using(c_tree::proofs::ProgramShapes::show_statement_switch))]
+#[tactic(auto, using(c_nodes::proofs::ProgramShapes::show_statement_switch))]
 pub fn switch(
     keyword: u32,
     value: Condition,
@@ -283,7 +283,7 @@ pub fn switch(
 }
 
 /// `break;` (ISO/IEC 9899:1990, 6.6.6.3).
-#[tactic(auto, using(c_tree::proofs::ProgramShapes::show_statement_break))]
+#[tactic(auto, using(c_nodes::proofs::ProgramShapes::show_statement_break))]
 pub fn break_jump(keyword: u32, semicolon: u32) -> Statement
     ensures { statement_of result ≡ tree.Break keyword semicolon }
 {
@@ -291,7 +291,7 @@ pub fn break_jump(keyword: u32, semicolon: u32) -> Statement
 }
 
 /// `continue;` (ISO/IEC 9899:1990, 6.6.6.2).
-#[tactic(auto, using(c_tree::proofs::ProgramShapes::show_statement_continue))]
+#[tactic(auto, using(c_nodes::proofs::ProgramShapes::show_statement_continue))]
 pub fn continue_jump(keyword: u32, semicolon: u32) -> Statement
     ensures { statement_of result ≡ tree.Continue keyword semicolon }
 {
@@ -299,7 +299,7 @@ pub fn continue_jump(keyword: u32, semicolon: u32) -> Statement
 }
 
 /// `return value;`, or `return;` where there is none (ISO/IEC 9899:1990, 6.6.6.4).
-#[tactic(auto, using(c_tree::proofs::ProgramShapes::show_statement_return))]
+#[tactic(auto, using(c_nodes::proofs::ProgramShapes::show_statement_return))]
 pub fn return_jump(keyword: u32, value: Option<Expr>, semicolon: u32) -> Statement
     ensures { statement_of result ≡ tree.Return keyword (any_of value) semicolon }
 {
@@ -311,7 +311,7 @@ pub fn return_jump(keyword: u32, value: Option<Expr>, semicolon: u32) -> Stateme
 }
 
 /// A `case` or `default` label in the body of a `switch` (ISO/IEC 9899:1990, 6.6.1).
-#[tactic(auto, using(c_tree::proofs::ProgramShapes::show_switch_item_label))]
+#[tactic(auto, using(c_nodes::proofs::ProgramShapes::show_switch_item_label))]
 pub fn inner_label(label: Label) -> SwitchItem
     ensures { switch_item_of result ≡ LabelInner (label_of label) }
 {
@@ -319,7 +319,7 @@ pub fn inner_label(label: Label) -> SwitchItem
 }
 
 /// A statement in the body of a `switch` (ISO/IEC 9899:1990, 6.6.4.2).
-#[tactic(auto, using(c_tree::proofs::ProgramShapes::show_switch_item_statement))]
+#[tactic(auto, using(c_nodes::proofs::ProgramShapes::show_switch_item_statement))]
 pub fn inner_statement(statement: Statement) -> SwitchItem
     ensures { switch_item_of result ≡ StatementInner (statement_of statement) }
 {

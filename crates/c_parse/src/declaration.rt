@@ -1,16 +1,16 @@
 //! The parser of declarations.
 
 ghost use Rattle.std.specs.Prelude.{◌≡◌, map};
-ghost use Rattle.c_tree.specs.Views.{specs_of, declarator_of};
-ghost use Rattle.c_tree.specs.ProgramViews.{begun_of, next_begun_of, declaration_of};
+ghost use Rattle.c_nodes.specs.Views.{specs_of, declarator_of};
+ghost use Rattle.c_nodes.specs.ProgramViews.{begun_of, next_begun_of, declaration_of};
 ghost use Rattle.parse_expr.specs.Reader.{Gives, over, symbols_in, all_that};
 ghost use Rattle.c_parse.specs.Reading.{begun_behind, begun_by, next_begun_by, declared_behind, declaration_behind, declaration_by, next_declaration_by};
 
 use crate::build;
 use crate::initial::init;
+use c_nodes::expression::{Declarator, Specs};
+use c_nodes::statement::{Declaration, InitDeclarator, NextInitDeclarator};
 use c_token::{Punct, Tok};
-use c_tree::expression::{Declarator, Specs};
-use c_tree::statement::{Declaration, InitDeclarator, NextInitDeclarator};
 use parse_expr::declarator::declarator;
 use parse_expr::kind::is_punct;
 use parse_expr::specifier::specs;

@@ -1,8 +1,8 @@
 //! Parsing a whole text.
 
 ghost use Rattle.std.specs.Prelude.{◌≡◌, List, ℕ, length, Some, None, Err, IfOk};
-ghost use Rattle.c_tree.specs.Programs.{ItemTree, IsUnit, spelled_unit};
-ghost use Rattle.c_tree.specs.ProgramViews.{unit_of};
+ghost use Rattle.c_nodes.specs.Programs.{ItemTree, IsUnit, spelled_unit};
+ghost use Rattle.c_nodes.specs.ProgramViews.{unit_of};
 ghost use Rattle.parse_expr.specs.declared.error.ParseError.TheVariants.{Syntax};
 ghost use Rattle.parse_expr.specs.Reader.{Fails, Gives, symbols_in};
 ghost use Rattle.c_parse.specs.Limits.{first_over, IsLimit};
@@ -11,8 +11,8 @@ ghost use Rattle.c_parse.specs.Reading.{unit_by};
 use crate::choices::{crowded, is_deep};
 use crate::limits::over;
 use crate::unit::unit;
+use c_nodes::statement::Unit;
 use c_token::Tok;
-use c_tree::statement::Unit;
 use parse_expr::ParseError;
 use std::alloc::Global;
 
@@ -73,4 +73,9 @@ pub fn parse(alloc: Global, text: &[u8], toks: &[Tok]) -> Result<Unit, ParseErro
     ensures no_tree { (line : ℕ) → result ≡ Err (Syntax line) → (u : List ItemTree) → IsUnit u → symbols_in text.now toks.now ≡ spelled_unit u → ⊥ }
 {
     read(alloc, text, toks)
+}
+
+/// Lets a tree go. A crate that does so by itself proves once more, for each type of the trees, how that is done.
+pub fn let_go(unit: Unit) {
+    drop(unit);
 }

@@ -1,17 +1,17 @@
 //! The parser of initializers.
 
 ghost use Rattle.std.specs.Prelude.{◌≡◌, true, IfOk, map};
-ghost use Rattle.c_tree.specs.Words.{quoted};
-ghost use Rattle.c_tree.specs.Kinds.{is_text};
-ghost use Rattle.c_tree.specs.ProgramViews.{init_of, next_init_of};
+ghost use Rattle.c_nodes.specs.Words.{quoted};
+ghost use Rattle.c_nodes.specs.Kinds.{is_text};
+ghost use Rattle.c_nodes.specs.ProgramViews.{init_of, next_init_of};
 ghost use Rattle.parse_expr.specs.Reader.{Gives, over, symbol_in, symbols_in, all_that};
 ghost use Rattle.c_parse.specs.Reading.{next_init_by, list_by, value_by, init_by, init_inside, init_at};
 
 use crate::build;
+use c_nodes::statement::{Init, NextInit};
+use c_nodes::word::Text;
 use c_pre::word_of;
 use c_token::{Punct, Tok, TokKind};
-use c_tree::statement::{Init, NextInit};
-use c_tree::word::Text;
 use parse_expr::expression::assign;
 use parse_expr::kind::is_punct;
 use parse_expr::take::{Read, Step, behind_comma, punct, punct_comes, stopped};

@@ -20,7 +20,7 @@ mod part;
 mod statement;
 mod unit;
 
-pub use entry::parse;
+pub use entry::{let_go, parse};
 pub use limits::over;
 pub use marks::{mark, marks_are_types};
 pub use parse_expr::ParseError;

@@ -2,15 +2,15 @@
 
 ghost use Rattle.std.specs.Prelude.{◌≡◌, ℕ, List};
 ghost use Rattle.c_token.specs.declared.token.Keyword.TheVariants as words;
-ghost use Rattle.c_tree.specs.Kinds.{is_key};
-ghost use Rattle.c_tree.specs.ProgramViews.{any_of, condition_of, head_of, label_of, statement_of};
+ghost use Rattle.c_nodes.specs.Kinds.{is_key};
+ghost use Rattle.c_nodes.specs.ProgramViews.{any_of, condition_of, head_of, label_of, statement_of};
 ghost use Rattle.parse_expr.specs.Reader.{Gives, front_is, symbols_in};
 ghost use Rattle.c_parse.specs.Reading.{condition_by, any_before, head_by, plain_by, break_by, continue_by, return_by, case_by, default_by};
 
 use crate::build;
+use c_nodes::expression::Expr;
+use c_nodes::statement::{Condition, ForHead, Label, Statement};
 use c_token::{Keyword, Punct, Tok};
-use c_tree::expression::Expr;
-use c_tree::statement::{Condition, ForHead, Label, Statement};
 use parse_expr::ParseError;
 use parse_expr::expression::{cond, expr};
 use parse_expr::kind::is_keyword;

@@ -4,7 +4,7 @@
 //! still be entered, and `room` how many statements.
 
 ghost use Rattle.std.specs.Prelude.{◌≡◌, Some, map};
-ghost use Rattle.c_tree.specs.ProgramViews.{statement_of, switch_item_of, arm_of, block_of, else_arm_of, otherwise_in, statements_of};
+ghost use Rattle.c_nodes.specs.ProgramViews.{statement_of, switch_item_of, arm_of, block_of, else_arm_of, otherwise_in, statements_of};
 ghost use Rattle.parse_expr.specs.Reader.{Gives, over, symbols_in, all_that};
 ghost use Rattle.c_parse.specs.Reading.{arm_by, next_arm_by, last_by, chain_by, while_by, do_by, for_by, inner_by, switch_by, next_statement_by, block_by, braced_by, statement_by, statement_at};
 
@@ -14,8 +14,8 @@ use crate::part::{
     break_jump, case_label, condition, continue_jump, default_label, head, if_comes, plain,
     return_jump,
 };
+use c_nodes::statement::{Arm, Block, ElseArm, Otherwise, Statement, SwitchItem};
 use c_token::{Keyword, Punct, Tok};
-use c_tree::statement::{Arm, Block, ElseArm, Otherwise, Statement, SwitchItem};
 use parse_expr::kind::{is_keyword, is_punct};
 use parse_expr::take::{Read, Step, behind_keyword, keyword, punct, stopped};
 use std::alloc::Global;

@@ -1,18 +1,18 @@
 //! The parser of a whole unit.
 
 ghost use Rattle.std.specs.Prelude.{◌≡◌, map};
-ghost use Rattle.c_tree.specs.Views.{specs_of, declarator_of, suffix_of};
-ghost use Rattle.c_tree.specs.Programs.{is_bracketed, is_function};
-ghost use Rattle.c_tree.specs.ProgramViews.{item_of, unit_of};
+ghost use Rattle.c_nodes.specs.Views.{specs_of, declarator_of, suffix_of};
+ghost use Rattle.c_nodes.specs.Programs.{is_bracketed, is_function};
+ghost use Rattle.c_nodes.specs.ProgramViews.{item_of, unit_of};
 ghost use Rattle.parse_expr.specs.Reader.{Gives, over, symbols_in, all_that};
 ghost use Rattle.c_parse.specs.Reading.{function_by, variables_by, declared_item_by, item_behind, item_by, next_item_by, unit_by};
 
 use crate::build;
 use crate::declaration::{begun_behind, declared_behind};
 use crate::statement::block;
+use c_nodes::expression::{Declarator, Specs, Suffix};
+use c_nodes::statement::{Item, Unit};
 use c_token::{Punct, Tok};
-use c_tree::expression::{Declarator, Specs, Suffix};
-use c_tree::statement::{Item, Unit};
 use parse_expr::ParseError;
 use parse_expr::declarator::declarator;
 use parse_expr::specifier::specs;

@@ -3,7 +3,7 @@ use Rattle.std.proofs.Common.{◌≡◌, ℕ, ◌+◌, ◌<◌, List, [], ◌∷
 use Rattle.std.proofs.Math.ListN.{get_or}
 use Rattle.std.proofs.lemmas.List.{drop_more}
 use Rattle.c_token.specs.declared.token.TokKind.{TokKind}
-use Rattle.c_tree.specs.Words.{Symbols, kinds_of, flat}
+use Rattle.c_nodes.specs.Words.{Symbols, kinds_of, flat}
 
 pub kinds_append : (a b : Symbols) → kinds_of (a ++ b) ≡ kinds_of a ++ kinds_of b
 kinds_append [] b = refl

@@ -3,7 +3,7 @@ use Rattle.std.proofs.Common.{◌≡◌, ℕ, List, [], ◌∷◌, ◌++◌, sym
 use Rattle.c_token.specs.declared.token.TokKind.{TokKind}
 use Rattle.c_token.specs.declared.token.TokKind.TheVariants as kinds
 use Rattle.c_token.specs.declared.token.Punct.TheVariants.{LeftBrace, RightBrace}
-use Rattle.c_tree.specs.Words.{Symbols, kinds_of, punct}
+use Rattle.c_nodes.specs.Words.{Symbols, kinds_of, punct}
 use Rattle.c_tree.proofs.Append.{kinds_append}
 
 -- the parts that stand behind the first bracket

@@ -2,11 +2,11 @@
 use Rattle.std.proofs.Common.{◌≡◌, ℕ, List, [], ◌∷◌, ◌++◌, Option, Some, None, map, refl, sym, ap, ◌∙◌, append_assoc, append-nil}
 use Rattle.c_token.specs.declared.token.Keyword.TheVariants as words
 use Rattle.c_token.specs.declared.token.Punct.TheVariants as marks
-use Rattle.c_tree.specs.Words.{Symbol, Symbols, key, punct, flat}
-use Rattle.c_tree.specs.Trees.{Tree, Behind, Join, Post, Pre, SpecTree, MemberTree, DeclaratorTree, SuffixTree, ParamTree, spelled, spelled_post, spelled_pre, spelled_spec, spelled_more_specs, spelled_member, spelled_more_members, spelled_declarator, spelled_more_declarators, spelled_suffix, spelled_suffixes, spelled_param, spelled_more_params, EnumeratorTree, spelled_enumerator, spelled_more_enumerators}
-use Rattle.c_tree.specs.Lists.{posted, prefixed, joined, listed, ChoiceParts, chosen, assigned, more_specs, more_members, more_declarators, suffixes_of, more_params, more_enumerators}
-use Rattle.c_tree.specs.Programs.{InitTree, spelled_init, spelled_more_inits, BegunTree, spelled_begun, spelled_more_begun, DeclarationTree, spelled_declaration, spelled_declarations, StatementTree, spelled_statement, spelled_statements, ArmTree, spelled_arm, spelled_arms, spelled_items, ItemTree, spelled_item, spelled_unit}
-use Rattle.c_tree.specs.ProgramViews.{more_inits, statements_of, arms_of, InnerTree, LabelInner, StatementInner, items_of}
+use Rattle.c_nodes.specs.Words.{Symbol, Symbols, key, punct, flat}
+use Rattle.c_nodes.specs.Trees.{Tree, Behind, Join, Post, Pre, SpecTree, MemberTree, DeclaratorTree, SuffixTree, ParamTree, spelled, spelled_post, spelled_pre, spelled_spec, spelled_more_specs, spelled_member, spelled_more_members, spelled_declarator, spelled_more_declarators, spelled_suffix, spelled_suffixes, spelled_param, spelled_more_params, EnumeratorTree, spelled_enumerator, spelled_more_enumerators}
+use Rattle.c_nodes.specs.Lists.{posted, prefixed, joined, listed, ChoiceParts, chosen, assigned, more_specs, more_members, more_declarators, suffixes_of, more_params, more_enumerators}
+use Rattle.c_nodes.specs.Programs.{InitTree, spelled_init, spelled_more_inits, BegunTree, spelled_begun, spelled_more_begun, DeclarationTree, spelled_declaration, spelled_declarations, StatementTree, spelled_statement, spelled_statements, ArmTree, spelled_arm, spelled_arms, spelled_items, ItemTree, spelled_item, spelled_unit}
+use Rattle.c_nodes.specs.ProgramViews.{more_inits, statements_of, arms_of, InnerTree, LabelInner, StatementInner, items_of}
 use Rattle.c_tree.specs.Statements.{spelled_inner, spelled_otherwise}
 
 -- what stands behind stays behind

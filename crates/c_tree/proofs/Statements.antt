@@ -2,25 +2,25 @@
 use Rattle.std.proofs.Common.{◌≡◌, ℕ, [], ◌∷◌, ◌++◌, Some, map, ap, ◌∙◌}
 use Rattle.c_token.specs.declared.token.Keyword.TheVariants as words
 use Rattle.c_token.specs.declared.token.Punct.TheVariants.{LeftBrace, RightBrace, Semicolon, Comma}
-use Rattle.c_tree.specs.Words.{Symbols, key, punct, quoted, flat, spelled_comma}
-use Rattle.c_tree.specs.Programs.{InitTree, StatementTree, ArmTree, spelled_init, spelled_condition, spelled_begun, spelled_statement, spelled_statements, spelled_arm, spelled_block}
-use Rattle.c_tree.specs.ProgramViews.{condition_of, init_of, next_init_of, begun_of, next_begun_of, declaration_of, statements_of, statement_of, switch_item_of, arm_of, else_arm_of, otherwise_in}
+use Rattle.c_nodes.specs.Words.{Symbols, key, punct, quoted, flat, spelled_comma}
+use Rattle.c_nodes.specs.Programs.{InitTree, StatementTree, ArmTree, spelled_init, spelled_condition, spelled_begun, spelled_statement, spelled_statements, spelled_arm, spelled_block}
+use Rattle.c_nodes.specs.ProgramViews.{condition_of, init_of, next_init_of, begun_of, next_begun_of, declaration_of, statements_of, statement_of, switch_item_of, arm_of, else_arm_of, otherwise_in}
 use Rattle.c_tree.specs.Spelling.{spell_assign}
 use Rattle.c_tree.specs.Statements.{spelled_inner, spell_any, spell_arm, spell_block, spell_condition, spell_declaration, spell_declared, spell_else_arm, spell_for_head, spell_if_chain, spell_init, spell_init_declarator, spell_label, spell_last, spell_next_init, spell_next_init_declarator, spell_otherwise, spell_statement, spell_switch_item}
 use Rattle.c_tree.proofs.Lists.{inits_listed, begun_listed, declarations_listed, statements_listed, arms_listed, items_listed}
-use Rattle.c_tree.proofs.ProgramShapes.{show_init_assign, show_init_text, show_init_list, show_next_init, show_statement_block, show_statement_expr, show_statement_if, show_statement_while, show_statement_do, show_statement_for, show_statement_switch, show_statement_break, show_statement_continue, show_statement_return, show_switch_item_label, show_switch_item_statement, show_arm, show_block, show_else_arm, show_otherwise, show_if_chain}
-use Rattle.c_tree.specs.declared.statement.Declared.{Declared}
-use Rattle.c_tree.specs.declared.statement.Init.TheVariants as Init
-use Rattle.c_tree.specs.declared.statement.Init.TheViews.{out-NextInit}
-use Rattle.c_tree.specs.declared.statement.NextInit.{NextInit}
-use Rattle.c_tree.specs.declared.statement.Statement.TheVariants as Statement
-use Rattle.c_tree.specs.declared.statement.SwitchItem.TheVariants as SwitchItem
-use Rattle.c_tree.specs.declared.statement.Arm.{Arm}
-use Rattle.c_tree.specs.declared.statement.Block.{Block}
-use Rattle.c_tree.specs.declared.statement.ElseArm.{ElseArm}
-use Rattle.c_tree.specs.declared.statement.IfChain.{IfChain}
-use Rattle.c_tree.specs.declared.statement.Otherwise.{Otherwise}
-use Rattle.c_tree.specs.declared.statement.Statement.TheViews.{out-Arm, out-Block, out-ElseArm, out-IfChain, out-Otherwise}
+use Rattle.c_nodes.proofs.ProgramShapes.{show_init_assign, show_init_text, show_init_list, show_next_init, show_statement_block, show_statement_expr, show_statement_if, show_statement_while, show_statement_do, show_statement_for, show_statement_switch, show_statement_break, show_statement_continue, show_statement_return, show_switch_item_label, show_switch_item_statement, show_arm, show_block, show_else_arm, show_otherwise, show_if_chain}
+use Rattle.c_nodes.specs.declared.statement.Declared.{Declared}
+use Rattle.c_nodes.specs.declared.statement.Init.TheVariants as Init
+use Rattle.c_nodes.specs.declared.statement.Init.TheViews.{out-NextInit}
+use Rattle.c_nodes.specs.declared.statement.NextInit.{NextInit}
+use Rattle.c_nodes.specs.declared.statement.Statement.TheVariants as Statement
+use Rattle.c_nodes.specs.declared.statement.SwitchItem.TheVariants as SwitchItem
+use Rattle.c_nodes.specs.declared.statement.Arm.{Arm}
+use Rattle.c_nodes.specs.declared.statement.Block.{Block}
+use Rattle.c_nodes.specs.declared.statement.ElseArm.{ElseArm}
+use Rattle.c_nodes.specs.declared.statement.IfChain.{IfChain}
+use Rattle.c_nodes.specs.declared.statement.Otherwise.{Otherwise}
+use Rattle.c_nodes.specs.declared.statement.Statement.TheViews.{out-Arm, out-Block, out-ElseArm, out-IfChain, out-Otherwise}
 
 pub see_init_assign : (assign : _) → spell_init (Init.Assign assign) ≡ spell_assign assign
 see_init_assign assign = ap spelled_init (show_init_assign assign)

@@ -1,43 +1,36 @@
 -- The spelling of each tree from the spellings of its parts.
-use Rattle.std.proofs.Common.{◌≡◌, ℕ, [], ◌∷◌, ◌++◌, Some, None, map, ap, ◌∙◌}
+use Rattle.std.proofs.Common.{refl, ◌≡◌, ℕ, [], ◌∷◌, ◌++◌, Some, None, map, ap, ◌∙◌}
 use Rattle.c_token.specs.declared.token.Keyword.TheVariants as words
 use Rattle.c_token.specs.declared.token.Punct.TheVariants.{LeftBracket, RightBracket, LeftParenthesis, RightParenthesis, LeftBrace, RightBrace, Question, Colon, Semicolon, Comma}
 use Rattle.c_token.specs.declared.token.Punct.TheVariants as marks
-use Rattle.c_tree.specs.Words.{Symbol, Symbols, key, punct, keyed, signed, named, flat, spell_constant, spell_pointers, spell_tag, type_named, spelled_comma}
-use Rattle.c_tree.specs.Trees.{Tree, DeclaratorTree, ParamTree, spelled, spelled_post, spelled_pre, spelled_type, spelled_specs, spelled_spec, spelled_member, spelled_declarator, spelled_suffix, spelled_param, EnumeratorTree, spelled_enumerator}
-use Rattle.c_tree.specs.Lists.{ChoiceParts}
-use Rattle.c_tree.specs.Views.{binary_of, operand_of, param_of, postfix_suffix_of, prefix_of, primary_of, spec_of, suffix_of, assign_of, choice_of, cond_of, declarator_of, member_of, next_assign_of, next_declarator_of, next_operand_of, next_param_of, specs_of, target_of, enumerator_of, next_enumerator_of}
+use Rattle.c_nodes.specs.Words.{Symbol, Symbols, key, punct, keyed, signed, named, flat, spell_constant, spell_pointers, spell_tag, type_named, spelled_comma}
+use Rattle.c_nodes.specs.Trees.{Tree, DeclaratorTree, ParamTree, spelled, spelled_post, spelled_pre, spelled_type, spelled_specs, spelled_spec, spelled_member, spelled_declarator, spelled_suffix, spelled_param, EnumeratorTree, spelled_enumerator}
+use Rattle.c_nodes.specs.Lists.{ChoiceParts}
+use Rattle.c_nodes.specs.Views.{NextAssign, NextDeclarator, NextEnumerator, NextOperand, NextParam, Target, TypeName, binary_of, operand_of, param_of, postfix_suffix_of, prefix_of, primary_of, spec_of, suffix_of, assign_of, choice_of, cond_of, declarator_of, member_of, next_assign_of, next_declarator_of, next_operand_of, next_param_of, specs_of, target_of, enumerator_of, next_enumerator_of}
 use Rattle.c_tree.specs.Spelling.{spell_binary, spell_operand, spell_param, spell_postfix_suffix, spell_prefix, spell_primary, spell_spec, spell_suffix, spell_assign, spell_cast, spell_choice, spell_cond, spell_declarator, spell_expr, spell_member, spell_next_assign, spell_next_declarator, spell_next_operand, spell_next_param, spell_postfix, spell_specs, spell_struct_body, spell_target, spell_type_name, spell_enum_body, spell_enumerator, spell_next_enumerator}
 use Rattle.c_tree.proofs.Lists.{spelled_posted, spelled_joined, spelled_listed, spelled_prefixed, spelled_chosen, spelled_assigned, specs_listed, members_listed, declarators_listed, suffixes_listed, params_listed, enumerators_listed}
-use Rattle.c_tree.proofs.Shapes.{show_binary_operand, show_binary_chain, show_operand_postfix, show_operand_sizeof_type, show_param_named, show_param_unnamed, show_postfix_suffix_index, show_postfix_suffix_call_bare, show_postfix_suffix_call, show_postfix_suffix_member, show_postfix_suffix_step, show_prefix_operator, show_prefix_sizeof, show_prefix_cast, show_primary_name, show_primary_constant, show_primary_group, show_spec_word, show_spec_reference, show_spec_body, show_suffix_array_unsized, show_suffix_array, show_suffix_empty, show_suffix_void, show_suffix_params, show_assign, show_cast, show_choice, show_cond, show_declarator, show_expr, show_member, show_next_assign, show_next_declarator, show_next_operand, show_next_param, show_postfix, show_specs, show_struct_body, show_target, show_type_name, show_enumerator_bare, show_enumerator_valued, show_spec_type_name, show_spec_enum_reference, show_spec_enum_body, show_enum_body, show_next_enumerator}
-use Rattle.c_tree.specs.declared.expression.Assign.{Assign}
-use Rattle.c_tree.specs.declared.expression.Cast.{Cast}
-use Rattle.c_tree.specs.declared.expression.Choice.{Choice}
-use Rattle.c_tree.specs.declared.expression.Cond.{Cond}
-use Rattle.c_tree.specs.declared.expression.Declarator.{Declarator}
-use Rattle.c_tree.specs.declared.expression.EnumBody.{EnumBody}
-use Rattle.c_tree.specs.declared.expression.Expr.{Expr}
-use Rattle.c_tree.specs.declared.expression.Member.{Member}
-use Rattle.c_tree.specs.declared.expression.NextAssign.{NextAssign}
-use Rattle.c_tree.specs.declared.expression.NextDeclarator.{NextDeclarator}
-use Rattle.c_tree.specs.declared.expression.NextEnumerator.{NextEnumerator}
-use Rattle.c_tree.specs.declared.expression.NextOperand.{NextOperand}
-use Rattle.c_tree.specs.declared.expression.NextParam.{NextParam}
-use Rattle.c_tree.specs.declared.expression.Postfix.{Postfix}
-use Rattle.c_tree.specs.declared.expression.Specs.{Specs}
-use Rattle.c_tree.specs.declared.expression.StructBody.{StructBody}
-use Rattle.c_tree.specs.declared.expression.Target.{Target}
-use Rattle.c_tree.specs.declared.expression.TypeName.{TypeName}
-use Rattle.c_tree.specs.declared.expression.Binary.TheVariants as Binary
-use Rattle.c_tree.specs.declared.expression.Enumerator.TheVariants as Enumerator
-use Rattle.c_tree.specs.declared.expression.Operand.TheVariants as Operand
-use Rattle.c_tree.specs.declared.expression.Param.TheVariants as Param
-use Rattle.c_tree.specs.declared.expression.PostfixSuffix.TheVariants as PostfixSuffix
-use Rattle.c_tree.specs.declared.expression.Prefix.TheVariants as Prefix
-use Rattle.c_tree.specs.declared.expression.Primary.TheVariants as Primary
-use Rattle.c_tree.specs.declared.expression.Spec.TheVariants as Spec
-use Rattle.c_tree.specs.declared.expression.Suffix.TheVariants as Suffix
-use Rattle.c_tree.specs.declared.expression.Binary.TheViews.{out-Assign, out-Cast, out-Choice, out-Cond, out-Declarator, out-EnumBody, out-Expr, out-Member, out-NextAssign, out-NextDeclarator, out-NextEnumerator, out-NextOperand, out-NextParam, out-Postfix, out-Specs, out-StructBody, out-Target, out-TypeName}
+use Rattle.c_nodes.proofs.Shapes.{show_binary_operand, show_binary_chain, show_operand_postfix, show_operand_sizeof_type, show_param_named, show_param_unnamed, show_postfix_suffix_index, show_postfix_suffix_call_bare, show_postfix_suffix_call, show_postfix_suffix_member, show_postfix_suffix_step, show_prefix_operator, show_prefix_sizeof, show_prefix_cast, show_primary_name, show_primary_constant, show_primary_group, show_spec_word, show_spec_reference, show_spec_body, show_suffix_array_unsized, show_suffix_array, show_suffix_empty, show_suffix_void, show_suffix_params, show_assign, show_cast, show_choice, show_cond, show_declarator, show_expr, show_member, show_postfix, show_specs, show_struct_body, show_enumerator_bare, show_enumerator_valued, show_spec_type_name, show_spec_enum_reference, show_spec_enum_body, show_enum_body}
+use Rattle.c_nodes.specs.declared.expression.Assign.{Assign}
+use Rattle.c_nodes.specs.declared.expression.Cast.{Cast}
+use Rattle.c_nodes.specs.declared.expression.Choice.{Choice}
+use Rattle.c_nodes.specs.declared.expression.Cond.{Cond}
+use Rattle.c_nodes.specs.declared.expression.Declarator.{Declarator}
+use Rattle.c_nodes.specs.declared.expression.EnumBody.{EnumBody}
+use Rattle.c_nodes.specs.declared.expression.Expr.{Expr}
+use Rattle.c_nodes.specs.declared.expression.Member.{Member}
+use Rattle.c_nodes.specs.declared.expression.Postfix.{Postfix}
+use Rattle.c_nodes.specs.declared.expression.Specs.{Specs}
+use Rattle.c_nodes.specs.declared.expression.StructBody.{StructBody}
+use Rattle.c_nodes.specs.declared.expression.Binary.TheVariants as Binary
+use Rattle.c_nodes.specs.declared.expression.Enumerator.TheVariants as Enumerator
+use Rattle.c_nodes.specs.declared.expression.Operand.TheVariants as Operand
+use Rattle.c_nodes.specs.declared.expression.Param.TheVariants as Param
+use Rattle.c_nodes.specs.declared.expression.PostfixSuffix.TheVariants as PostfixSuffix
+use Rattle.c_nodes.specs.declared.expression.Prefix.TheVariants as Prefix
+use Rattle.c_nodes.specs.declared.expression.Primary.TheVariants as Primary
+use Rattle.c_nodes.specs.declared.expression.Spec.TheVariants as Spec
+use Rattle.c_nodes.specs.declared.expression.Suffix.TheVariants as Suffix
+use Rattle.c_nodes.specs.declared.expression.Binary.TheViews.{out-Assign, out-Cast, out-Choice, out-Cond, out-Declarator, out-EnumBody, out-Expr, out-Member, out-Postfix, out-Specs, out-StructBody}
 
 pub see_binary_operand : (operand : _) → spell_binary (Binary.Operand operand) ≡ spell_cast operand
 see_binary_operand operand = ap spelled (show_binary_operand operand)
@@ -150,17 +143,17 @@ see_expr x = ap spelled (show_expr x) ∙ spelled_listed next_assign_of (out-Exp
 pub see_member : (x : Member) → spell_member x ≡ spell_specs (out-Member x).specs ++ (spell_declarator (out-Member x).first ++ (flat (map spell_next_declarator (out-Member x).others.items) ++ punct Semicolon (out-Member x).semicolon ∷ []))
 see_member x = ap spelled_member (show_member x) ∙ ap (λ (l : Symbols). spelled_specs (specs_of (out-Member x).specs) ++ (spelled_declarator (declarator_of (out-Member x).first) ++ (l ++ punct Semicolon (out-Member x).semicolon ∷ []))) (declarators_listed next_declarator_of (out-Member x).others.items)
 
-pub see_next_assign : (x : NextAssign) → spell_next_assign x ≡ punct Comma (out-NextAssign x).comma ∷ spell_assign (out-NextAssign x).assign
-see_next_assign x = ap (λ (n : ℕ × Tree). punct Comma n.0 ∷ spelled n.1) (show_next_assign x)
+pub see_next_assign : (x : NextAssign) → spell_next_assign x ≡ punct Comma x.0 ∷ spell_assign x.1
+see_next_assign x = refl
 
-pub see_next_declarator : (x : NextDeclarator) → spell_next_declarator x ≡ punct Comma (out-NextDeclarator x).comma ∷ spell_declarator (out-NextDeclarator x).declarator
-see_next_declarator x = ap (λ (n : ℕ × DeclaratorTree). punct Comma n.0 ∷ spelled_declarator n.1) (show_next_declarator x)
+pub see_next_declarator : (x : NextDeclarator) → spell_next_declarator x ≡ punct Comma x.0 ∷ spell_declarator x.1
+see_next_declarator x = refl
 
-pub see_next_operand : (x : NextOperand) → spell_next_operand x ≡ signed (out-NextOperand x).operator.sign ∷ spell_binary (out-NextOperand x).operand
-see_next_operand x = ap (λ (n : Symbol × Tree). n.0 ∷ spelled n.1) (show_next_operand x)
+pub see_next_operand : (x : NextOperand) → spell_next_operand x ≡ signed x.0.sign ∷ spell_binary x.1
+see_next_operand x = refl
 
-pub see_next_param : (x : NextParam) → spell_next_param x ≡ punct Comma (out-NextParam x).comma ∷ spell_param (out-NextParam x).param
-see_next_param x = ap (λ (n : ℕ × ParamTree). punct Comma n.0 ∷ spelled_param n.1) (show_next_param x)
+pub see_next_param : (x : NextParam) → spell_next_param x ≡ punct Comma x.0 ∷ spell_param x.1
+see_next_param x = refl
 
 pub see_postfix : (x : Postfix) → spell_postfix x ≡ spell_primary (out-Postfix x).primary ++ flat (map spell_postfix_suffix (out-Postfix x).suffixes.items)
 see_postfix x = ap spelled (show_postfix x) ∙ spelled_posted postfix_suffix_of (out-Postfix x).suffixes.items (primary_of (out-Postfix x).primary)
@@ -171,14 +164,14 @@ see_specs x = ap spelled_specs (show_specs x) ∙ ap (λ (l : Symbols). spelled_
 pub see_struct_body : (x : StructBody) → spell_struct_body x ≡ key words.Struct (out-StructBody x).keyword ∷ (spell_tag (out-StructBody x).tag ++ punct LeftBrace (out-StructBody x).opening ∷ (spell_member (out-StructBody x).first ++ (flat (map spell_member (out-StructBody x).others.items) ++ punct RightBrace (out-StructBody x).closing ∷ [])))
 see_struct_body x = ap spelled_spec (show_struct_body x) ∙ ap (λ (l : Symbols). key words.Struct (out-StructBody x).keyword ∷ (spell_tag (out-StructBody x).tag ++ punct LeftBrace (out-StructBody x).opening ∷ (spelled_member (member_of (out-StructBody x).first) ++ (l ++ punct RightBrace (out-StructBody x).closing ∷ [])))) (members_listed member_of (out-StructBody x).others.items)
 
-pub see_next_enumerator : (x : NextEnumerator) → spell_next_enumerator x ≡ punct Comma (out-NextEnumerator x).comma ∷ spell_enumerator (out-NextEnumerator x).enumerator
-see_next_enumerator x = ap (λ (n : ℕ × EnumeratorTree). punct Comma n.0 ∷ spelled_enumerator n.1) (show_next_enumerator x)
+pub see_next_enumerator : (x : NextEnumerator) → spell_next_enumerator x ≡ punct Comma x.0 ∷ spell_enumerator x.1
+see_next_enumerator x = refl
 
 pub see_enum_body : (x : EnumBody) → spell_enum_body x ≡ key words.Enum (out-EnumBody x).keyword ∷ (spell_tag (out-EnumBody x).tag ++ punct LeftBrace (out-EnumBody x).opening ∷ (spell_enumerator (out-EnumBody x).first ++ (flat (map spell_next_enumerator (out-EnumBody x).others.items) ++ (spelled_comma (out-EnumBody x).last_comma ++ punct RightBrace (out-EnumBody x).closing ∷ []))))
 see_enum_body x = ap spelled_spec (show_enum_body x) ∙ ap (λ (l : Symbols). key words.Enum (out-EnumBody x).keyword ∷ (spell_tag (out-EnumBody x).tag ++ punct LeftBrace (out-EnumBody x).opening ∷ (spelled_enumerator (enumerator_of (out-EnumBody x).first) ++ (l ++ (spelled_comma (out-EnumBody x).last_comma ++ punct RightBrace (out-EnumBody x).closing ∷ []))))) (enumerators_listed next_enumerator_of (out-EnumBody x).others.items)
 
-pub see_target : (x : Target) → spell_target x ≡ spell_cast (out-Target x).place ++ signed (out-Target x).operator ∷ []
-see_target x = ap (λ (t : Tree × Symbol). spelled t.0 ++ t.1 ∷ []) (show_target x)
+pub see_target : (x : Target) → spell_target x ≡ spell_cast x.0 ++ signed x.1 ∷ []
+see_target x = refl
 
-pub see_type_name : (x : TypeName) → spell_type_name x ≡ spell_specs (out-TypeName x).specs ++ spell_pointers (out-TypeName x).pointers.items
-see_type_name x = ap spelled_type (show_type_name x)
+pub see_type_name : (x : TypeName) → spell_type_name x ≡ spell_specs x.0 ++ spell_pointers x.1.items
+see_type_name x = refl

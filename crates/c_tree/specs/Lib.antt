@@ -1,9 +1,2 @@
-pub mod Words
-pub mod Kinds
-pub mod Trees
-pub mod Lists
-pub mod Views
-pub mod Programs
-pub mod ProgramViews
 pub mod Spelling
 pub mod Statements

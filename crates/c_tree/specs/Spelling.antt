@@ -1,36 +1,29 @@
 -- How the expressions and declarators of the code are spelled: as the pure data that they are.
 use Rattle.std.specs.Prelude.{[], ◌∷◌, ◌++◌}
 use Rattle.c_token.specs.declared.token.Punct.TheVariants as marks
-use Rattle.c_tree.specs.Words.{Symbols, punct}
-use Rattle.c_tree.specs.Trees.{spelled, spelled_post, spelled_pre, spelled_type, spelled_specs, spelled_spec, spelled_member, spelled_declarator, spelled_suffix, spelled_param, spelled_enumerator}
-use Rattle.c_tree.specs.Views.{binary_of, operand_of, param_of, postfix_suffix_of, prefix_of, primary_of, spec_of, suffix_of, assign_of, cast_of, cond_of, declarator_of, expr_of, member_of, postfix_of, specs_of, struct_body_of, type_name_of, choice_of, next_assign_of, next_declarator_of, next_operand_of, next_param_of, target_of, enumerator_of, enum_body_of, next_enumerator_of}
-use Rattle.c_tree.specs.declared.expression.Assign.{Assign}
-use Rattle.c_tree.specs.declared.expression.Binary.{Binary}
-use Rattle.c_tree.specs.declared.expression.Cast.{Cast}
-use Rattle.c_tree.specs.declared.expression.Choice.{Choice}
-use Rattle.c_tree.specs.declared.expression.Cond.{Cond}
-use Rattle.c_tree.specs.declared.expression.Declarator.{Declarator}
-use Rattle.c_tree.specs.declared.expression.EnumBody.{EnumBody}
-use Rattle.c_tree.specs.declared.expression.Enumerator.{Enumerator}
-use Rattle.c_tree.specs.declared.expression.Expr.{Expr}
-use Rattle.c_tree.specs.declared.expression.Member.{Member}
-use Rattle.c_tree.specs.declared.expression.NextAssign.{NextAssign}
-use Rattle.c_tree.specs.declared.expression.NextDeclarator.{NextDeclarator}
-use Rattle.c_tree.specs.declared.expression.NextEnumerator.{NextEnumerator}
-use Rattle.c_tree.specs.declared.expression.NextOperand.{NextOperand}
-use Rattle.c_tree.specs.declared.expression.NextParam.{NextParam}
-use Rattle.c_tree.specs.declared.expression.Operand.{Operand}
-use Rattle.c_tree.specs.declared.expression.Param.{Param}
-use Rattle.c_tree.specs.declared.expression.Postfix.{Postfix}
-use Rattle.c_tree.specs.declared.expression.PostfixSuffix.{PostfixSuffix}
-use Rattle.c_tree.specs.declared.expression.Prefix.{Prefix}
-use Rattle.c_tree.specs.declared.expression.Primary.{Primary}
-use Rattle.c_tree.specs.declared.expression.Spec.{Spec}
-use Rattle.c_tree.specs.declared.expression.Specs.{Specs}
-use Rattle.c_tree.specs.declared.expression.StructBody.{StructBody}
-use Rattle.c_tree.specs.declared.expression.Suffix.{Suffix}
-use Rattle.c_tree.specs.declared.expression.Target.{Target}
-use Rattle.c_tree.specs.declared.expression.TypeName.{TypeName}
+use Rattle.c_nodes.specs.Words.{Symbols, punct}
+use Rattle.c_nodes.specs.Trees.{spelled, spelled_post, spelled_pre, spelled_type, spelled_specs, spelled_spec, spelled_member, spelled_declarator, spelled_suffix, spelled_param, spelled_enumerator}
+use Rattle.c_nodes.specs.Views.{NextAssign, NextDeclarator, NextEnumerator, NextOperand, NextParam, Target, TypeName, binary_of, operand_of, param_of, postfix_suffix_of, prefix_of, primary_of, spec_of, suffix_of, assign_of, cast_of, cond_of, declarator_of, expr_of, member_of, postfix_of, specs_of, struct_body_of, type_name_of, choice_of, next_assign_of, next_declarator_of, next_operand_of, next_param_of, target_of, enumerator_of, enum_body_of, next_enumerator_of}
+use Rattle.c_nodes.specs.declared.expression.Assign.{Assign}
+use Rattle.c_nodes.specs.declared.expression.Binary.{Binary}
+use Rattle.c_nodes.specs.declared.expression.Cast.{Cast}
+use Rattle.c_nodes.specs.declared.expression.Choice.{Choice}
+use Rattle.c_nodes.specs.declared.expression.Cond.{Cond}
+use Rattle.c_nodes.specs.declared.expression.Declarator.{Declarator}
+use Rattle.c_nodes.specs.declared.expression.EnumBody.{EnumBody}
+use Rattle.c_nodes.specs.declared.expression.Enumerator.{Enumerator}
+use Rattle.c_nodes.specs.declared.expression.Expr.{Expr}
+use Rattle.c_nodes.specs.declared.expression.Member.{Member}
+use Rattle.c_nodes.specs.declared.expression.Operand.{Operand}
+use Rattle.c_nodes.specs.declared.expression.Param.{Param}
+use Rattle.c_nodes.specs.declared.expression.Postfix.{Postfix}
+use Rattle.c_nodes.specs.declared.expression.PostfixSuffix.{PostfixSuffix}
+use Rattle.c_nodes.specs.declared.expression.Prefix.{Prefix}
+use Rattle.c_nodes.specs.declared.expression.Primary.{Primary}
+use Rattle.c_nodes.specs.declared.expression.Spec.{Spec}
+use Rattle.c_nodes.specs.declared.expression.Specs.{Specs}
+use Rattle.c_nodes.specs.declared.expression.StructBody.{StructBody}
+use Rattle.c_nodes.specs.declared.expression.Suffix.{Suffix}
 
 abbrev pub spell_binary : Binary → Symbols
 spell_binary x = spelled (binary_of x)

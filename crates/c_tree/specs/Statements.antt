@@ -4,31 +4,31 @@ use Rattle.std.specs.Prelude.{ℕ, [], ◌∷◌, ◌++◌, Option, Some, None}
 use Rattle.std.specs.Global.{Box}
 use Rattle.c_token.specs.declared.token.Keyword.TheVariants as words
 use Rattle.c_token.specs.declared.token.Punct.TheVariants as marks
-use Rattle.c_tree.specs.Words.{Symbols, key, punct}
-use Rattle.c_tree.specs.Views.{specs_of, declarator_of}
-use Rattle.c_tree.specs.Trees.{spelled_specs, spelled_declarator}
-use Rattle.c_tree.specs.Programs.{StatementTree, spelled_any, spelled_condition, spelled_head, spelled_label, spelled_init, spelled_equals, spelled_begun, spelled_declared, spelled_declaration, spelled_statement, spelled_arm, spelled_block, spelled_item}
-use Rattle.c_tree.specs.ProgramViews.{any_of, condition_of, head_of, label_of, init_of, next_init_of, equals_of, begun_of, next_begun_of, declared_of, declaration_of, statement_of, InnerTree, LabelInner, StatementInner, switch_item_of, arm_of, block_of, else_arm_of, if_chain_of, otherwise_of, otherwise_in, item_of}
-use Rattle.c_tree.specs.declared.expression.Expr.{Expr}
-use Rattle.c_tree.specs.declared.statement.Item.{Item}
-use Rattle.c_tree.specs.declared.statement.Function.{Function}
-use Rattle.c_tree.specs.declared.statement.Declaration.{Declaration}
-use Rattle.c_tree.specs.declared.statement.Declared.{Declared}
-use Rattle.c_tree.specs.declared.statement.NextInitDeclarator.{NextInitDeclarator}
-use Rattle.c_tree.specs.declared.statement.InitDeclarator.{InitDeclarator}
-use Rattle.c_tree.specs.declared.statement.EqualsInit.{EqualsInit}
-use Rattle.c_tree.specs.declared.statement.Init.{Init}
-use Rattle.c_tree.specs.declared.statement.NextInit.{NextInit}
-use Rattle.c_tree.specs.declared.statement.Condition.{Condition}
-use Rattle.c_tree.specs.declared.statement.ForHead.{ForHead}
-use Rattle.c_tree.specs.declared.statement.Label.{Label}
-use Rattle.c_tree.specs.declared.statement.Statement.{Statement}
-use Rattle.c_tree.specs.declared.statement.SwitchItem.{SwitchItem}
-use Rattle.c_tree.specs.declared.statement.Arm.{Arm}
-use Rattle.c_tree.specs.declared.statement.Block.{Block}
-use Rattle.c_tree.specs.declared.statement.ElseArm.{ElseArm}
-use Rattle.c_tree.specs.declared.statement.IfChain.{IfChain}
-use Rattle.c_tree.specs.declared.statement.Otherwise.{Otherwise}
+use Rattle.c_nodes.specs.Words.{Symbols, key, punct}
+use Rattle.c_nodes.specs.Views.{specs_of, declarator_of}
+use Rattle.c_nodes.specs.Trees.{spelled_specs, spelled_declarator}
+use Rattle.c_nodes.specs.Programs.{StatementTree, spelled_any, spelled_condition, spelled_head, spelled_label, spelled_init, spelled_equals, spelled_begun, spelled_declared, spelled_declaration, spelled_statement, spelled_arm, spelled_block, spelled_item}
+use Rattle.c_nodes.specs.ProgramViews.{any_of, condition_of, head_of, label_of, init_of, next_init_of, equals_of, begun_of, next_begun_of, declared_of, declaration_of, statement_of, InnerTree, LabelInner, StatementInner, switch_item_of, arm_of, block_of, else_arm_of, if_chain_of, otherwise_of, otherwise_in, item_of}
+use Rattle.c_nodes.specs.declared.expression.Expr.{Expr}
+use Rattle.c_nodes.specs.declared.statement.Item.{Item}
+use Rattle.c_nodes.specs.declared.statement.Function.{Function}
+use Rattle.c_nodes.specs.declared.statement.Declaration.{Declaration}
+use Rattle.c_nodes.specs.declared.statement.Declared.{Declared}
+use Rattle.c_nodes.specs.declared.statement.NextInitDeclarator.{NextInitDeclarator}
+use Rattle.c_nodes.specs.declared.statement.InitDeclarator.{InitDeclarator}
+use Rattle.c_nodes.specs.declared.statement.EqualsInit.{EqualsInit}
+use Rattle.c_nodes.specs.declared.statement.Init.{Init}
+use Rattle.c_nodes.specs.declared.statement.NextInit.{NextInit}
+use Rattle.c_nodes.specs.declared.statement.Condition.{Condition}
+use Rattle.c_nodes.specs.declared.statement.ForHead.{ForHead}
+use Rattle.c_nodes.specs.declared.statement.Label.{Label}
+use Rattle.c_nodes.specs.declared.statement.Statement.{Statement}
+use Rattle.c_nodes.specs.declared.statement.SwitchItem.{SwitchItem}
+use Rattle.c_nodes.specs.declared.statement.Arm.{Arm}
+use Rattle.c_nodes.specs.declared.statement.Block.{Block}
+use Rattle.c_nodes.specs.declared.statement.ElseArm.{ElseArm}
+use Rattle.c_nodes.specs.declared.statement.IfChain.{IfChain}
+use Rattle.c_nodes.specs.declared.statement.Otherwise.{Otherwise}
 
 abbrev pub spell_any : Option Expr → Symbols
 spell_any x = spelled_any (any_of x)

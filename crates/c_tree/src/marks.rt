@@ -4,9 +4,9 @@
 
 ghost use Rattle.std.specs.Prelude.{◌≡◌, ◌++◌, ◌∷◌, [], IfOk};
 ghost use Rattle.c_token.specs.declared.token.TokKind.TheVariants as kinds;
-ghost use Rattle.c_tree.specs.Words.{kinds_of, spelled_comma, spell_constant, spell_pointer, spell_pointers, spell_tag};
+ghost use Rattle.c_nodes.specs.Words.{kinds_of, spelled_comma, spell_constant, spell_pointer, spell_pointers, spell_tag};
 
-use crate::word::{Constant, Name, Pointer};
+use c_nodes::word::{Constant, Name, Pointer};
 use c_token::{Keyword, Punct, TokKind};
 use std::alloc::AllocError;
 

@@ -5,15 +5,15 @@
 ghost use Rattle.std.specs.Prelude.{◌≡◌, ◌++◌, ◌∷◌, [], IfOk, map};
 ghost use Rattle.c_token.specs.declared.token.Punct.TheVariants.{Semicolon, RightBrace};
 ghost use Rattle.c_token.specs.declared.token.TokKind.TheVariants as kinds;
-ghost use Rattle.c_tree.specs.Words.{kinds_of, flat, spelled_comma};
+ghost use Rattle.c_nodes.specs.Words.{kinds_of, flat, spelled_comma};
 ghost use Rattle.c_tree.specs.Statements.{spell_any, spell_condition, spell_for_head, spell_label, spell_init, spell_next_init, spell_equals_init, spell_init_declarator, spell_next_init_declarator, spell_declared, spell_declaration, spell_statement, spell_switch_item, spell_arm, spell_block, spell_else_arm, spell_if_chain, spell_otherwise, spell_function, spell_item};
-ghost use Rattle.c_tree.specs.Programs.{spelled_unit};
-ghost use Rattle.c_tree.specs.ProgramViews.{unit_of};
+ghost use Rattle.c_nodes.specs.Programs.{spelled_unit};
+ghost use Rattle.c_nodes.specs.ProgramViews.{unit_of};
 
-use crate::expression::Expr;
 use crate::marks::{comma, punct, text, word};
 use crate::spelling::{put_assign, put_cond, put_declarator, put_expr, put_specs};
-use crate::statement::{
+use c_nodes::expression::Expr;
+use c_nodes::statement::{
     Arm, Block, Condition, Declaration, Declared, ElseArm, EqualsInit, ForHead, Function, IfChain,
     Init, InitDeclarator, Item, Label, NextInit, NextInitDeclarator, Otherwise, Statement,
     SwitchItem, Unit,

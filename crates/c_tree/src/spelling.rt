@@ -3,15 +3,15 @@
 //! Each function puts the kinds of the tokens of one part after those that are there.
 
 ghost use Rattle.std.specs.Prelude.{◌≡◌, ◌++◌, IfOk, map};
-ghost use Rattle.c_tree.specs.Words.{kinds_of, flat, spell_pointers};
+ghost use Rattle.c_nodes.specs.Words.{kinds_of, flat, spell_pointers};
 ghost use Rattle.c_tree.specs.Spelling.{spell_assign, spell_binary, spell_cast, spell_choice, spell_cond, spell_declarator, spell_expr, spell_member, spell_next_assign, spell_next_declarator, spell_next_operand, spell_next_param, spell_operand, spell_param, spell_postfix, spell_postfix_suffix, spell_prefix, spell_primary, spell_spec, spell_specs, spell_enum_body, spell_enumerator, spell_next_enumerator, spell_struct_body, spell_suffix, spell_target, spell_type_name};
 
-use crate::expression::{
+use crate::marks::{comma, constant, name, pointers, punct, tag, type_name, word};
+use c_nodes::expression::{
     Assign, Binary, Cast, Choice, Cond, Declarator, EnumBody, Enumerator, Expr, Member, NextAssign,
     NextDeclarator, NextEnumerator, NextOperand, NextParam, Operand, Param, Postfix, PostfixSuffix,
     Prefix, Primary, Spec, Specs, StructBody, Suffix, Target, TypeName,
 };
-use crate::marks::{comma, constant, name, pointers, punct, tag, type_name, word};
 use c_token::{Keyword, Punct, TokKind};
 use std::alloc::AllocError;
 
@@ -74,7 +74,7 @@ fn put_next_enumerator(
     ensures { IfOk result (λ _. out.new.items ≡ out.old.items ++ kinds_of (spell_next_enumerator next_enumerator.now)) }
 {
     punct(out, Punct::Comma)?;
-    put_enumerator(out, &next_enumerator.enumerator)
+    put_enumerator(out, &next_enumerator.1)
 }
 
 #[cycle(spelling)]
@@ -129,7 +129,7 @@ fn put_next_declarator(
     ensures { IfOk result (λ _. out.new.items ≡ out.old.items ++ kinds_of (spell_next_declarator next_declarator.now)) }
 {
     punct(out, Punct::Comma)?;
-    put_declarator(out, &next_declarator.declarator)
+    put_declarator(out, &next_declarator.1)
 }
 
 /// Puts the kinds of the tokens of a declarator after those that are there.
@@ -185,7 +185,7 @@ fn put_next_param(out: &mut Vec<TokKind>, next_param: &NextParam) -> Result<(), 
     ensures { IfOk result (λ _. out.new.items ≡ out.old.items ++ kinds_of (spell_next_param next_param.now)) }
 {
     punct(out, Punct::Comma)?;
-    put_param(out, &next_param.param)
+    put_param(out, &next_param.1)
 }
 
 #[cycle(spelling)]
@@ -218,8 +218,8 @@ fn put_param(out: &mut Vec<TokKind>, param: &Param) -> Result<(), AllocError>
 fn put_type_name(out: &mut Vec<TokKind>, type_name: &TypeName) -> Result<(), AllocError>
     ensures { IfOk result (λ _. out.new.items ≡ out.old.items ++ kinds_of (spell_type_name type_name.now)) }
 {
-    put_specs(out, &type_name.specs)?;
-    pointers(out, &type_name.pointers)
+    put_specs(out, &type_name.0)?;
+    pointers(out, &type_name.1)
 }
 
 /// Puts the kinds of the tokens of an expression after those that are there.
@@ -241,7 +241,7 @@ fn put_next_assign(out: &mut Vec<TokKind>, next_assign: &NextAssign) -> Result<(
     ensures { IfOk result (λ _. out.new.items ≡ out.old.items ++ kinds_of (spell_next_assign next_assign.now)) }
 {
     punct(out, Punct::Comma)?;
-    put_assign(out, &next_assign.assign)
+    put_assign(out, &next_assign.1)
 }
 
 /// Puts the kinds of the tokens of an assignment expression after those that are there.
@@ -261,8 +261,8 @@ pub fn put_assign(out: &mut Vec<TokKind>, assign: &Assign) -> Result<(), AllocEr
 fn put_target(out: &mut Vec<TokKind>, target: &Target) -> Result<(), AllocError>
     ensures { IfOk result (λ _. out.new.items ≡ out.old.items ++ kinds_of (spell_target target.now)) }
 {
-    put_cast(out, &target.place)?;
-    punct(out, target.operator.punct)
+    put_cast(out, &target.0)?;
+    punct(out, target.1.punct)
 }
 
 /// Puts the kinds of the tokens of a conditional expression after those that are there.
@@ -310,8 +310,8 @@ fn put_binary(out: &mut Vec<TokKind>, binary: &Binary) -> Result<(), AllocError>
 fn put_next_operand(out: &mut Vec<TokKind>, next_operand: &NextOperand) -> Result<(), AllocError>
     ensures { IfOk result (λ _. out.new.items ≡ out.old.items ++ kinds_of (spell_next_operand next_operand.now)) }
 {
-    punct(out, next_operand.operator.sign.punct)?;
-    put_binary(out, &next_operand.operand)
+    punct(out, next_operand.0.sign.punct)?;
+    put_binary(out, &next_operand.1)
 }
 
 #[cycle(spelling)]

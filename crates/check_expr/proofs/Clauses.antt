@@ -1,8 +1,8 @@
 -- What the rule on expressions says of each kind of node.
 use Rattle.std.proofs.Common.{◌≡◌, ℕ, [], Result, refl, sym, ap, subst, ◌∙◌}
-use Rattle.c_tree.specs.Trees as tree
-use Rattle.c_tree.specs.Trees.{Tree, Post, TypeTree}
-use Rattle.c_tree.specs.Words.{Symbol}
+use Rattle.c_nodes.specs.Trees as tree
+use Rattle.c_nodes.specs.Trees.{Tree, Post, TypeTree}
+use Rattle.c_nodes.specs.Words.{Symbol}
 use Rattle.type_rules.specs.Expressions.{judged, judged_behind, leaf, bracketed, listed_by, signed, selected, step_behind, arguments_in}
 use Rattle.type_rules.specs.Known.{Known, Rule, given, known_here, wanted, go_on, ◌>>=◌}
 use Rattle.type_rules.specs.Terms.{Term, Operand, side_of, used, indexed, no_table}

@@ -4,17 +4,15 @@ use Rattle.std.specs.Prelude.{◌==◌}
 use Rattle.std.proofs.lemmas.Bool.{eqb-false}
 use Rattle.std.proofs.Math.ListN.{get_or}
 use Rattle.std.proofs.lemmas.List.{drop_more, drop_all, append-nil}
-use Rattle.c_tree.specs.Lists.{more_specs, more_members, more_declarators, suffixes_of, more_params}
-use Rattle.c_tree.specs.Trees as tree
-use Rattle.c_tree.specs.Trees.{Tree, SpecTrees, SpecTree, MemberTree, MoreMembers, DeclaratorTree, SuffixTree, SuffixTrees, ParamTree, MoreParams, TypeTree, EnumeratorTree, MoreEnumerators}
-use Rattle.c_tree.specs.Views.{spec_of, member_of, next_declarator_of, suffix_of, next_param_of}
-use Rattle.c_tree.specs.Words.{Symbol, Symbols, keyed}
-use Rattle.c_tree.specs.declared.expression.Spec.{Spec}
-use Rattle.c_tree.specs.declared.expression.Member.{Member}
-use Rattle.c_tree.specs.declared.expression.NextDeclarator.{NextDeclarator}
-use Rattle.c_tree.specs.declared.expression.NextParam.{NextParam}
-use Rattle.c_tree.specs.declared.expression.Suffix.{Suffix}
-use Rattle.c_tree.specs.declared.word.Word.{Word}
+use Rattle.c_nodes.specs.Lists.{more_specs, more_members, more_declarators, suffixes_of, more_params}
+use Rattle.c_nodes.specs.Trees as tree
+use Rattle.c_nodes.specs.Trees.{Tree, SpecTrees, SpecTree, MemberTree, MoreMembers, DeclaratorTree, SuffixTree, SuffixTrees, ParamTree, MoreParams, TypeTree, EnumeratorTree, MoreEnumerators}
+use Rattle.c_nodes.specs.Views.{NextDeclarator, NextParam, spec_of, member_of, next_declarator_of, suffix_of, next_param_of}
+use Rattle.c_nodes.specs.Words.{Symbol, Symbols, keyed}
+use Rattle.c_nodes.specs.declared.expression.Spec.{Spec}
+use Rattle.c_nodes.specs.declared.expression.Member.{Member}
+use Rattle.c_nodes.specs.declared.expression.Suffix.{Suffix}
+use Rattle.c_nodes.specs.declared.word.Word.{Word}
 use Rattle.c_operate.specs.Answers.{Refuses}
 use Rattle.c_operate.specs.declared.error.CheckError.{CheckError}
 use Rattle.type_rules.specs.Declarators.{Context, of_member, of_param, body_opened, structure_in, structure_of, specified, spec_rule, members, field, suffixes, suffix, param, outline_of, line_in}

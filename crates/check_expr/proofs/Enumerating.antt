@@ -4,12 +4,11 @@ use Rattle.std.proofs.lemmas.Bool.{true≢false}
 use Rattle.std.proofs.lemmas.Int.{ints, to_z-of_z}
 use Rattle.std.proofs.Math.ListN.{get_or}
 use Rattle.c_ints.specs.Quantity.{Quantity}
-use Rattle.c_tree.specs.Lists.{more_enumerators}
-use Rattle.c_tree.specs.Trees as tree
-use Rattle.c_tree.specs.Trees.{Tree, SpecTree, EnumeratorTree}
-use Rattle.c_tree.specs.Views.{next_enumerator_of}
-use Rattle.c_tree.specs.Words.{Symbol, Symbols}
-use Rattle.c_tree.specs.declared.expression.NextEnumerator.{NextEnumerator}
+use Rattle.c_nodes.specs.Lists.{more_enumerators}
+use Rattle.c_nodes.specs.Trees as tree
+use Rattle.c_nodes.specs.Trees.{Tree, SpecTree, EnumeratorTree}
+use Rattle.c_nodes.specs.Views.{next_enumerator_of, NextEnumerator}
+use Rattle.c_nodes.specs.Words.{Symbol, Symbols}
 use Rattle.c_operate.specs.Answers.{Refuses, Learns}
 use Rattle.c_operate.specs.declared.error.CheckError.{CheckError}
 use Rattle.c_operate.specs.declared.error.CheckError.TheVariants as errors

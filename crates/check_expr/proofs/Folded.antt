@@ -2,10 +2,10 @@
 use Rattle.std.proofs.Common.{◌≡◌, ℕ, List, [], ◌∷◌, ◌++◌, Ok, refl, sym, ap, ◌∙◌}
 use Rattle.c_token.specs.declared.token.Punct.TheVariants as marks
 use Rattle.c_token.specs.declared.token.TokKind.{TokKind}
-use Rattle.c_tree.specs.Lists.{posted, prefixed, joined, listed, ChoiceParts, chosen, assigned}
-use Rattle.c_tree.specs.Trees as tree
-use Rattle.c_tree.specs.Trees.{Tree, Post, Pre}
-use Rattle.c_tree.specs.Words.{Symbol, punct}
+use Rattle.c_nodes.specs.Lists.{posted, prefixed, joined, listed, ChoiceParts, chosen, assigned}
+use Rattle.c_nodes.specs.Trees as tree
+use Rattle.c_nodes.specs.Trees.{Tree, Post, Pre}
+use Rattle.c_nodes.specs.Words.{Symbol, punct}
 use Rattle.c_typed.specs.Trees.{Expression}
 use Rattle.type_rules.specs.Expressions.{judged, judged_behind, listed_by, arguments_in, one_at_least}
 use Rattle.type_rules.specs.Known.{Known, Rule, given, go_on, ◌>>=◌}

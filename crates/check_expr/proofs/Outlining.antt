@@ -5,10 +5,10 @@ use Rattle.std.proofs.lemmas.List.{drop_more}
 use Rattle.std.specs.Prelude.{slice_get}
 use Rattle.c_token.specs.declared.token.Keyword.TheVariants as words
 use Rattle.c_token.specs.declared.token.TokKind.TheVariants as kinds
-use Rattle.c_tree.specs.Kinds.{is_key}
-use Rattle.c_tree.specs.Words.{Symbol, Symbols, keyed, spell_pointers}
-use Rattle.c_tree.specs.declared.word.Pointer.{Pointer}
-use Rattle.c_tree.specs.declared.word.Word.{Word}
+use Rattle.c_nodes.specs.Kinds.{is_key}
+use Rattle.c_nodes.specs.Words.{Symbol, Symbols, keyed, spell_pointers}
+use Rattle.c_nodes.specs.declared.word.Pointer.{Pointer}
+use Rattle.c_nodes.specs.declared.word.Word.{Word}
 use Rattle.c_typed.specs.Sameness.{is_void, is_struct}
 use Rattle.c_typed.specs.declared.types.Qualified.{Qualified}
 use Rattle.c_typed.specs.declared.types.Ty.{Ty}

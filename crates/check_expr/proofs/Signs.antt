@@ -8,9 +8,9 @@ use Rattle.type_rules.specs.Faults.{Fault}
 use Rattle.type_rules.specs.Known.{Known}
 use Rattle.type_rules.specs.Places.{member}
 use Rattle.type_rules.specs.Terms.{Term, Operand}
-use Rattle.c_tree.specs.Kinds.{tier_of}
-use Rattle.c_tree.specs.Trees.{Tree}
-use Rattle.c_tree.specs.Words.{Symbol}
+use Rattle.c_nodes.specs.Kinds.{tier_of}
+use Rattle.c_nodes.specs.Trees.{Tree}
+use Rattle.c_nodes.specs.Words.{Symbol}
 use Rattle.check_expr.specs.Folds.{combined_from}
 
 pub selected_member : (p : Punct) (t : Term) (name : List ℕ) (k : Known) → ((p ≡ marks.Arrow) → ⊥) → member t name t.start k ≡ selected (kinds.Punct p) t name k

@@ -4,10 +4,10 @@ use Rattle.c_ints.specs.declared.operators.UnOp.TheVariants as unop
 use Rattle.c_token.specs.declared.token.Punct.{Punct}
 use Rattle.c_token.specs.declared.token.Punct.TheVariants as marks
 use Rattle.c_token.specs.declared.token.TokKind.{TokKind}
-use Rattle.c_tree.specs.Lists.{ChoiceParts}
-use Rattle.c_tree.specs.Trees as tree
-use Rattle.c_tree.specs.Trees.{Tree, Post, Pre}
-use Rattle.c_tree.specs.Words.{Symbol}
+use Rattle.c_nodes.specs.Lists.{ChoiceParts}
+use Rattle.c_nodes.specs.Trees as tree
+use Rattle.c_nodes.specs.Trees.{Tree, Post, Pre}
+use Rattle.c_nodes.specs.Words.{Symbol}
 use Rattle.c_typed.specs.declared.types.Qualified.{Qualified}
 use Rattle.type_rules.specs.Expressions.{judged, judged_behind, signed, listed_by, arguments_in}
 use Rattle.type_rules.specs.Known.{Rule, given, ◌>>=◌}

@@ -4,7 +4,7 @@ use Rattle.std.specs.declared.alloc.Global.{Global}
 use Rattle.std.specs.declared.vec.Vec.{Vec}
 use Rattle.c_token.specs.declared.token.TokKind.{TokKind}
 use Rattle.c_token.specs.declared.token.TokKind.TheVariants as kinds
-use Rattle.c_tree.specs.Words.{signed}
+use Rattle.c_nodes.specs.Words.{signed}
 use Rattle.type_rules.specs.Terms as rule
 use Rattle.c_operate.specs.Terms.{term_of, operand_of}
 use Rattle.c_operate.specs.declared.term.Operand.{Operand}

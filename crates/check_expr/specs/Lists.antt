@@ -3,9 +3,9 @@ use Rattle.std.specs.Prelude.{◌≡◌, ℕ, Bool, true, if◌then◌else◌, L
 use Rattle.c_token.specs.declared.token.Keyword.{Keyword}
 use Rattle.c_token.specs.declared.token.Keyword.TheVariants as words
 use Rattle.c_token.specs.declared.token.TokKind.TheVariants as kinds
-use Rattle.c_tree.specs.Kinds.{is_key}
-use Rattle.c_tree.specs.Trees.{SpecTree, TypeTree}
-use Rattle.c_tree.specs.Trees as tree
+use Rattle.c_nodes.specs.Kinds.{is_key}
+use Rattle.c_nodes.specs.Trees.{SpecTree, TypeTree}
+use Rattle.c_nodes.specs.Trees as tree
 use Rattle.c_operate.specs.Answers.{Refuses}
 use Rattle.c_operate.specs.declared.error.CheckError.{CheckError}
 use Rattle.c_typed.specs.declared.types.Qualified.{Qualified}

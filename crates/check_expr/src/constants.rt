@@ -1,6 +1,6 @@
 //! Integer constant expressions (ISO/IEC 9899:1990, 6.4).
 
-ghost use Rattle.c_tree.specs.Views.{cond_of};
+ghost use Rattle.c_nodes.specs.Views.{cond_of};
 ghost use Rattle.type_rules.specs.Constants as rule;
 ghost use Rattle.type_rules.specs.Known.{Known};
 ghost use Rattle.c_operate.specs.Answers.{Answers};
@@ -9,10 +9,10 @@ ghost use Rattle.c_operate.specs.Terms.{operand_of};
 
 use crate::expression::conditional;
 use c_ints::Value;
+use c_nodes::expression::Cond;
 use c_operate::checker::Checker;
 use c_operate::error::{CheckError, Kind, refused};
 use c_operate::term::{Operand, used};
-use c_tree::expression::Cond;
 use c_typed::Folded;
 
 // The greatest length of an array.

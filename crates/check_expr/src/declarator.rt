@@ -1,9 +1,9 @@
 //! Specifiers, structures, enumerations, declarators and parameters, from the tree's root down (ISO/IEC 9899:1990, 6.5).
 
 ghost use Rattle.std.specs.Prelude.{◌≡◌, ℕ, List, Some, Ok, map};
-ghost use Rattle.c_tree.specs.Lists.{more_params, suffixes_of};
-ghost use Rattle.c_tree.specs.Views.{declarator_of, member_of, next_param_of, param_of, spec_of, specs_of, struct_body_of, suffix_of};
-ghost use Rattle.c_tree.specs.Words.{spell_tag};
+ghost use Rattle.c_nodes.specs.Lists.{more_params, suffixes_of};
+ghost use Rattle.c_nodes.specs.Views.{declarator_of, member_of, next_param_of, param_of, spec_of, specs_of, struct_body_of, suffix_of};
+ghost use Rattle.c_nodes.specs.Words.{spell_tag};
 ghost use Rattle.type_rules.specs.Declarators as rule;
 ghost use Rattle.type_rules.specs.Known.{Known};
 ghost use Rattle.type_rules.specs.Rows as rows;
@@ -23,11 +23,11 @@ use crate::outline::{
 };
 use crate::specifiers::{self, Base, Site, Specified, Words};
 use crate::type_name::{self, base_named, enumeration_of};
+use c_nodes::expression::{Declarator, Member, NextParam, Param, Spec, Specs, StructBody, Suffix};
+use c_nodes::word::Name;
 use c_operate::checker::Checker;
 use c_operate::error::{CheckError, Kind, refused};
 use c_operate::types::{Progress, Tag, Types};
-use c_tree::expression::{Declarator, Member, NextParam, Param, Spec, Specs, StructBody, Suffix};
-use c_tree::word::Name;
 
 /// Where a declaration stands, and whether a structure or an enumeration may get its body there.
 #[derive(Clone, Copy)]
@@ -209,7 +209,7 @@ fn members(member: &Member, checker: &mut Checker, structure: usize) -> Result<(
     let specified = specified(&member.specs, checker, MEMBER)?;
     field(&member.first, checker, structure, specified)?;
     for next in &member.others {
-        field(&next.declarator, checker, structure, specified)?;
+        field(&next.1, checker, structure, specified)?;
     }
     Ok(())
 }
@@ -292,7 +292,7 @@ fn params(
     ensures { Lists result (map views.param_of list.new.params.items) (known_of checker.new) (rule.more_params (more_params (map next_param_of others.now)) bodies (map views.param_of list.old.params.items) (known_of checker.old)) }
 {
     for next in others {
-        param(&next.param, checker, bodies, list)?;
+        param(&next.1, checker, bodies, list)?;
     }
     Ok(())
 }

@@ -3,9 +3,9 @@
 ghost use Rattle.std.specs.Prelude.{◌≡◌, true, pos, map};
 ghost use Rattle.c_ints.specs.Range.{cut};
 ghost use Rattle.c_ints.specs.declared.types.IntTy.TheVariants as int;
-ghost use Rattle.c_tree.specs.Lists.{more_enumerators};
-ghost use Rattle.c_tree.specs.Views.{enumerator_of, enum_body_of, next_enumerator_of};
-ghost use Rattle.c_tree.specs.Words.{named, spell_tag};
+ghost use Rattle.c_nodes.specs.Lists.{more_enumerators};
+ghost use Rattle.c_nodes.specs.Views.{enumerator_of, enum_body_of, next_enumerator_of};
+ghost use Rattle.c_nodes.specs.Words.{named, spell_tag};
 ghost use Rattle.type_rules.specs.Declarators as declarators;
 ghost use Rattle.type_rules.specs.Enumerators as rule;
 ghost use Rattle.type_rules.specs.Known.{Known};
@@ -15,12 +15,12 @@ ghost use Rattle.c_operate.specs.Tables.{known_of, types_in};
 ghost use Rattle.check_expr.specs.Lists.{enum_rule};
 
 use crate::constants::constant_value;
+use c_nodes::expression::{EnumBody, Enumerator, NextEnumerator};
+use c_nodes::word::Name;
 use c_operate::checker::Checker;
 use c_operate::error::{CheckError, Kind, refused};
 use c_operate::scope::Binding;
 use c_operate::types::Types;
-use c_tree::expression::{EnumBody, Enumerator, NextEnumerator};
-use c_tree::word::Name;
 
 // The least and the greatest number of type int.
 const LEAST: i64 = -32_768;
@@ -79,7 +79,7 @@ fn enumerators(
 {
     let mut next = next;
     for other in others {
-        next = enumerator(&other.enumerator, checker, next)?;
+        next = enumerator(&other.1, checker, next)?;
     }
     Ok(next)
 }

@@ -5,7 +5,7 @@
 
 ghost use Rattle.std.specs.Prelude.{◌≡◌, ◌∷◌, [], map};
 ghost use Rattle.c_token.specs.declared.token.TokKind.TheVariants as kinds;
-ghost use Rattle.c_tree.specs.Views.{assign_of, binary_of, cast_of, choice_of, cond_of, expr_of, next_assign_of, next_operand_of, operand_of as tree_operand_of, postfix_of, postfix_suffix_of, primary_of, target_of};
+ghost use Rattle.c_nodes.specs.Views.{assign_of, binary_of, cast_of, choice_of, cond_of, expr_of, next_assign_of, next_operand_of, operand_of as tree_operand_of, postfix_of, postfix_suffix_of, primary_of, target_of};
 ghost use Rattle.type_rules.specs.Expressions as rule;
 ghost use Rattle.c_operate.specs.Answers.{Answers};
 ghost use Rattle.c_operate.specs.Tables.{known_of};
@@ -16,6 +16,11 @@ ghost use Rattle.check_expr.specs.Views.{unlisted};
 
 use crate::prefixes::{Applied, apply_prefix, listed};
 use crate::type_name::size_of_name;
+use c_nodes::expression::{
+    Assign, Binary, Cast, Choice, Cond, Expr, NextAssign, NextOperand, Operand as TreeOperand,
+    Postfix, PostfixSuffix, Primary, Target as TreeTarget,
+};
+use c_nodes::word::Sign;
 use c_operate::calls::{call, refuse_undefined};
 use c_operate::checker::Checker;
 use c_operate::error::CheckError;
@@ -25,11 +30,6 @@ use c_operate::primary::{constant_term, grouped, named};
 use c_operate::term::{Operand, Term, refuse_table, used};
 use c_operate::writes::{assignment, stepped};
 use c_token::Punct;
-use c_tree::expression::{
-    Assign, Binary, Cast, Choice, Cond, Expr, NextAssign, NextOperand, Operand as TreeOperand,
-    Postfix, PostfixSuffix, Primary, Target as TreeTarget,
-};
-use c_tree::word::Sign;
 use c_typed::StepOp;
 
 /// Assignments between commas.
@@ -49,7 +49,7 @@ fn sequence(others: &[NextAssign], checker: &mut Checker, first: Term) -> Result
     let mut left = first;
     for next in others {
         let dropped = used(left, checker)?;
-        let right = assigned(&next.assign, checker)?;
+        let right = assigned(&next.1, checker)?;
         let right = used(right, checker)?;
         left = sequenced(checker.alloc, dropped, right)?;
     }
@@ -87,11 +87,11 @@ fn places(targets: &[TreeTarget], checker: &mut Checker) -> Result<Vec<Target>, 
 {
     let mut places = Vec::new(checker.alloc);
     for target in targets {
-        let term = cast(&target.place, checker)?;
+        let term = cast(&target.0, checker)?;
         refuse_table(&term)?;
         places.push(Target {
             term,
-            sign: target.operator,
+            sign: target.1,
         })?;
     }
     Ok(places)
@@ -180,15 +180,9 @@ fn chain(others: &[NextOperand], checker: &mut Checker, first: Term) -> Result<T
     let mut left = first;
     for next in others {
         let a = used(left, checker)?;
-        let b = operands(&next.operand, checker)?;
+        let b = operands(&next.1, checker)?;
         let b = used(b, checker)?;
-        left = combined(
-            checker.alloc,
-            &checker.types,
-            next.operator.sign.punct,
-            a,
-            b,
-        )?;
+        left = combined(checker.alloc, &checker.types, next.0.sign.punct, a, b)?;
     }
     Ok(left)
 }
@@ -347,7 +341,7 @@ fn further_arguments(
     let mut arguments = Vec::new(checker.alloc);
     arguments.push(first)?;
     for next in others {
-        let argument = assigned(&next.assign, checker)?;
+        let argument = assigned(&next.1, checker)?;
         arguments.push(used(argument, checker)?)?;
     }
     Ok(arguments)

@@ -4,7 +4,7 @@ ghost use Rattle.std.specs.Prelude.{◌≡◌, ◌||◌, true, [], map, IfErr, I
 ghost use Rattle.c_operate.specs.Answers.{Answers, Learns};
 ghost use Rattle.c_operate.specs.Tables.{known_of, scope_of, scopes_in, types_in};
 ghost use Rattle.c_operate.specs.declared.error.CheckError.TheVariants.{NoMemory};
-ghost use Rattle.c_tree.specs.Views.{declarator_of};
+ghost use Rattle.c_nodes.specs.Views.{declarator_of};
 ghost use Rattle.c_typed.specs.Sameness as sameness;
 ghost use Rattle.type_rules.specs.Declarators.{line_in};
 ghost use Rattle.type_rules.specs.Known.{Known, tried};
@@ -14,11 +14,11 @@ ghost use Rattle.check_expr.specs.Lists.{Lists, array_of_declared, outermost};
 ghost use Rattle.check_expr.specs.Views.{declared_of, made_of, outline_of, param_of, specified_of};
 
 use crate::specifiers::{Specified, is_register};
+use c_nodes::expression::Declarator;
 use c_operate::checker::Checker;
 use c_operate::error::{CheckError, Kind, copied, refused};
 use c_operate::scope::{Binding, Names, Scopes};
 use c_operate::types::{Types, like, plain};
-use c_tree::expression::Declarator;
 use c_typed::{Object, Qualified, Ty, is_void};
 use std::alloc::Global;
 

@@ -3,7 +3,7 @@
 ghost use Rattle.std.specs.Prelude.{◌≡◌, ◌&&◌, ◌||◌, not, []};
 ghost use Rattle.std.specs.Option.{option_map};
 ghost use Rattle.c_operate.specs.Answers.{Answers};
-ghost use Rattle.c_tree.specs.Views.{specs_of};
+ghost use Rattle.c_nodes.specs.Views.{specs_of};
 ghost use Rattle.type_rules.specs.Known.{Known};
 ghost use Rattle.type_rules.specs.Names as names;
 ghost use Rattle.type_rules.specs.Specifiers as rule;
@@ -13,10 +13,10 @@ ghost use Rattle.check_expr.specs.Gathering.{base_of, kept_of, named_of};
 ghost use Rattle.check_expr.specs.Views as views;
 
 use c_ints::IntTy;
+use c_nodes::expression::{Spec, Specs};
 use c_operate::error::{CheckError, Kind, refused};
 use c_operate::types::plain;
 use c_token::Keyword;
-use c_tree::expression::{Spec, Specs};
 use c_typed::{Qualified, Ty};
 
 /// Where specifiers stand.

@@ -3,9 +3,9 @@
 ghost use Rattle.std.specs.Prelude.{◌≡◌, ◌++◌, map};
 ghost use Rattle.c_token.specs.declared.token.Keyword.TheVariants as words;
 ghost use Rattle.c_token.specs.declared.token.TokKind.TheVariants as kinds;
-ghost use Rattle.c_tree.specs.Kinds.{is_key};
-ghost use Rattle.c_tree.specs.Views.{spec_of, type_name_of};
-ghost use Rattle.c_tree.specs.Words.{Symbols, keyed, named, spell_pointers, spell_tag};
+ghost use Rattle.c_nodes.specs.Kinds.{is_key};
+ghost use Rattle.c_nodes.specs.Views.{spec_of, type_name_of};
+ghost use Rattle.c_nodes.specs.Words.{Symbols, keyed, named, spell_pointers, spell_tag};
 ghost use Rattle.type_rules.specs.Faults as faults;
 ghost use Rattle.type_rules.specs.Known.{Known, wanted};
 ghost use Rattle.type_rules.specs.Names.{meaning_of};
@@ -20,6 +20,8 @@ ghost use Rattle.check_expr.specs.Lists as lists;
 ghost use Rattle.check_expr.specs.Lists.{sized_name};
 
 use crate::specifiers::{Base, Site, Words, line_of};
+use c_nodes::expression::{Spec, TypeName};
+use c_nodes::word::{Name, Pointer, Word};
 use c_operate::checker::Checker;
 use c_operate::error::{CheckError, Kind, refused};
 use c_operate::places::size_of_type;
@@ -27,8 +29,6 @@ use c_operate::scope::{Binding, Scopes};
 use c_operate::term::Term;
 use c_operate::types::{Tag, Types, plain};
 use c_token::Keyword;
-use c_tree::expression::{Spec, TypeName};
-use c_tree::word::{Name, Pointer, Word};
 use c_typed::Qualified;
 
 fn is_const(keyword: Keyword) -> bool
@@ -163,16 +163,16 @@ pub(crate) fn pointers(
 pub(crate) fn type_named(name: &TypeName, checker: &mut Checker) -> Result<Qualified, CheckError>
     ensures { Answers (λ ty. ty) result (known_of checker.new) (rule.type_named (type_name_of name.now) (known_of checker.old)) }
 {
-    let mut words = type_word(&name.specs.first, checker, Words::none())?;
-    for spec in &name.specs.others {
+    let mut words = type_word(&name.0.first, checker, Words::none())?;
+    for spec in &name.0.others {
         words = type_word(spec, checker, words)?;
     }
     let in_file = checker.scopes.is_file();
-    let base = words.finished(Site::TypeName, in_file, line_of(&name.specs))?;
+    let base = words.finished(Site::TypeName, in_file, line_of(&name.0))?;
     if base.incomplete {
         return refused(Kind::Incomplete, base.line);
     }
-    pointers(&name.pointers, checker, base.ty)
+    pointers(&name.1, checker, base.ty)
 }
 
 /// `sizeof` of the name of a type; `line` is that of the keyword.

@@ -1,7 +1,7 @@
 //! What the checker answers to texts.
 
 use c_check::{CheckError, Kind, Typed, check};
-use c_parse::{mark, parse};
+use c_parse::{let_go, mark, parse};
 use c_pre::tokens;
 use c_token::raw;
 use std::alloc::Global;
@@ -27,7 +27,9 @@ fn checked(alloc: Global, text: &[u8]) -> Result<Result<Typed, CheckError>, Fail
     let toks = tokens(alloc, text, &raw)?;
     let toks = mark(alloc, text, &toks)?;
     let unit = parse(alloc, text, &toks)?;
-    Ok(check(alloc, &unit))
+    let typed = check(alloc, &unit);
+    let_go(unit);
+    Ok(typed)
 }
 
 /// The typed tree of a text.

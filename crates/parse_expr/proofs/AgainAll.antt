@@ -1,8 +1,8 @@
 -- At any depth of brackets each tree is read again from its spelling, if it has no more tokens than brackets may be entered.
 use Rattle.std.proofs.Common.{ℕ, zero, suc, length-append, arith}
-use Rattle.c_tree.specs.Words.{Symbols}
-use Rattle.c_tree.specs.Trees.{spelled, spelled_type, spelled_specs, spelled_member, spelled_more_members, spelled_declarator, spelled_param, spelled_more_params, spelled_enumerator, spelled_more_enumerators, IsTree, IsType, AreSpecs, IsDeclarator}
-use Rattle.c_tree.specs.Lists.{more_members, more_params, more_enumerators}
+use Rattle.c_nodes.specs.Words.{Symbols}
+use Rattle.c_nodes.specs.Trees.{spelled, spelled_type, spelled_specs, spelled_member, spelled_more_members, spelled_declarator, spelled_param, spelled_more_params, spelled_enumerator, spelled_more_enumerators, IsTree, IsType, AreSpecs, IsDeclarator}
+use Rattle.c_nodes.specs.Lists.{more_members, more_params, more_enumerators}
 use Rattle.parse_expr.specs.Reader.{Reader}
 use Rattle.parse_expr.specs.Reading.{at, expr_by, assign_by, cond_by, specs_by, type_name_by, declarator_by}
 use Rattle.parse_expr.proofs.Knots.{Stops, StopsType, IsCond, IsAssign, Again, CompleteInner}

@@ -4,10 +4,10 @@ use Rattle.c_token.specs.declared.token.TokKind.{TokKind}
 use Rattle.c_token.specs.declared.token.TokKind.TheVariants as kinds
 use Rattle.c_token.specs.declared.token.Keyword.TheVariants as words
 use Rattle.c_token.specs.declared.token.Punct.TheVariants as marks
-use Rattle.c_tree.specs.Words.{Symbol, Symbols, punct}
-use Rattle.c_tree.specs.Kinds.{is_punct, is_key, is_name, is_spec}
-use Rattle.c_tree.specs.Trees.{Tree, SpecTrees, Specified, NoSpec, AndSpec, OneWord, Tagged, Body, NamedType, EnumTagged, EnumBody, MemberTree, Members, MoreMembers, NoMember, AndMember, DeclaratorTree, Declares, MoreDeclarators, NoDeclarator, AndDeclarator, SuffixTrees, NoSuffix, AndSuffix, SuffixTree, Unsized, Sized, Empty, VoidOnly, Params, MoreParams, NoParam, AndParam, ParamTree, Named, Unnamed, spelled, spelled_specs, spelled_more_specs, spelled_spec, spelled_member, spelled_more_members, spelled_more_declarators, spelled_declarator, spelled_suffixes, spelled_suffix, spelled_more_params, spelled_param, AreSpecs, IsMember, AreMoreMembers, IsDeclarator, AreMoreDeclarators, AreSuffixes, IsSuffix, IsParam, AreMoreParams, are_stars, are_pointers, is_void, is_bare_void}
-use Rattle.c_tree.specs.Lists.{more_members, more_declarators, suffixes_of, more_params}
+use Rattle.c_nodes.specs.Words.{Symbol, Symbols, punct}
+use Rattle.c_nodes.specs.Kinds.{is_punct, is_key, is_name, is_spec}
+use Rattle.c_nodes.specs.Trees.{Tree, SpecTrees, Specified, NoSpec, AndSpec, OneWord, Tagged, Body, NamedType, EnumTagged, EnumBody, MemberTree, Members, MoreMembers, NoMember, AndMember, DeclaratorTree, Declares, MoreDeclarators, NoDeclarator, AndDeclarator, SuffixTrees, NoSuffix, AndSuffix, SuffixTree, Unsized, Sized, Empty, VoidOnly, Params, MoreParams, NoParam, AndParam, ParamTree, Named, Unnamed, spelled, spelled_specs, spelled_more_specs, spelled_spec, spelled_member, spelled_more_members, spelled_more_declarators, spelled_declarator, spelled_suffixes, spelled_suffix, spelled_more_params, spelled_param, AreSpecs, IsMember, AreMoreMembers, IsDeclarator, AreMoreDeclarators, AreSuffixes, IsSuffix, IsParam, AreMoreParams, are_stars, are_pointers, is_void, is_bare_void}
+use Rattle.c_nodes.specs.Lists.{more_members, more_declarators, suffixes_of, more_params}
 use Rattle.parse_expr.specs.Reader.{front_is, symbol_at, punct_at, key_at, all_that, collect, pointers_at}
 use Rattle.parse_expr.specs.Reading.{Inner, length_by, array_by, void_at, list_by, function_by, suffix_by, named_by, declarator_by, next_declarator_by, member_by, next_member_by, members_by, unnamed_by, named_param_by, param_behind, param_by, next_param_by, params_by}
 use Rattle.parse_expr.proofs.Knots.{begins_expr, goes_on_pointers, goes_on_specs, goes_on_suffixes, StopsMembers, StopsParams, IsCond, spelled_members, AreMembers, spelled_params, AreParams, Again, CompleteInner}

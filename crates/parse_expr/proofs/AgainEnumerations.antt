@@ -3,10 +3,10 @@ use Rattle.std.proofs.Common.{◌≡◌, ℕ, zero, suc, ◌≤◌, Bool, true, 
 use Rattle.c_token.specs.declared.token.TokKind.{TokKind}
 use Rattle.c_token.specs.declared.token.TokKind.TheVariants as kinds
 use Rattle.c_token.specs.declared.token.Punct.TheVariants as marks
-use Rattle.c_tree.specs.Words.{Symbols, punct}
-use Rattle.c_tree.specs.Kinds.{is_punct, is_name}
-use Rattle.c_tree.specs.Trees.{EnumeratorTree, Bare, Valued, MoreEnumerators, NoEnumerator, AndEnumerator, spelled_enumerator, spelled_more_enumerators, IsEnumerator, AreMoreEnumerators}
-use Rattle.c_tree.specs.Lists.{more_enumerators}
+use Rattle.c_nodes.specs.Words.{Symbols, punct}
+use Rattle.c_nodes.specs.Kinds.{is_punct, is_name}
+use Rattle.c_nodes.specs.Trees.{EnumeratorTree, Bare, Valued, MoreEnumerators, NoEnumerator, AndEnumerator, spelled_enumerator, spelled_more_enumerators, IsEnumerator, AreMoreEnumerators}
+use Rattle.c_nodes.specs.Lists.{more_enumerators}
 use Rattle.parse_expr.specs.Reader.{front_is, symbol_at, punct_at, collect}
 use Rattle.parse_expr.specs.Reading.{Inner, valued_by, enumerator_by, next_enumerator_by, enumerators_by}
 use Rattle.parse_expr.proofs.Knots.{goes_on, spelled_enumerators, AreEnumerators, list_end, EndsList, Again, CompleteInner}

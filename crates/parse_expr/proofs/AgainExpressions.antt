@@ -2,10 +2,10 @@
 use Rattle.std.proofs.Common.{◌≡◌, ℕ, zero, suc, ◌+◌, ◌-◌, ◌<◌, ◌≤◌, Bool, true, false, if◌then◌else◌, [], ◌∷◌, ◌++◌, length, Option, Some, None, refl, sym, ap, subst, ◌∙◌, append_assoc, length-append, arith, inl, inr}
 use Rattle.std.proofs.lemmas.Bool.{cases_lt, eq-eqb, ne_eqb}
 use Rattle.c_token.specs.declared.token.Punct.TheVariants as marks
-use Rattle.c_tree.specs.Words.{Symbol, Symbols, punct}
-use Rattle.c_tree.specs.Kinds.{is_punct, level_of, is_assignment}
-use Rattle.c_tree.specs.Trees.{Tree, Join, Choose, Assign, spelled, rank, is_unary, IsTree}
-use Rattle.c_tree.specs.Lists.{joined, listed}
+use Rattle.c_nodes.specs.Words.{Symbol, Symbols, punct}
+use Rattle.c_nodes.specs.Kinds.{is_punct, level_of, is_assignment}
+use Rattle.c_nodes.specs.Trees.{Tree, Join, Choose, Assign, spelled, rank, is_unary, IsTree}
+use Rattle.c_nodes.specs.Lists.{joined, listed}
 use Rattle.parse_expr.specs.Reader.{Reader, symbol_at, punct_at}
 use Rattle.parse_expr.specs.Reading.{Inner, right_by, tier_by, choices, cond_by, target_at, assigns, assign_by, comma_by, expr_by}
 use Rattle.parse_expr.proofs.Knots.{Stops, IsCond, IsAssign, Again, CompleteInner}

@@ -6,8 +6,8 @@ use Rattle.c_token.specs.declared.token.TokKind.TheVariants as kinds
 use Rattle.c_token.specs.declared.token.Keyword.{Keyword}
 use Rattle.c_token.specs.declared.token.Keyword.TheVariants as words
 use Rattle.c_token.specs.declared.token.Punct.TheVariants as marks
-use Rattle.c_tree.specs.Words.{Symbol, Symbols, punct}
-use Rattle.c_tree.specs.Kinds.{is_punct, is_key, is_leaf, level_of, is_assignment, is_prefix, is_step, is_field, is_spec, is_spec_word, is_specifying, begins_spec, is_type_name}
+use Rattle.c_nodes.specs.Words.{Symbol, Symbols, punct}
+use Rattle.c_nodes.specs.Kinds.{is_punct, is_key, is_leaf, level_of, is_assignment, is_prefix, is_step, is_field, is_spec, is_spec_word, is_specifying, begins_spec, is_type_name}
 use Rattle.parse_expr.specs.Reader.{front_is, spells}
 use Rattle.parse_expr.proofs.Knots.{goes_on, begins_expr, Stops}
 

@@ -1,7 +1,7 @@
 -- Loops that group to the left: a part, and then all that a step finds behind it.
 use Rattle.std.proofs.Common.{◌≡◌, ℕ, zero, suc, ◌-◌, ◌<◌, ◌≤◌, List, [], ◌∷◌, length, Some, None, refl, ap, ◌∙◌, arith}
-use Rattle.c_tree.specs.Words.{Symbols}
-use Rattle.c_tree.specs.Trees.{Tree}
+use Rattle.c_nodes.specs.Words.{Symbols}
+use Rattle.c_nodes.specs.Trees.{Tree}
 use Rattle.parse_expr.specs.Reader.{◌>>=◌, Reader, Step, collect, all_that}
 
 abbrev pub chain_by : {A : Type 0} → (Tree → List A → Tree) → Reader Tree → Step A → Reader Tree

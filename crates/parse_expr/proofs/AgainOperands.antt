@@ -3,10 +3,10 @@ use Rattle.std.proofs.Common.{◌≡◌, ℕ, zero, suc, ◌<◌, ◌≤◌, Boo
 use Rattle.c_token.specs.declared.token.Keyword.TheVariants as words
 use Rattle.c_token.specs.declared.token.Punct.{Punct}
 use Rattle.c_token.specs.declared.token.Punct.TheVariants as marks
-use Rattle.c_tree.specs.Words.{Symbol, Symbols, key, punct}
-use Rattle.c_tree.specs.Kinds.{is_punct, is_leaf, is_step, is_spec}
-use Rattle.c_tree.specs.Trees.{Tree, Leaf, Group, Behind, Before, Measure, Join, Choose, Assign, Post, Index, CallBare, Call, Field, Step, Pre, Sign, Sizeof, Cast, TypeTree, TypeOf, Specified, SpecTree, OneWord, Tagged, Body, NamedType, EnumTagged, EnumBody, spelled, spelled_post, spelled_pre, spelled_type, spelled_more_specs, spelled_spec, rank, is_postfix, is_unary, may_follow, IsTree, IsPost, IsPre, IsType, IsSpec}
-use Rattle.c_tree.specs.Lists.{posted, prefixed}
+use Rattle.c_nodes.specs.Words.{Symbol, Symbols, key, punct}
+use Rattle.c_nodes.specs.Kinds.{is_punct, is_leaf, is_step, is_spec}
+use Rattle.c_nodes.specs.Trees.{Tree, Leaf, Group, Behind, Before, Measure, Join, Choose, Assign, Post, Index, CallBare, Call, Field, Step, Pre, Sign, Sizeof, Cast, TypeTree, TypeOf, Specified, SpecTree, OneWord, Tagged, Body, NamedType, EnumTagged, EnumBody, spelled, spelled_post, spelled_pre, spelled_type, spelled_more_specs, spelled_spec, rank, is_postfix, is_unary, may_follow, IsTree, IsPost, IsPre, IsType, IsSpec}
+use Rattle.c_nodes.specs.Lists.{posted, prefixed}
 use Rattle.parse_expr.specs.Reader.{◌>>=◌, Reader, front_is, symbol_at, punct_at, key_at, specs_come, type_opens, collect}
 use Rattle.parse_expr.specs.Reading.{Inner, group_by, primary_by, index_by, call_by, field_by, post_by, postfix_by, bracketed_by, cast_by, prefix_by, operand_by, unary_by}
 use Rattle.parse_expr.proofs.Knots.{begins_expr, Stops, CompleteInner}

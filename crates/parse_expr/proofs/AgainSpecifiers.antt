@@ -1,10 +1,10 @@
 -- Specifiers and type names are read again from their spelling, where what stands in brackets is.
 use Rattle.std.proofs.Common.{◌≡◌, ℕ, zero, suc, ◌≤◌, true, false, List, [], ◌∷◌, ◌++◌, length, Option, Some, None, refl, ap, ◌∙◌, append_assoc, length-append, arith}
 use Rattle.c_token.specs.declared.token.Punct.TheVariants as marks
-use Rattle.c_tree.specs.Words.{Symbols, punct, spelled_comma}
-use Rattle.c_tree.specs.Kinds.{is_punct, is_spec, is_spec_word}
-use Rattle.c_tree.specs.Trees.{TypeOf, Specified, MoreSpecs, NoSpec, AndSpec, SpecTree, OneWord, Tagged, Body, NamedType, EnumTagged, EnumBody, EnumeratorTree, MoreEnumerators, NoEnumerator, AndEnumerator, spelled_enumerator, spelled_more_enumerators, IsEnumerator, AreMoreEnumerators, MemberTree, MoreMembers, NoMember, AndMember, spelled_type, spelled_specs, spelled_more_specs, spelled_spec, spelled_member, spelled_more_members, IsType, AreSpecs, AreMoreSpecs, IsSpec, IsMember, AreMoreMembers, are_stars, are_pointers}
-use Rattle.c_tree.specs.Lists.{more_specs, more_members, more_enumerators}
+use Rattle.c_nodes.specs.Words.{Symbols, punct, spelled_comma}
+use Rattle.c_nodes.specs.Kinds.{is_punct, is_spec, is_spec_word}
+use Rattle.c_nodes.specs.Trees.{TypeOf, Specified, MoreSpecs, NoSpec, AndSpec, SpecTree, OneWord, Tagged, Body, NamedType, EnumTagged, EnumBody, EnumeratorTree, MoreEnumerators, NoEnumerator, AndEnumerator, spelled_enumerator, spelled_more_enumerators, IsEnumerator, AreMoreEnumerators, MemberTree, MoreMembers, NoMember, AndMember, spelled_type, spelled_specs, spelled_more_specs, spelled_spec, spelled_member, spelled_more_members, IsType, AreSpecs, AreMoreSpecs, IsSpec, IsMember, AreMoreMembers, are_stars, are_pointers}
+use Rattle.c_nodes.specs.Lists.{more_specs, more_members, more_enumerators}
 use Rattle.parse_expr.specs.Reader.{Step, front_is, symbol_at, punct_at, comma_at, collect}
 use Rattle.parse_expr.specs.Reading.{Inner, body_by, struct_by, enum_body_by, enum_by, spec_by, next_spec_by, specs_by, type_name_by}
 use Rattle.parse_expr.proofs.Knots.{goes_on_specs, StopsType, list_end, Again, CompleteInner}

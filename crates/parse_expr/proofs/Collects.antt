@@ -5,9 +5,9 @@ use Rattle.c_token.specs.declared.token.TokKind.{TokKind}
 use Rattle.c_token.specs.declared.token.Keyword.{Keyword}
 use Rattle.c_token.specs.declared.token.Punct.{Punct}
 use Rattle.c_token.specs.declared.token.Punct.TheVariants as marks
-use Rattle.c_tree.specs.Words.{Symbol, Symbols, key, punct, flat}
-use Rattle.c_tree.specs.Kinds.{number_of, number_of_word, is_punct, is_key, is_qualifier}
-use Rattle.c_tree.specs.Trees.{are_stars, are_pointers}
+use Rattle.c_nodes.specs.Words.{Symbol, Symbols, key, punct, flat}
+use Rattle.c_nodes.specs.Kinds.{number_of, number_of_word, is_punct, is_key, is_qualifier}
+use Rattle.c_nodes.specs.Trees.{are_stars, are_pointers}
 use Rattle.parse_expr.specs.Reader.{Step, front_is, symbol_at, punct_at, key_at, collect, all_that, stars_at, pointers_at}
 use Rattle.parse_expr.proofs.Knots.{goes_on_pointers}
 

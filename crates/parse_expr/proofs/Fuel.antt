@@ -1,6 +1,6 @@
 -- What may be read where brackets may still be entered, and where none may.
 use Rattle.std.proofs.Common.{◌≡◌, ℕ, suc, ◌-◌, Option, None, Result, refl, sym, ap, subst, arith}
-use Rattle.c_tree.specs.Words.{Symbols}
+use Rattle.c_nodes.specs.Words.{Symbols}
 use Rattle.parse_expr.specs.declared.error.ParseError.{ParseError}
 use Rattle.parse_expr.specs.declared.error.ParseError.TheVariants as errors
 use Rattle.parse_expr.specs.Reader.{Fails, Gives}

@@ -1,12 +1,11 @@
 -- What the loops of the reader keep.
 use Rattle.std.proofs.Common.{◌≡◌, ℕ, suc, ◌+◌, ◌-◌, ◌<◌, ◌≤◌, List, [], ◌∷◌, ◌++◌, length, Option, Some, None, map, refl, sym, ap, ◌∙◌, append-nil, arith}
 use Rattle.c_token.specs.declared.token.Punct.TheVariants as marks
-use Rattle.c_tree.specs.Words.{Symbol, Symbols}
-use Rattle.c_tree.specs.Trees.{Tree, Choose, Assign}
-use Rattle.c_tree.specs.Lists.{ChoiceParts, chosen, assigned}
-use Rattle.c_tree.specs.Views.{choice_of, target_of}
-use Rattle.c_tree.specs.declared.expression.Choice.{Choice}
-use Rattle.c_tree.specs.declared.expression.Target.{Target}
+use Rattle.c_nodes.specs.Words.{Symbol, Symbols}
+use Rattle.c_nodes.specs.Trees.{Tree, Choose, Assign}
+use Rattle.c_nodes.specs.Lists.{ChoiceParts, chosen, assigned}
+use Rattle.c_nodes.specs.Views.{Target, choice_of, target_of}
+use Rattle.c_nodes.specs.declared.expression.Choice.{Choice}
 use Rattle.parse_expr.specs.declared.error.ParseError.{ParseError}
 use Rattle.parse_expr.specs.declared.error.ParseError.TheVariants as errors
 use Rattle.parse_expr.specs.Reader.{◌>>=◌, Reader, Step, Fails, punct_at, collect, all_that}

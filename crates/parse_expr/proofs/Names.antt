@@ -4,8 +4,8 @@ use Rattle.c_token.specs.declared.token.Tok.{Tok}
 use Rattle.c_token.specs.declared.token.TokKind.{TokKind}
 use Rattle.c_token.specs.declared.token.TokKind.TheVariants as kinds
 use Rattle.c_pre.specs.Words.{word_of}
-use Rattle.c_tree.specs.Words.{Symbol}
-use Rattle.c_tree.specs.Kinds.{is_name, is_type_name}
+use Rattle.c_nodes.specs.Words.{Symbol}
+use Rattle.c_nodes.specs.Kinds.{is_name, is_type_name}
 use Rattle.parse_expr.specs.Reader.{symbol_in, spells}
 
 kind_is : (k : TokKind) → is_name k ≡ true → k ≡ kinds.Name

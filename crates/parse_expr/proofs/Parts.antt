@@ -5,9 +5,9 @@ use Rattle.c_token.specs.declared.token.TokKind.TheVariants as kinds
 use Rattle.c_token.specs.declared.token.Keyword.TheVariants as words
 use Rattle.c_token.specs.declared.token.Punct.{Punct}
 use Rattle.c_token.specs.declared.token.Punct.TheVariants as marks
-use Rattle.c_tree.specs.Words.{Symbol, Symbols}
-use Rattle.c_tree.specs.Kinds.{level_of, is_punct, is_key, is_prefix, is_prefix_mark}
-use Rattle.c_tree.specs.Trees.{Tree}
+use Rattle.c_nodes.specs.Words.{Symbol, Symbols}
+use Rattle.c_nodes.specs.Kinds.{level_of, is_punct, is_key, is_prefix, is_prefix_mark}
+use Rattle.c_nodes.specs.Trees.{Tree}
 use Rattle.parse_expr.specs.Reader.{◌>>=◌, Reader, symbol_at, type_opens, specs_come, got}
 use Rattle.parse_expr.specs.Reading.{Inner, right_by, prefix_by, cast_by}
 use Rattle.parse_expr.specs.Parts.{plain_prefix_at}

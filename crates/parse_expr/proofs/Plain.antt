@@ -10,8 +10,8 @@ use Rattle.c_token.specs.declared.token.Keyword.TheVariants as words
 use Rattle.c_token.specs.declared.token.Punct.{Punct}
 use Rattle.c_token.specs.declared.token.Punct.TheVariants as marks
 use Rattle.c_pre.specs.Words.{word_of}
-use Rattle.c_tree.specs.Words.{Symbol, plain, key, punct}
-use Rattle.c_tree.specs.Kinds.{number_of, number_of_word, is_punct, is_key}
+use Rattle.c_nodes.specs.Words.{Symbol, plain, key, punct}
+use Rattle.c_nodes.specs.Kinds.{number_of, number_of_word, is_punct, is_key}
 use Rattle.parse_expr.specs.Reader.{spells, symbol_in, symbols_in}
 use Rattle.parse_expr.proofs.Knots.{IsPlain, ArePlain}
 

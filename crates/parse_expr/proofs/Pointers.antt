@@ -1,10 +1,10 @@
 -- What the loops over pointers keep.
 use Rattle.std.proofs.Common.{◌≡◌, Bool, true, false, if◌then◌else◌, List, [], ◌∷◌, ◌++◌, Option, Some, None, map, ap, append_assoc, append-nil, refl, sym, ◌∙◌}
 use Rattle.c_token.specs.declared.token.Punct.TheVariants.{Star}
-use Rattle.c_tree.specs.Words.{Symbol, Symbols, keyed, punct, spell_pointer, spell_pointers}
-use Rattle.c_tree.specs.Kinds.{is_punct, is_qualifier}
-use Rattle.c_tree.specs.declared.word.Word.{Word}
-use Rattle.c_tree.specs.declared.word.Pointer.{Pointer}
+use Rattle.c_nodes.specs.Words.{Symbol, Symbols, keyed, punct, spell_pointer, spell_pointers}
+use Rattle.c_nodes.specs.Kinds.{is_punct, is_qualifier}
+use Rattle.c_nodes.specs.declared.word.Word.{Word}
+use Rattle.c_nodes.specs.declared.word.Pointer.{Pointer}
 use Rattle.parse_expr.specs.Reader.{with_symbol, symbol_at, stars_at, pointers_at}
 use Rattle.parse_expr.specs.Parts.{in_front}
 

@@ -5,9 +5,9 @@ use Rattle.c_token.specs.declared.token.TokKind.TheVariants as kinds
 use Rattle.c_token.specs.declared.token.Keyword.{Keyword}
 use Rattle.c_token.specs.declared.token.Keyword.TheVariants as words
 use Rattle.c_token.specs.declared.token.Punct.TheVariants as marks
-use Rattle.c_tree.specs.Words.{Symbols, punct}
-use Rattle.c_tree.specs.Kinds.{is_punct, is_name, is_type_name, is_spec, is_spec_word, is_specifying, begins_spec}
-use Rattle.c_tree.specs.Trees.{TypeTree, TypeOf, SpecTrees, Specified, SpecTree, OneWord, Tagged, Body, NamedType, EnumTagged, EnumBody, EnumeratorTree, Bare, Valued, MemberTree, Members, DeclaratorTree, Declares, SuffixTree, Unsized, Sized, Empty, VoidOnly, Params, ParamTree, Named, Unnamed, spelled_type, spelled_specs, spelled_more_specs, spelled_spec, spelled_member, spelled_more_declarators, spelled_declarator, spelled_suffixes, spelled_suffix, spelled_param, AreSpecs, IsSpec, IsMember, IsDeclarator, IsParam, spelled_enumerator, IsEnumerator}
+use Rattle.c_nodes.specs.Words.{Symbols, punct}
+use Rattle.c_nodes.specs.Kinds.{is_punct, is_name, is_type_name, is_spec, is_spec_word, is_specifying, begins_spec}
+use Rattle.c_nodes.specs.Trees.{TypeTree, TypeOf, SpecTrees, Specified, SpecTree, OneWord, Tagged, Body, NamedType, EnumTagged, EnumBody, EnumeratorTree, Bare, Valued, MemberTree, Members, DeclaratorTree, Declares, SuffixTree, Unsized, Sized, Empty, VoidOnly, Params, ParamTree, Named, Unnamed, spelled_type, spelled_specs, spelled_more_specs, spelled_spec, spelled_member, spelled_more_declarators, spelled_declarator, spelled_suffixes, spelled_suffix, spelled_param, AreSpecs, IsSpec, IsMember, IsDeclarator, IsParam, spelled_enumerator, IsEnumerator}
 use Rattle.parse_expr.specs.Reader.{front_is}
 use Rattle.parse_expr.proofs.Knots.{goes_on_suffixes}
 use Rattle.parse_expr.proofs.Collects.{and_both}

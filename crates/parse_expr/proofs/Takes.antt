@@ -1,6 +1,6 @@
 -- What is read is a tree that spells the tokens taken, however many brackets may be entered.
 use Rattle.std.proofs.Common.{ℕ, zero, suc}
-use Rattle.c_tree.specs.Trees.{spelled, spelled_specs, spelled_declarator, IsTree, AreSpecs, IsDeclarator}
+use Rattle.c_nodes.specs.Trees.{spelled, spelled_specs, spelled_declarator, IsTree, AreSpecs, IsDeclarator}
 use Rattle.parse_expr.specs.Reading.{cond_by, assign_by, expr_by, specs_by, declarator_by, at}
 use Rattle.parse_expr.proofs.Knots.{Sound, SoundInner, IsCond, IsAssign}
 use Rattle.parse_expr.proofs.TakesOperators.{cond_by_takes, assign_by_takes, expr_by_takes}

@@ -2,10 +2,10 @@
 use Rattle.std.proofs.Common.{◌≡◌, ℕ, true, List, [], ◌∷◌, ◌++◌, Some, refl, sym, ap, subst, ◌∙◌, append_assoc}
 use Rattle.c_token.specs.declared.token.Keyword.TheVariants as words
 use Rattle.c_token.specs.declared.token.Punct.TheVariants as marks
-use Rattle.c_tree.specs.Words.{Symbols, key, punct, spelled_comma}
-use Rattle.c_tree.specs.Kinds.{is_punct, is_key, is_name, is_type_name, is_spec_word}
-use Rattle.c_tree.specs.Trees.{TypeOf, SpecTrees, Specified, SpecTree, OneWord, Tagged, Body, NamedType, EnumTagged, EnumBody, spelled_enumerator, spelled_more_enumerators, MemberTree, Members, DeclaratorTree, Declares, SuffixTree, Unsized, Sized, Empty, VoidOnly, Params, ParamTree, Named, Unnamed, is_bare_void, are_pointers, is_tag, spelled_type, spelled_specs, spelled_more_specs, spelled_spec, spelled_more_members, spelled_member, spelled_more_declarators, spelled_declarator, spelled_suffixes, spelled_suffix, spelled_more_params, spelled_param, IsType, AreSpecs, AreMoreSpecs, IsSpec, AreMoreMembers, IsMember, AreMoreDeclarators, IsDeclarator, AreSuffixes, IsSuffix, AreMoreParams, IsParam}
-use Rattle.c_tree.specs.Lists.{more_specs, more_members, more_declarators, suffixes_of, more_params, more_enumerators}
+use Rattle.c_nodes.specs.Words.{Symbols, key, punct, spelled_comma}
+use Rattle.c_nodes.specs.Kinds.{is_punct, is_key, is_name, is_type_name, is_spec_word}
+use Rattle.c_nodes.specs.Trees.{TypeOf, SpecTrees, Specified, SpecTree, OneWord, Tagged, Body, NamedType, EnumTagged, EnumBody, spelled_enumerator, spelled_more_enumerators, MemberTree, Members, DeclaratorTree, Declares, SuffixTree, Unsized, Sized, Empty, VoidOnly, Params, ParamTree, Named, Unnamed, is_bare_void, are_pointers, is_tag, spelled_type, spelled_specs, spelled_more_specs, spelled_spec, spelled_more_members, spelled_member, spelled_more_declarators, spelled_declarator, spelled_suffixes, spelled_suffix, spelled_more_params, spelled_param, IsType, AreSpecs, AreMoreSpecs, IsSpec, AreMoreMembers, IsMember, AreMoreDeclarators, IsDeclarator, AreSuffixes, IsSuffix, AreMoreParams, IsParam}
+use Rattle.c_nodes.specs.Lists.{more_specs, more_members, more_declarators, suffixes_of, more_params, more_enumerators}
 use Rattle.parse_expr.specs.Reader.{◌>>=◌, Reader, front_is, symbol_at, punct_at, comma_at, specs_come, all_that, pointers_at}
 use Rattle.parse_expr.specs.Reading.{Inner, body_by, struct_on, struct_by, enum_body_by, enum_on, enum_by, spec_by, next_spec_by, specs_by, type_name_by, length_by, array_on, array_by, void_at, list_by, void_on, function_on, function_by, suffix_by, named_by, declarator_by, next_declarator_by, member_by, next_member_by, members_by, unnamed_by, named_param_by, param_behind, param_by, next_param_by, params_by}
 use Rattle.parse_expr.proofs.Knots.{ArePlain, Takes, Sound, SoundStep, SoundInner, spelled_members, AreMembers, spelled_params, AreParams}

@@ -1,10 +1,10 @@
 -- What is read as enumerators is enumerators.
 use Rattle.std.proofs.Common.{◌≡◌, ℕ, true, List, [], ◌∷◌, ◌++◌, Some, refl, sym, ap, subst}
 use Rattle.c_token.specs.declared.token.Punct.TheVariants as marks
-use Rattle.c_tree.specs.Words.{Symbol, Symbols, punct}
-use Rattle.c_tree.specs.Kinds.{is_punct, is_name}
-use Rattle.c_tree.specs.Trees.{EnumeratorTree, Bare, Valued, spelled_enumerator, spelled_more_enumerators, IsEnumerator, AreMoreEnumerators}
-use Rattle.c_tree.specs.Lists.{more_enumerators}
+use Rattle.c_nodes.specs.Words.{Symbol, Symbols, punct}
+use Rattle.c_nodes.specs.Kinds.{is_punct, is_name}
+use Rattle.c_nodes.specs.Trees.{EnumeratorTree, Bare, Valued, spelled_enumerator, spelled_more_enumerators, IsEnumerator, AreMoreEnumerators}
+use Rattle.c_nodes.specs.Lists.{more_enumerators}
 use Rattle.parse_expr.specs.Reader.{◌>>=◌, front_is, punct_at}
 use Rattle.parse_expr.specs.Reading.{Inner, valued_on, valued_by, enumerator_by, next_enumerator_by, enumerators_by}
 use Rattle.parse_expr.proofs.Knots.{ArePlain, Takes, Sound, SoundStep, SoundInner, spelled_enumerators, AreEnumerators}

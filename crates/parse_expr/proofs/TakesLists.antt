@@ -6,9 +6,9 @@ use Rattle.c_token.specs.declared.token.TokKind.{TokKind}
 use Rattle.c_token.specs.declared.token.Keyword.{Keyword}
 use Rattle.c_token.specs.declared.token.Punct.{Punct}
 use Rattle.c_token.specs.declared.token.Punct.TheVariants as marks
-use Rattle.c_tree.specs.Words.{Symbol, Symbols, key, punct, flat, spelled_comma}
-use Rattle.c_tree.specs.Kinds.{is_punct, is_key, is_qualifier}
-use Rattle.c_tree.specs.Trees.{are_stars, are_pointers}
+use Rattle.c_nodes.specs.Words.{Symbol, Symbols, key, punct, flat, spelled_comma}
+use Rattle.c_nodes.specs.Kinds.{is_punct, is_key, is_qualifier}
+use Rattle.c_nodes.specs.Trees.{are_stars, are_pointers}
 use Rattle.parse_expr.specs.Reader.{◌>>=◌, Reader, Step, symbol_at, punct_at, key_at, comma_on, comma_at, got, collect_on, collect, all_that, with_symbol, stars_at, pointers_at}
 use Rattle.parse_expr.proofs.Knots.{ArePlain, Takes, Sound, SoundStep}
 use Rattle.parse_expr.proofs.Plain.{punct_is, key_is}

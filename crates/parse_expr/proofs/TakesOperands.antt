@@ -3,10 +3,10 @@ use Rattle.std.proofs.Common.{◌≡◌, ℕ, zero, suc, Bool, true, false, ◌&
 use Rattle.std.proofs.lemmas.Option.{same_Some}
 use Rattle.c_token.specs.declared.token.Keyword.TheVariants as words
 use Rattle.c_token.specs.declared.token.Punct.TheVariants as marks
-use Rattle.c_tree.specs.Words.{Symbol, Symbols, punct}
-use Rattle.c_tree.specs.Kinds.{is_punct, is_key, is_name, is_leaf, is_prefix, is_step, is_field}
-use Rattle.c_tree.specs.Trees.{Tree, Leaf, Group, Behind, Before, Measure, Post, Index, CallBare, Call, Field, Step, Pre, Sign, Sizeof, Cast, TypeTree, spelled, spelled_post, spelled_pre, spelled_type, rank, is_postfix, is_unary, is_cast, may_follow, IsTree, IsPost, IsPre, IsType}
-use Rattle.c_tree.specs.Lists.{posted, prefixed}
+use Rattle.c_nodes.specs.Words.{Symbol, Symbols, punct}
+use Rattle.c_nodes.specs.Kinds.{is_punct, is_key, is_name, is_leaf, is_prefix, is_step, is_field}
+use Rattle.c_nodes.specs.Trees.{Tree, Leaf, Group, Behind, Before, Measure, Post, Index, CallBare, Call, Field, Step, Pre, Sign, Sizeof, Cast, TypeTree, spelled, spelled_post, spelled_pre, spelled_type, rank, is_postfix, is_unary, is_cast, may_follow, IsTree, IsPost, IsPre, IsType}
+use Rattle.c_nodes.specs.Lists.{posted, prefixed}
 use Rattle.parse_expr.specs.Reader.{punct_at, key_at, type_opens, collect_on, collect, all_that}
 use Rattle.parse_expr.specs.Reading.{Inner, group_by, primary_by, index_by, call_on, call_by, field_by, post_by, postfix_by, bracketed_by, cast_by, prefix_by, operand_on, operand_by, unary_by}
 use Rattle.parse_expr.proofs.Knots.{ArePlain, Takes, Sound, SoundStep, SoundInner}

@@ -4,10 +4,10 @@ use Rattle.std.proofs.lemmas.Bool.{eqb-true}
 use Rattle.c_token.specs.declared.token.TokKind.{TokKind}
 use Rattle.c_token.specs.declared.token.TokKind.TheVariants as kinds
 use Rattle.c_token.specs.declared.token.Punct.TheVariants as marks
-use Rattle.c_tree.specs.Words.{Symbol, Symbols, punct}
-use Rattle.c_tree.specs.Kinds.{is_punct, level_of, is_assignment}
-use Rattle.c_tree.specs.Trees.{Tree, Join, Choose, Assign, spelled, rank, is_unary, IsTree}
-use Rattle.c_tree.specs.Lists.{joined, listed}
+use Rattle.c_nodes.specs.Words.{Symbol, Symbols, punct}
+use Rattle.c_nodes.specs.Kinds.{is_punct, level_of, is_assignment}
+use Rattle.c_nodes.specs.Trees.{Tree, Join, Choose, Assign, spelled, rank, is_unary, IsTree}
+use Rattle.c_nodes.specs.Lists.{joined, listed}
 use Rattle.parse_expr.specs.Reader.{◌>>=◌, Reader, spells, punct_at}
 use Rattle.parse_expr.specs.Reading.{Inner, right_by, tier_by, choose_on, choices, cond_by, target_at, assign_on, assigns, assign_by, comma_by, expr_by}
 use Rattle.parse_expr.proofs.Knots.{Takes, Sound, SoundStep, SoundInner, IsCond, IsAssign}

@@ -1,28 +1,27 @@
 -- What tests on trees tell of them: what may be assigned to, and the word `void` alone.
 use Rattle.std.proofs.Common.{◌≡◌, ℕ, ◌<◌, ◌≤◌, ◌==◌, Bool, true, false, not, List, [], ◌∷◌, None, Result, Err, Vec, Box, Global, vec_len, length, get_or, map, refl, sym, ap, ◌∙◌, arith}
 use Rattle.std.proofs.lemmas.Bool.{eqb-true, eq-eqb}
-use Rattle.c_tree.specs.Words.{Symbol, Symbols, spell_pointers}
-use Rattle.c_tree.specs.Trees as tree
-use Rattle.c_tree.specs.Trees.{Tree, Behind, Before, Join, Post, Pre, Sign, Sizeof, TypeTree, SpecTrees, Specified, MoreSpecs, NoSpec, AndSpec, SpecTree, OneWord, Tagged, Body, NamedType, EnumTagged, EnumBody, EnumeratorTree, MemberTree, DeclaratorTree, SuffixTree, SuffixTrees, ParamTree, is_unary, is_cast, is_void, is_bare_void}
-use Rattle.c_tree.specs.Lists.{ChoiceParts, posted, prefixed, joined, chosen, more_specs, suffixes_of}
-use Rattle.c_tree.specs.Views.{LayerPrimary, binary_of, operand_of, postfix_suffix_of, prefix_of, primary_of, spec_of, suffix_of, cast_of, choice_of, cond_of, next_operand_of, postfix_of, specs_of, binary_step, enumerator_step, operand_step, param_step, postfix_suffix_step, prefix_step, primary_step, spec_step, suffix_step, assign_step, cast_step, choice_step, cond_step, declarator_step, enum_body_step, expr_step, member_step, next_assign_step, next_declarator_step, next_enumerator_step, next_operand_step, next_param_step, postfix_step, specs_step, struct_body_step, target_step, type_name_step}
-use Rattle.c_tree.specs.declared.word.Pointer.{Pointer}
-use Rattle.c_tree.specs.declared.expression.Binary.{Binary}
-use Rattle.c_tree.specs.declared.expression.Binary.TheVariants as Binaries
-use Rattle.c_tree.specs.declared.expression.Binary.TheOpen as Open
-use Rattle.c_tree.specs.declared.expression.Binary.TheFolds.{fold_out-Primary}
-use Rattle.c_tree.specs.declared.expression.Binary.TheViews.{out-Postfix, out-Cast, out-Cond, out-Specs}
-use Rattle.c_tree.specs.declared.expression.Cast.{Cast}
-use Rattle.c_tree.specs.declared.expression.Choice.{Choice}
-use Rattle.c_tree.specs.declared.expression.Cond.{Cond}
-use Rattle.c_tree.specs.declared.expression.NextOperand.{NextOperand}
-use Rattle.c_tree.specs.declared.expression.Postfix.{Postfix}
-use Rattle.c_tree.specs.declared.expression.Prefix.{Prefix}
-use Rattle.c_tree.specs.declared.expression.Primary.{Primary}
-use Rattle.c_tree.specs.declared.expression.Spec.{Spec}
-use Rattle.c_tree.specs.declared.expression.Specs.{Specs}
-use Rattle.c_tree.specs.declared.expression.Suffix.{Suffix}
-use Rattle.c_tree.proofs.Shapes.{show_postfix, show_cast, show_binary_chain, show_cond, show_specs}
+use Rattle.c_nodes.specs.Words.{Symbol, Symbols, spell_pointers}
+use Rattle.c_nodes.specs.Trees as tree
+use Rattle.c_nodes.specs.Trees.{Tree, Behind, Before, Join, Post, Pre, Sign, Sizeof, TypeTree, SpecTrees, Specified, MoreSpecs, NoSpec, AndSpec, SpecTree, OneWord, Tagged, Body, NamedType, EnumTagged, EnumBody, EnumeratorTree, MemberTree, DeclaratorTree, SuffixTree, SuffixTrees, ParamTree, is_unary, is_cast, is_void, is_bare_void}
+use Rattle.c_nodes.specs.Lists.{ChoiceParts, posted, prefixed, joined, chosen, more_specs, suffixes_of}
+use Rattle.c_nodes.specs.Views.{NextOperand, LayerPrimary, binary_of, operand_of, postfix_suffix_of, prefix_of, primary_of, spec_of, suffix_of, cast_of, choice_of, cond_of, next_operand_of, postfix_of, specs_of, binary_step, enumerator_step, operand_step, param_step, postfix_suffix_step, prefix_step, primary_step, spec_step, suffix_step, assign_step, cast_step, choice_step, cond_step, declarator_step, enum_body_step, expr_step, member_step, postfix_step, specs_step, struct_body_step}
+use Rattle.c_nodes.specs.declared.word.Pointer.{Pointer}
+use Rattle.c_nodes.specs.declared.expression.Binary.{Binary}
+use Rattle.c_nodes.specs.declared.expression.Binary.TheVariants as Binaries
+use Rattle.c_nodes.specs.declared.expression.Binary.TheOpen as Open
+use Rattle.c_nodes.specs.declared.expression.Binary.TheFolds.{fold_out-Primary}
+use Rattle.c_nodes.specs.declared.expression.Binary.TheViews.{out-Postfix, out-Cast, out-Cond, out-Specs}
+use Rattle.c_nodes.specs.declared.expression.Cast.{Cast}
+use Rattle.c_nodes.specs.declared.expression.Choice.{Choice}
+use Rattle.c_nodes.specs.declared.expression.Cond.{Cond}
+use Rattle.c_nodes.specs.declared.expression.Postfix.{Postfix}
+use Rattle.c_nodes.specs.declared.expression.Prefix.{Prefix}
+use Rattle.c_nodes.specs.declared.expression.Primary.{Primary}
+use Rattle.c_nodes.specs.declared.expression.Spec.{Spec}
+use Rattle.c_nodes.specs.declared.expression.Specs.{Specs}
+use Rattle.c_nodes.specs.declared.expression.Suffix.{Suffix}
+use Rattle.c_nodes.proofs.Shapes.{show_postfix, show_cast, show_binary_chain, show_cond, show_specs}
 use Rattle.parse_expr.specs.Reading.{target_at}
 
 posted_is_unary : (ps : List Post) (e : Tree) → is_unary e ≡ true → is_unary (posted e ps) ≡ true
@@ -36,7 +35,7 @@ step_is_unary (Open.Group opening inner closing) = refl
 
 primary_is_unary : (p : Primary) → is_unary (primary_of p) ≡ true
 unfolding primary_of
-primary_is_unary p = rw (fold_out-Primary Tree EnumeratorTree Tree ParamTree Post Pre Tree SpecTree SuffixTree Tree Tree ChoiceParts Tree DeclaratorTree SpecTree Tree MemberTree (ℕ × Tree) (ℕ × DeclaratorTree) (ℕ × EnumeratorTree) (Symbol × Tree) (ℕ × ParamTree) Tree SpecTrees SpecTree (Tree × Symbol) TypeTree binary_step enumerator_step operand_step param_step postfix_suffix_step prefix_step primary_step spec_step suffix_step assign_step cast_step choice_step cond_step declarator_step enum_body_step expr_step member_step next_assign_step next_declarator_step next_enumerator_step next_operand_step next_param_step postfix_step specs_step struct_body_step target_step type_name_step p) (step_is_unary _)
+primary_is_unary p = rw (fold_out-Primary Tree EnumeratorTree Tree ParamTree Post Pre Tree SpecTree SuffixTree Tree Tree ChoiceParts Tree DeclaratorTree SpecTree Tree MemberTree Tree SpecTrees SpecTree binary_step enumerator_step operand_step param_step postfix_suffix_step prefix_step primary_step spec_step suffix_step assign_step cast_step choice_step cond_step declarator_step enum_body_step expr_step member_step postfix_step specs_step struct_body_step p) (step_is_unary _)
 
 pub postfix_is_unary : (p : Postfix) → is_unary (postfix_of p) ≡ true
 postfix_is_unary p = rw (show_postfix p) (posted_is_unary (map postfix_suffix_of (out-Postfix p).suffixes.items) (primary_of (out-Postfix p).primary) (primary_is_unary (out-Postfix p).primary))

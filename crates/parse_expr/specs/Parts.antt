@@ -2,10 +2,10 @@
 use Rattle.std.specs.Prelude.{ℕ, ◌&&◌, if◌then◌else◌, [], ◌∷◌, ◌++◌, Some, None}
 use Rattle.c_token.specs.declared.token.Keyword.TheVariants as words
 use Rattle.c_token.specs.declared.token.Punct.TheVariants as marks
-use Rattle.c_tree.specs.Words.{Symbols}
-use Rattle.c_tree.specs.Kinds.{is_key, is_prefix, is_step, is_field}
-use Rattle.c_tree.specs.Trees.{Tree, Post, Step, Pre, Sign, Sizeof}
-use Rattle.c_tree.specs.Lists.{ChoiceParts}
+use Rattle.c_nodes.specs.Words.{Symbols}
+use Rattle.c_nodes.specs.Kinds.{is_key, is_prefix, is_step, is_field}
+use Rattle.c_nodes.specs.Trees.{Tree, Post, Step, Pre, Sign, Sizeof}
+use Rattle.c_nodes.specs.Lists.{ChoiceParts}
 use Rattle.parse_expr.specs.Reader.{◌>>=◌, Reader, punct_at, type_opens, got}
 use Rattle.parse_expr.specs.Reader as reader
 use Rattle.parse_expr.specs.Reading.{Inner, field_by}

@@ -6,8 +6,8 @@ use Rattle.c_token.specs.declared.token.Keyword.{Keyword}
 use Rattle.c_token.specs.declared.token.Punct.{Punct}
 use Rattle.c_token.specs.declared.token.Punct.TheVariants as marks
 use Rattle.c_pre.specs.Words.{word_of}
-use Rattle.c_tree.specs.Words.{Symbol, Symbols}
-use Rattle.c_tree.specs.Kinds.{is_punct, is_key, is_name, is_type_name, is_text, is_spec, is_qualifier}
+use Rattle.c_nodes.specs.Words.{Symbol, Symbols}
+use Rattle.c_nodes.specs.Kinds.{is_punct, is_key, is_name, is_type_name, is_text, is_spec, is_qualifier}
 use Rattle.parse_expr.specs.declared.error.ParseError.{ParseError}
 use Rattle.parse_expr.specs.declared.error.ParseError.TheVariants as errors
 

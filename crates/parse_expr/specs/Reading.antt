@@ -2,10 +2,10 @@
 use Rattle.std.specs.Prelude.{ℕ, zero, suc, ◌&&◌, ◌==◌, if◌then◌else◌, List, [], ◌∷◌, length, Option, Some, None}
 use Rattle.c_token.specs.declared.token.Keyword.TheVariants as words
 use Rattle.c_token.specs.declared.token.Punct.TheVariants as marks
-use Rattle.c_tree.specs.Words.{Symbol, Symbols}
-use Rattle.c_tree.specs.Kinds.{is_punct, is_key, is_name, is_leaf, level_of, is_assignment, is_prefix, is_step, is_field, is_spec_word, is_type_name}
-use Rattle.c_tree.specs.Trees.{Tree, Leaf, Group, Measure, Choose, Assign, Post, Index, CallBare, Call, Field, Step, Pre, Sign, Sizeof, Cast, TypeTree, TypeOf, SpecTrees, Specified, SpecTree, OneWord, Tagged, Body, NamedType, EnumTagged, EnumBody, EnumeratorTree, Bare, Valued, MemberTree, Members, DeclaratorTree, Declares, SuffixTree, Unsized, Sized, Empty, VoidOnly, Params, ParamTree, Named, Unnamed, is_unary, is_bare_void}
-use Rattle.c_tree.specs.Lists.{posted, prefixed, joined, listed, more_specs, more_members, more_declarators, suffixes_of, more_params, more_enumerators}
+use Rattle.c_nodes.specs.Words.{Symbol, Symbols}
+use Rattle.c_nodes.specs.Kinds.{is_punct, is_key, is_name, is_leaf, level_of, is_assignment, is_prefix, is_step, is_field, is_spec_word, is_type_name}
+use Rattle.c_nodes.specs.Trees.{Tree, Leaf, Group, Measure, Choose, Assign, Post, Index, CallBare, Call, Field, Step, Pre, Sign, Sizeof, Cast, TypeTree, TypeOf, SpecTrees, Specified, SpecTree, OneWord, Tagged, Body, NamedType, EnumTagged, EnumBody, EnumeratorTree, Bare, Valued, MemberTree, Members, DeclaratorTree, Declares, SuffixTree, Unsized, Sized, Empty, VoidOnly, Params, ParamTree, Named, Unnamed, is_unary, is_bare_void}
+use Rattle.c_nodes.specs.Lists.{posted, prefixed, joined, listed, more_specs, more_members, more_declarators, suffixes_of, more_params, more_enumerators}
 use Rattle.parse_expr.specs.Reader.{◌>>=◌, Reader, front_is, symbol_at, punct_at, key_at, specs_come, comma_at, type_opens, got, all_that, pointers_at}
 use Rattle.parse_expr.specs.Reader as reader
 

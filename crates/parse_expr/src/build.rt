@@ -4,21 +4,21 @@
 //! ran out.
 
 ghost use Rattle.std.specs.Prelude.{◌≡◌, ℕ, List, [], ◌∷◌, Some, None, true, IfOk, map};
-ghost use Rattle.c_tree.specs.Words.{Symbol, signed, keyed, named, type_named, spell_constant, spell_pointers, spell_tag};
-ghost use Rattle.c_tree.specs.Trees as tree;
-ghost use Rattle.c_tree.specs.Lists.{posted, prefixed, joined, listed, chosen, assigned, more_specs, more_members, more_declarators, suffixes_of, more_params, more_enumerators};
-ghost use Rattle.c_tree.specs.Views.{binary_of, operand_of, param_of, postfix_suffix_of, prefix_of, primary_of, spec_of, suffix_of, assign_of, cast_of, choice_of, cond_of, declarator_of, expr_of, member_of, next_assign_of, next_declarator_of, next_operand_of, next_param_of, postfix_of, specs_of, struct_body_of, target_of, type_name_of, enumerator_of, enum_body_of, next_enumerator_of};
+ghost use Rattle.c_nodes.specs.Words.{Symbol, signed, keyed, named, type_named, spell_constant, spell_pointers, spell_tag};
+ghost use Rattle.c_nodes.specs.Trees as tree;
+ghost use Rattle.c_nodes.specs.Lists.{posted, prefixed, joined, listed, chosen, assigned, more_specs, more_members, more_declarators, suffixes_of, more_params, more_enumerators};
+ghost use Rattle.c_nodes.specs.Views.{binary_of, operand_of, param_of, postfix_suffix_of, prefix_of, primary_of, spec_of, suffix_of, assign_of, cast_of, choice_of, cond_of, declarator_of, expr_of, member_of, next_assign_of, next_declarator_of, next_operand_of, next_param_of, postfix_of, specs_of, struct_body_of, target_of, type_name_of, enumerator_of, enum_body_of, next_enumerator_of};
 
-use c_tree::expression::{
+use c_nodes::expression::{
     Assign, Binary, Cast, Choice, Cond, Declarator, EnumBody, Enumerator, Expr, Member, NextAssign,
     NextDeclarator, NextEnumerator, NextOperand, NextParam, Operand, Param, Postfix, PostfixSuffix,
     Prefix, Primary, Spec, Specs, StructBody, Suffix, Target, TypeName,
 };
-use c_tree::word::{Constant, Infix, Name, Pointer, Sign, Word};
+use c_nodes::word::{Constant, Infix, Name, Pointer, Sign, Word};
 use std::alloc::{AllocError, Global};
 
 /// An identifier as a primary expression (ISO/IEC 9899:1990, 6.3.1).
-#[tactic(auto, using(c_tree::proofs::Shapes::show_primary_name))]
+#[tactic(auto, using(c_nodes::proofs::Shapes::show_primary_name))]
 pub fn name_operand(name: Name) -> Primary
     ensures { primary_of result ≡ tree.Leaf (named name) }
 {
@@ -26,7 +26,7 @@ pub fn name_operand(name: Name) -> Primary
 }
 
 /// An integer or character constant as a primary expression (ISO/IEC 9899:1990, 6.3.1).
-#[tactic(auto, using(c_tree::proofs::Shapes::show_primary_constant))]
+#[tactic(auto, using(c_nodes::proofs::Shapes::show_primary_constant))]
 pub fn constant_operand(constant: Constant) -> Primary
     ensures { primary_of result ≡ tree.Leaf (spell_constant constant) }
 {
@@ -34,7 +34,7 @@ pub fn constant_operand(constant: Constant) -> Primary
 }
 
 /// `(inner)`, a primary expression (ISO/IEC 9899:1990, 6.3.1).
-#[tactic(auto, using(c_tree::proofs::Shapes::show_primary_group))]
+#[tactic(auto, using(c_nodes::proofs::Shapes::show_primary_group))]
 pub fn group(alloc: Global, opening: u32, inner: Expr, closing: u32) -> Result<Primary, AllocError>
     ensures { IfOk result (λ p. primary_of p ≡ tree.Group opening (expr_of inner) closing) }
 {
@@ -47,7 +47,7 @@ pub fn group(alloc: Global, opening: u32, inner: Expr, closing: u32) -> Result<P
 }
 
 /// An expression: `first`, and what stands after each comma (ISO/IEC 9899:1990, 6.3.17).
-#[tactic(auto, using(c_tree::proofs::Shapes::made_expr))]
+#[tactic(auto, using(c_nodes::proofs::Shapes::made_expr))]
 pub fn expr(first: Assign, others: Vec<NextAssign>) -> Expr
     ensures { expr_of result ≡ listed (assign_of first) (map next_assign_of others.items) }
 {
@@ -55,16 +55,15 @@ pub fn expr(first: Assign, others: Vec<NextAssign>) -> Expr
 }
 
 /// A comma, and the assignment expression after it (ISO/IEC 9899:1990, 6.3.17).
-#[tactic(auto, using(c_tree::proofs::Shapes::made_next_assign))]
 pub fn next_assign(comma: u32, assign: Assign) -> NextAssign
     ensures { next_assign_of result ≡ (comma, assign_of assign) }
 {
-    NextAssign { comma, assign }
+    (comma, assign)
 }
 
 /// `value`, and the left sides that it is assigned to, the outermost first; without any it is `value` alone
 /// (ISO/IEC 9899:1990, 6.3.16).
-#[tactic(auto, using(c_tree::proofs::Shapes::made_assign))]
+#[tactic(auto, using(c_nodes::proofs::Shapes::made_assign))]
 pub fn assign(targets: Vec<Target>, value: Cond) -> Assign
     ensures { assign_of result ≡ assigned (map target_of targets.items) (cond_of value) }
 {
@@ -72,16 +71,15 @@ pub fn assign(targets: Vec<Target>, value: Cond) -> Assign
 }
 
 /// The left side of an assignment, and its operator (ISO/IEC 9899:1990, 6.3.16).
-#[tactic(auto, using(c_tree::proofs::Shapes::made_target))]
 pub fn target(place: Cast, operator: Sign) -> Target
     ensures { target_of result ≡ (cast_of place, signed operator) }
 {
-    Target { place, operator }
+    (place, operator)
 }
 
 /// Choices by `?` and `:`, the outermost first, and the operand after the last `:`; without any it is `last`
 /// alone (ISO/IEC 9899:1990, 6.3.15).
-#[tactic(auto, using(c_tree::proofs::Shapes::made_cond))]
+#[tactic(auto, using(c_nodes::proofs::Shapes::made_cond))]
 pub fn cond(choices: Vec<Choice>, last: Binary) -> Cond
     ensures { cond_of result ≡ chosen (map choice_of choices.items) (binary_of last) }
 {
@@ -89,7 +87,7 @@ pub fn cond(choices: Vec<Choice>, last: Binary) -> Cond
 }
 
 /// `condition ? then :`, the front of a conditional expression (ISO/IEC 9899:1990, 6.3.15).
-#[tactic(auto, using(c_tree::proofs::Shapes::made_choice))]
+#[tactic(auto, using(c_nodes::proofs::Shapes::made_choice))]
 pub fn choice(
     alloc: Global,
     condition: Binary,
@@ -109,7 +107,7 @@ pub fn choice(
 }
 
 /// An operand that stands alone, without a binary operator.
-#[tactic(auto, using(c_tree::proofs::Shapes::show_binary_operand))]
+#[tactic(auto, using(c_nodes::proofs::Shapes::show_binary_operand))]
 pub fn single(cast: Cast) -> Binary
     ensures { binary_of result ≡ cast_of cast }
 {
@@ -117,7 +115,7 @@ pub fn single(cast: Cast) -> Binary
 }
 
 /// Operands between operators of one level, or the first operand alone.
-#[tactic(auto, using(c_tree::proofs::Shapes::show_binary_chain))]
+#[tactic(auto, using(c_nodes::proofs::Shapes::show_binary_chain))]
 pub fn chain(alloc: Global, first: Binary, others: Vec<NextOperand>) -> Result<Binary, AllocError>
     ensures { IfOk result (λ b. binary_of b ≡ joined (binary_of first) (map next_operand_of others.items)) }
 {
@@ -129,15 +127,14 @@ pub fn chain(alloc: Global, first: Binary, others: Vec<NextOperand>) -> Result<B
 }
 
 /// A binary operator, and the operand on its right (ISO/IEC 9899:1990, 6.3.5 to 6.3.14).
-#[tactic(auto, using(c_tree::proofs::Shapes::made_next_operand))]
 pub fn next_operand(operator: Infix, operand: Binary) -> NextOperand
     ensures { next_operand_of result ≡ (signed operator.sign, binary_of operand) }
 {
-    NextOperand { operator, operand }
+    (operator, operand)
 }
 
 /// An operand with its prefixes, the outermost first (ISO/IEC 9899:1990, 6.3.3 and 6.3.4).
-#[tactic(auto, using(c_tree::proofs::Shapes::made_cast))]
+#[tactic(auto, using(c_nodes::proofs::Shapes::made_cast))]
 pub fn cast(prefixes: Vec<Prefix>, operand: Operand) -> Cast
     ensures { cast_of result ≡ prefixed (map prefix_of prefixes.items) (operand_of operand) }
 {
@@ -145,7 +142,7 @@ pub fn cast(prefixes: Vec<Prefix>, operand: Operand) -> Cast
 }
 
 /// An operator as the prefix of an operand (ISO/IEC 9899:1990, 6.3.3).
-#[tactic(auto, using(c_tree::proofs::Shapes::show_prefix_operator))]
+#[tactic(auto, using(c_nodes::proofs::Shapes::show_prefix_operator))]
 pub fn operator_prefix(operator: Sign) -> Prefix
     ensures { prefix_of result ≡ tree.Sign (signed operator) }
 {
@@ -153,7 +150,7 @@ pub fn operator_prefix(operator: Sign) -> Prefix
 }
 
 /// `sizeof` before an expression (ISO/IEC 9899:1990, 6.3.3.4).
-#[tactic(auto, using(c_tree::proofs::Shapes::show_prefix_sizeof))]
+#[tactic(auto, using(c_nodes::proofs::Shapes::show_prefix_sizeof))]
 pub fn sizeof_prefix(keyword: u32) -> Prefix
     ensures { prefix_of result ≡ tree.Sizeof keyword }
 {
@@ -161,7 +158,7 @@ pub fn sizeof_prefix(keyword: u32) -> Prefix
 }
 
 /// `(type_name)`, a cast (ISO/IEC 9899:1990, 6.3.4).
-#[tactic(auto, using(c_tree::proofs::Shapes::show_prefix_cast))]
+#[tactic(auto, using(c_nodes::proofs::Shapes::show_prefix_cast))]
 pub fn cast_prefix(
     alloc: Global,
     opening: u32,
@@ -179,7 +176,7 @@ pub fn cast_prefix(
 }
 
 /// A postfix expression as an operand (ISO/IEC 9899:1990, 6.3.3).
-#[tactic(auto, using(c_tree::proofs::Shapes::show_operand_postfix))]
+#[tactic(auto, using(c_nodes::proofs::Shapes::show_operand_postfix))]
 pub fn postfix_operand(postfix: Postfix) -> Operand
     ensures { operand_of result ≡ postfix_of postfix }
 {
@@ -187,7 +184,7 @@ pub fn postfix_operand(postfix: Postfix) -> Operand
 }
 
 /// `sizeof(type_name)` (ISO/IEC 9899:1990, 6.3.3.4).
-#[tactic(auto, using(c_tree::proofs::Shapes::show_operand_sizeof_type))]
+#[tactic(auto, using(c_nodes::proofs::Shapes::show_operand_sizeof_type))]
 pub fn measure(
     alloc: Global,
     keyword: u32,
@@ -207,7 +204,7 @@ pub fn measure(
 }
 
 /// A primary expression with its suffixes, in the order of the text (ISO/IEC 9899:1990, 6.3.2).
-#[tactic(auto, using(c_tree::proofs::Shapes::made_postfix))]
+#[tactic(auto, using(c_nodes::proofs::Shapes::made_postfix))]
 pub fn postfix(primary: Primary, suffixes: Vec<PostfixSuffix>) -> Postfix
     ensures { postfix_of result ≡ posted (primary_of primary) (map postfix_suffix_of suffixes.items) }
 {
@@ -215,7 +212,7 @@ pub fn postfix(primary: Primary, suffixes: Vec<PostfixSuffix>) -> Postfix
 }
 
 /// `[index]`, the suffix that takes an element of an array (ISO/IEC 9899:1990, 6.3.2.1).
-#[tactic(auto, using(c_tree::proofs::Shapes::show_postfix_suffix_index))]
+#[tactic(auto, using(c_nodes::proofs::Shapes::show_postfix_suffix_index))]
 pub fn index(
     alloc: Global,
     opening: u32,
@@ -233,7 +230,7 @@ pub fn index(
 }
 
 /// `()`, the suffix of a call without arguments (ISO/IEC 9899:1990, 6.3.2.2).
-#[tactic(auto, using(c_tree::proofs::Shapes::show_postfix_suffix_call_bare))]
+#[tactic(auto, using(c_nodes::proofs::Shapes::show_postfix_suffix_call_bare))]
 pub fn bare_call(opening: u32, closing: u32) -> PostfixSuffix
     ensures { postfix_suffix_of result ≡ tree.CallBare opening closing }
 {
@@ -245,7 +242,7 @@ pub fn bare_call(opening: u32, closing: u32) -> PostfixSuffix
 }
 
 /// `(arguments)`, the suffix of a call (ISO/IEC 9899:1990, 6.3.2.2).
-#[tactic(auto, using(c_tree::proofs::Shapes::show_postfix_suffix_call))]
+#[tactic(auto, using(c_nodes::proofs::Shapes::show_postfix_suffix_call))]
 pub fn call(
     alloc: Global,
     opening: u32,
@@ -263,7 +260,7 @@ pub fn call(
 }
 
 /// `.name` or `->name`, the suffix that takes a member of a structure (ISO/IEC 9899:1990, 6.3.2.3).
-#[tactic(auto, using(c_tree::proofs::Shapes::show_postfix_suffix_member))]
+#[tactic(auto, using(c_nodes::proofs::Shapes::show_postfix_suffix_member))]
 pub fn field(operator: Sign, name: Name) -> PostfixSuffix
     ensures { postfix_suffix_of result ≡ tree.Field (signed operator) (named name) }
 {
@@ -271,7 +268,7 @@ pub fn field(operator: Sign, name: Name) -> PostfixSuffix
 }
 
 /// `++` or `--` as a suffix (ISO/IEC 9899:1990, 6.3.2.4).
-#[tactic(auto, using(c_tree::proofs::Shapes::show_postfix_suffix_step))]
+#[tactic(auto, using(c_nodes::proofs::Shapes::show_postfix_suffix_step))]
 pub fn step(operator: Sign) -> PostfixSuffix
     ensures { postfix_suffix_of result ≡ tree.Step (signed operator) }
 {
@@ -279,15 +276,14 @@ pub fn step(operator: Sign) -> PostfixSuffix
 }
 
 /// The name of a type: specifiers, and any number of `*` (ISO/IEC 9899:1990, 6.5.5).
-#[tactic(auto, using(c_tree::proofs::Shapes::made_type_name))]
 pub fn type_name(specs: Specs, pointers: Vec<Pointer>) -> TypeName
     ensures { type_name_of result ≡ tree.TypeOf (specs_of specs) (spell_pointers pointers.items) }
 {
-    TypeName { specs, pointers }
+    (specs, pointers)
 }
 
 /// The specifiers of a declaration, at least one (ISO/IEC 9899:1990, 6.5).
-#[tactic(auto, using(c_tree::proofs::Shapes::made_specs))]
+#[tactic(auto, using(c_nodes::proofs::Shapes::made_specs))]
 pub fn specs(first: Spec, others: Vec<Spec>) -> Specs
     ensures { specs_of result ≡ tree.Specified (spec_of first) (more_specs (map spec_of others.items)) }
 {
@@ -295,7 +291,7 @@ pub fn specs(first: Spec, others: Vec<Spec>) -> Specs
 }
 
 /// A keyword as a specifier: one of ISO/IEC 9899:1990, 6.5.1 to 6.5.3, or `interrupt`.
-#[tactic(auto, using(c_tree::proofs::Shapes::show_spec_word))]
+#[tactic(auto, using(c_nodes::proofs::Shapes::show_spec_word))]
 pub fn word_spec(word: Word) -> Spec
     ensures { spec_of result ≡ tree.OneWord (keyed word) }
 {
@@ -303,7 +299,7 @@ pub fn word_spec(word: Word) -> Spec
 }
 
 /// A marked name as a specifier (ISO/IEC 9899:1990, 6.5.6).
-#[tactic(auto, using(c_tree::proofs::Shapes::show_spec_type_name))]
+#[tactic(auto, using(c_nodes::proofs::Shapes::show_spec_type_name))]
 pub fn named_type(name: Name) -> Spec
     ensures { spec_of result ≡ tree.NamedType (type_named name) }
 {
@@ -311,7 +307,7 @@ pub fn named_type(name: Name) -> Spec
 }
 
 /// `enum tag` (ISO/IEC 9899:1990, 6.5.2.3).
-#[tactic(auto, using(c_tree::proofs::Shapes::show_spec_enum_reference))]
+#[tactic(auto, using(c_nodes::proofs::Shapes::show_spec_enum_reference))]
 pub fn enum_reference(keyword: u32, tag: Name) -> Spec
     ensures { spec_of result ≡ tree.EnumTagged keyword (named tag) }
 {
@@ -319,7 +315,7 @@ pub fn enum_reference(keyword: u32, tag: Name) -> Spec
 }
 
 /// An enumeration with its enumerators; `braces` are the lines of the braces (ISO/IEC 9899:1990, 6.5.2.2).
-#[tactic(auto, using(c_tree::proofs::Shapes::show_spec_enum_body, c_tree::proofs::Shapes::made_enum_body))]
+#[tactic(auto, using(c_nodes::proofs::Shapes::show_spec_enum_body, c_nodes::proofs::Shapes::made_enum_body))]
 pub fn enum_body(
     alloc: Global,
     keyword: u32,
@@ -345,15 +341,14 @@ pub fn enum_body(
 }
 
 /// A comma, and the enumerator after it (ISO/IEC 9899:1990, 6.5.2.2).
-#[tactic(auto, using(c_tree::proofs::Shapes::made_next_enumerator))]
 pub fn next_enumerator(comma: u32, enumerator: Enumerator) -> NextEnumerator
     ensures { next_enumerator_of result ≡ (comma, enumerator_of enumerator) }
 {
-    NextEnumerator { comma, enumerator }
+    (comma, enumerator)
 }
 
 /// An enumerator without a value (ISO/IEC 9899:1990, 6.5.2.2).
-#[tactic(auto, using(c_tree::proofs::Shapes::show_enumerator_bare))]
+#[tactic(auto, using(c_nodes::proofs::Shapes::show_enumerator_bare))]
 pub fn bare(name: Name) -> Enumerator
     ensures { enumerator_of result ≡ tree.Bare (named name) }
 {
@@ -361,7 +356,7 @@ pub fn bare(name: Name) -> Enumerator
 }
 
 /// `name = value` (ISO/IEC 9899:1990, 6.5.2.2).
-#[tactic(auto, using(c_tree::proofs::Shapes::show_enumerator_valued))]
+#[tactic(auto, using(c_nodes::proofs::Shapes::show_enumerator_valued))]
 pub fn valued(alloc: Global, name: Name, equals: u32, value: Cond) -> Result<Enumerator, AllocError>
     ensures { IfOk result (λ e. enumerator_of e ≡ tree.Valued (named name) equals (cond_of value)) }
 {
@@ -374,7 +369,7 @@ pub fn valued(alloc: Global, name: Name, equals: u32, value: Cond) -> Result<Enu
 }
 
 /// `struct tag` (ISO/IEC 9899:1990, 6.5.2.3).
-#[tactic(auto, using(c_tree::proofs::Shapes::show_spec_reference))]
+#[tactic(auto, using(c_nodes::proofs::Shapes::show_spec_reference))]
 pub fn reference(keyword: u32, tag: Name) -> Spec
     ensures { spec_of result ≡ tree.Tagged keyword (named tag) }
 {
@@ -382,7 +377,7 @@ pub fn reference(keyword: u32, tag: Name) -> Spec
 }
 
 /// A structure with its members; `braces` are the lines of the braces.
-#[tactic(auto, using(c_tree::proofs::Shapes::show_spec_body, c_tree::proofs::Shapes::made_struct_body))]
+#[tactic(auto, using(c_nodes::proofs::Shapes::show_spec_body, c_nodes::proofs::Shapes::made_struct_body))]
 pub fn body(
     alloc: Global,
     keyword: u32,
@@ -406,7 +401,7 @@ pub fn body(
 }
 
 /// The members that one list of declarators declares (ISO/IEC 9899:1990, 6.5.2.1).
-#[tactic(auto, using(c_tree::proofs::Shapes::made_member))]
+#[tactic(auto, using(c_nodes::proofs::Shapes::made_member))]
 pub fn member(
     specs: Specs,
     first: Declarator,
@@ -424,16 +419,15 @@ pub fn member(
 }
 
 /// A comma, and the declarator of a member after it (ISO/IEC 9899:1990, 6.5.2.1).
-#[tactic(auto, using(c_tree::proofs::Shapes::made_next_declarator))]
 pub fn next_declarator(comma: u32, declarator: Declarator) -> NextDeclarator
     ensures { next_declarator_of result ≡ (comma, declarator_of declarator) }
 {
-    NextDeclarator { comma, declarator }
+    (comma, declarator)
 }
 
 /// A declarator: any number of `*`, the name, and the suffixes in the order of the text (ISO/IEC 9899:1990,
 /// 6.5.4).
-#[tactic(auto, using(c_tree::proofs::Shapes::made_declarator))]
+#[tactic(auto, using(c_nodes::proofs::Shapes::made_declarator))]
 pub fn declarator(pointers: Vec<Pointer>, name: Name, suffixes: Vec<Suffix>) -> Declarator
     ensures { declarator_of result ≡ tree.Declares (spell_pointers pointers.items) (named name) (suffixes_of (map suffix_of suffixes.items)) }
 {
@@ -445,7 +439,7 @@ pub fn declarator(pointers: Vec<Pointer>, name: Name, suffixes: Vec<Suffix>) -> 
 }
 
 /// `[]`, the suffix of an array without a length (ISO/IEC 9899:1990, 6.5.4.2).
-#[tactic(auto, using(c_tree::proofs::Shapes::show_suffix_array_unsized))]
+#[tactic(auto, using(c_nodes::proofs::Shapes::show_suffix_array_unsized))]
 pub fn unsized_array(opening: u32, closing: u32) -> Suffix
     ensures { suffix_of result ≡ tree.Unsized opening closing }
 {
@@ -457,7 +451,7 @@ pub fn unsized_array(opening: u32, closing: u32) -> Suffix
 }
 
 /// `[length]`, the suffix of an array (ISO/IEC 9899:1990, 6.5.4.2).
-#[tactic(auto, using(c_tree::proofs::Shapes::show_suffix_array))]
+#[tactic(auto, using(c_nodes::proofs::Shapes::show_suffix_array))]
 pub fn array(alloc: Global, opening: u32, length: Cond, closing: u32) -> Result<Suffix, AllocError>
     ensures { IfOk result (λ s. suffix_of s ≡ tree.Sized opening (cond_of length) closing) }
 {
@@ -470,7 +464,7 @@ pub fn array(alloc: Global, opening: u32, length: Cond, closing: u32) -> Result<
 }
 
 /// `()`, the suffix of a function without a list of parameters (ISO/IEC 9899:1990, 6.5.4.3).
-#[tactic(auto, using(c_tree::proofs::Shapes::show_suffix_empty))]
+#[tactic(auto, using(c_nodes::proofs::Shapes::show_suffix_empty))]
 pub fn no_params(opening: u32, closing: u32) -> Suffix
     ensures { suffix_of result ≡ tree.Empty opening closing }
 {
@@ -478,7 +472,7 @@ pub fn no_params(opening: u32, closing: u32) -> Suffix
 }
 
 /// `(void)`, the suffix of a function without parameters (ISO/IEC 9899:1990, 6.5.4.3).
-#[tactic(auto, using(c_tree::proofs::Shapes::show_suffix_void))]
+#[tactic(auto, using(c_nodes::proofs::Shapes::show_suffix_void))]
 pub fn void_params(opening: u32, void: u32, closing: u32) -> Suffix
     ensures { suffix_of result ≡ tree.VoidOnly opening void closing }
 {
@@ -491,7 +485,7 @@ pub fn void_params(opening: u32, void: u32, closing: u32) -> Suffix
 
 /// The suffix of a function with one parameter or more, the first one and those after commas (ISO/IEC
 /// 9899:1990, 6.5.4.3).
-#[tactic(auto, using(c_tree::proofs::Shapes::show_suffix_params))]
+#[tactic(auto, using(c_nodes::proofs::Shapes::show_suffix_params))]
 pub fn params(
     alloc: Global,
     opening: u32,
@@ -511,15 +505,14 @@ pub fn params(
 }
 
 /// A comma, and the parameter after it (ISO/IEC 9899:1990, 6.5.4.3).
-#[tactic(auto, using(c_tree::proofs::Shapes::made_next_param))]
 pub fn next_param(comma: u32, param: Param) -> NextParam
     ensures { next_param_of result ≡ (comma, param_of param) }
 {
-    NextParam { comma, param }
+    (comma, param)
 }
 
 /// A parameter with a name (ISO/IEC 9899:1990, 6.5.4.3).
-#[tactic(auto, using(c_tree::proofs::Shapes::show_param_named))]
+#[tactic(auto, using(c_nodes::proofs::Shapes::show_param_named))]
 pub fn named_param(specs: Specs, declarator: Declarator) -> Param
     ensures { param_of result ≡ tree.Named (specs_of specs) (declarator_of declarator) }
 {
@@ -527,7 +520,7 @@ pub fn named_param(specs: Specs, declarator: Declarator) -> Param
 }
 
 /// A parameter without a name (ISO/IEC 9899:1990, 6.5.4.3 and 6.5.5).
-#[tactic(auto, using(c_tree::proofs::Shapes::show_param_unnamed))]
+#[tactic(auto, using(c_nodes::proofs::Shapes::show_param_unnamed))]
 pub fn unnamed_param(specs: Specs, pointers: Vec<Pointer>, suffixes: Vec<Suffix>) -> Param
     ensures { param_of result ≡ tree.Unnamed (specs_of specs) (spell_pointers pointers.items) (suffixes_of (map suffix_of suffixes.items)) }
 {

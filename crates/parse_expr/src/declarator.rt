@@ -1,8 +1,8 @@
 //! The reader of declarators.
 
 ghost use Rattle.std.specs.Prelude.{◌≡◌, map};
-ghost use Rattle.c_tree.specs.Words.{spell_pointers};
-ghost use Rattle.c_tree.specs.Views.{declarator_of, suffix_of, specs_of, param_of, next_param_of};
+ghost use Rattle.c_nodes.specs.Words.{spell_pointers};
+ghost use Rattle.c_nodes.specs.Views.{declarator_of, suffix_of, specs_of, param_of, next_param_of};
 ghost use Rattle.parse_expr.specs.Reader.{Gives, over, symbols_in, all_that};
 ghost use Rattle.parse_expr.specs.Reading.{at, declarator_by, named_by, suffix_by, array_by, length_by, function_by, list_by, params_by, next_param_by, param_by, param_behind, named_param_by, unnamed_by};
 
@@ -12,9 +12,9 @@ use crate::kind::is_punct;
 use crate::pointer::{behind_void, is_bare_void, pointers};
 use crate::specifier::specs;
 use crate::take::{Read, Step, behind_punct, name, name_comes, punct, stopped};
+use c_nodes::expression::{Declarator, NextParam, Param, Specs, Suffix};
+use c_nodes::word::Pointer;
 use c_token::{Punct, Tok};
-use c_tree::expression::{Declarator, NextParam, Param, Specs, Suffix};
-use c_tree::word::Pointer;
 use std::alloc::Global;
 
 /// `{ pointer } name { suffix }`

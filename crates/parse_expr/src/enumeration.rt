@@ -1,8 +1,8 @@
 //! The reader of enumerations.
 
 ghost use Rattle.std.specs.Prelude.{◌≡◌, map};
-ghost use Rattle.c_tree.specs.Words.{named, spell_tag};
-ghost use Rattle.c_tree.specs.Views.{spec_of, enumerator_of, next_enumerator_of};
+ghost use Rattle.c_nodes.specs.Words.{named, spell_tag};
+ghost use Rattle.c_nodes.specs.Views.{spec_of, enumerator_of, next_enumerator_of};
 ghost use Rattle.parse_expr.specs.Reader.{Gives, over, symbols_in, all_that};
 ghost use Rattle.parse_expr.specs.Reading.{at, enum_by, enum_body_by, enumerator_by, valued_by, next_enumerator_by, enumerators_by};
 
@@ -12,9 +12,9 @@ use crate::kind::is_punct;
 use crate::take::{
     Read, Step, behind_comma, behind_name, behind_punct, name, punct, punct_comes, stopped,
 };
+use c_nodes::expression::{Enumerator, NextEnumerator, Spec};
+use c_nodes::word::Name;
 use c_token::{Punct, Tok};
-use c_tree::expression::{Enumerator, NextEnumerator, Spec};
-use c_tree::word::Name;
 use std::alloc::Global;
 
 /// `name | [ name ] "{" enumerator { "," enumerator } [ "," ] "}"`, after `enum`

@@ -4,7 +4,7 @@
 //! token of all, and `fuel` bounds how many brackets, and how many `?`, may still be entered.
 
 ghost use Rattle.std.specs.Prelude.{◌≡◌, ◌≤◌, ◌<◌, ◌+◌, suc, map};
-ghost use Rattle.c_tree.specs.Views.{binary_of, assign_of, cast_of, choice_of, cond_of, expr_of, next_assign_of, next_operand_of};
+ghost use Rattle.c_nodes.specs.Views.{binary_of, assign_of, cast_of, choice_of, cond_of, expr_of, next_assign_of, next_operand_of};
 ghost use Rattle.parse_expr.specs.Reader.{Gives, over, symbols_in, all_that};
 ghost use Rattle.parse_expr.specs.Reading.{at, expr_by, assign_by, cond_by, tier_by, right_by, comma_by, unary_by};
 ghost use Rattle.parse_expr.specs.Parts.{choice_by};
@@ -14,8 +14,8 @@ use crate::kind::is_punct;
 use crate::operand::unary;
 use crate::operator::{behind_operator, behind_target};
 use crate::take::{Read, Step, behind_punct, punct, stopped};
+use c_nodes::expression::{Assign, Binary, Choice, Cond, Expr, NextAssign, NextOperand};
 use c_token::{Punct, Tok};
-use c_tree::expression::{Assign, Binary, Choice, Cond, Expr, NextAssign, NextOperand};
 use std::alloc::Global;
 
 /// The number of levels of binary operators.

@@ -1,7 +1,7 @@
 //! Tests on the kind of a token.
 
 ghost use Rattle.std.specs.Prelude.{◌≡◌, Bool};
-ghost use Rattle.c_tree.specs.Kinds.{number_of, number_of_word, is_punct, is_key, is_name, is_type_name, is_assign_mark, is_prefix_mark, is_step_mark, is_field_mark, tier_of, is_qualifying, is_specifying, begins_spec, is_spec};
+ghost use Rattle.c_nodes.specs.Kinds.{number_of, number_of_word, is_punct, is_key, is_name, is_type_name, is_assign_mark, is_prefix_mark, is_step_mark, is_field_mark, tier_of, is_qualifying, is_specifying, begins_spec, is_spec};
 
 use c_token::{Keyword, Punct, TokKind};
 

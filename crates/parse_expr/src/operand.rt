@@ -1,7 +1,7 @@
 //! The reader of operands.
 
 ghost use Rattle.std.specs.Prelude.{◌≡◌, map};
-ghost use Rattle.c_tree.specs.Views.{operand_of, postfix_suffix_of, prefix_of, primary_of, cast_of, expr_of, postfix_of, type_name_of};
+ghost use Rattle.c_nodes.specs.Views.{operand_of, postfix_suffix_of, prefix_of, primary_of, cast_of, expr_of, postfix_of, type_name_of};
 ghost use Rattle.parse_expr.specs.Reader.{Gives, over, symbols_in, all_that};
 ghost use Rattle.parse_expr.specs.Reading.{at, unary_by, prefix_by, operand_by, postfix_by, post_by, primary_by, group_by, index_by, call_by, bracketed_by, cast_by};
 
@@ -11,8 +11,8 @@ use crate::kind::is_punct;
 use crate::operator::{leaf, plain_post, plain_prefix};
 use crate::specifier::inner_type_name;
 use crate::take::{Read, Step, behind_keyword, behind_punct, punct, stopped, type_opens};
+use c_nodes::expression::{Cast, Operand, Postfix, PostfixSuffix, Prefix, Primary, TypeName};
 use c_token::{Keyword, Punct, Tok};
-use c_tree::expression::{Cast, Operand, Postfix, PostfixSuffix, Prefix, Primary, TypeName};
 use std::alloc::Global;
 
 /// `{ prefix } operand`

@@ -1,11 +1,11 @@
 //! The operators of expressions, and the parts in which no other reader is called.
 
 ghost use Rattle.std.specs.Prelude.{◌≡◌, ◌<◌, ◌≤◌, ◌==◌, ℕ, List, Some, None, Err, true, false, if◌then◌else◌, IfOk};
-ghost use Rattle.c_tree.specs.Words.{signed};
-ghost use Rattle.c_tree.specs.Kinds.{is_assignment, is_prefix, is_leaf, level_of};
-ghost use Rattle.c_tree.specs.Trees as tree;
-ghost use Rattle.c_tree.specs.Trees.{is_unary, is_cast};
-ghost use Rattle.c_tree.specs.Views.{binary_of, cast_of, cond_of, operand_of, postfix_suffix_of, prefix_of, primary_of, target_of};
+ghost use Rattle.c_nodes.specs.Words.{signed};
+ghost use Rattle.c_nodes.specs.Kinds.{is_assignment, is_prefix, is_leaf, level_of};
+ghost use Rattle.c_nodes.specs.Trees as tree;
+ghost use Rattle.c_nodes.specs.Trees.{is_unary, is_cast};
+ghost use Rattle.c_nodes.specs.Views.{binary_of, cast_of, cond_of, operand_of, postfix_suffix_of, prefix_of, primary_of, target_of};
 ghost use Rattle.parse_expr.specs.Reader.{Gives, Shows, over, symbol_in, symbols_in, symbol_at};
 ghost use Rattle.parse_expr.specs.Reading.{target_at};
 ghost use Rattle.parse_expr.specs.Parts.{plain_post_at, plain_prefix_at};
@@ -15,11 +15,11 @@ use crate::kind::{
     is_assign_mark, is_field_mark, is_keyword, is_prefix_mark, is_step_mark, tier_of,
 };
 use crate::take::{Step, name, named, stopped, type_opens};
-use c_token::{Keyword, Punct, Tok, TokKind};
-use c_tree::expression::{
+use c_nodes::expression::{
     Binary, Cast, Cond, Operand, Postfix, PostfixSuffix, Prefix, Primary, Target,
 };
-use c_tree::word::{Constant, Infix, Sign};
+use c_nodes::word::{Constant, Infix, Sign};
+use c_token::{Keyword, Punct, Tok, TokKind};
 use std::alloc::{AllocError, Global};
 
 /// The binary operator of this level in front, and what is after it. The levels are 1 to 10.
@@ -165,7 +165,7 @@ pub fn plain_prefix<'s>(last: u32, toks: &'s [Tok]) -> Step<'s, Prefix>
 }
 
 /// Whether it is a unary expression. Each operand without prefixes is one.
-#[tactic(auto, using(c_tree::proofs::Shapes::show_operand_postfix, c_tree::proofs::Shapes::show_operand_sizeof_type, crate::proofs::Unary::postfix_is_unary))]
+#[tactic(auto, using(c_nodes::proofs::Shapes::show_operand_postfix, c_nodes::proofs::Shapes::show_operand_sizeof_type, crate::proofs::Unary::postfix_is_unary))]
 fn is_unary_operand(operand: &Operand) -> bool
     ensures { result ≡ is_unary (operand_of operand.now) }
 {
@@ -174,7 +174,7 @@ fn is_unary_operand(operand: &Operand) -> bool
     }
 }
 
-#[tactic(auto, using(c_tree::proofs::Shapes::show_prefix_cast, c_tree::proofs::Shapes::show_prefix_operator, c_tree::proofs::Shapes::show_prefix_sizeof))]
+#[tactic(auto, using(c_nodes::proofs::Shapes::show_prefix_cast, c_nodes::proofs::Shapes::show_prefix_operator, c_nodes::proofs::Shapes::show_prefix_sizeof))]
 fn is_cast(prefix: &Prefix) -> bool
     ensures { result ≡ is_cast (prefix_of prefix.now) }
 {
@@ -195,7 +195,7 @@ fn is_unary(cast: &Cast) -> bool
 }
 
 /// The operand that may stand left of an assignment; another is given back.
-#[tactic(auto, using(c_tree::proofs::Shapes::show_binary_operand, c_tree::proofs::Shapes::show_binary_chain))]
+#[tactic(auto, using(c_nodes::proofs::Shapes::show_binary_operand, c_nodes::proofs::Shapes::show_binary_chain))]
 fn operand_place(operand: Binary) -> Result<Cast, Binary>
     ensures ok { IfOk result (λ c. (cast_of c ≡ binary_of operand) × (is_unary (binary_of operand) ≡ true)) }
     ensures err { (b : Binary) → result ≡ Err b → (binary_of b ≡ binary_of operand) × (is_unary (binary_of operand) ≡ false) }
@@ -219,7 +219,7 @@ fn operand_place(operand: Binary) -> Result<Cast, Binary>
 }
 
 /// What may stand left of an assignment; another value is given back.
-#[tactic(auto, using(c_tree::proofs::Shapes::show_cond))]
+#[tactic(auto, using(c_nodes::proofs::Shapes::show_cond))]
 fn place(value: Cond) -> Result<Cast, Cond>
     ensures ok { IfOk result (λ c. (cast_of c ≡ cond_of value) × (is_unary (cond_of value) ≡ true)) }
     ensures err { (c : Cond) → result ≡ Err c → (cond_of c ≡ cond_of value) × (is_unary (cond_of value) ≡ false) }

@@ -1,21 +1,21 @@
 //! The parts of declarators in which no other reader is called.
 
 ghost use Rattle.std.specs.Prelude.{◌≡◌, ◌≤◌, ◌<◌, ℕ, List, Some, IfOk, length, map};
-ghost use Rattle.c_tree.specs.Words.{keyed, punct, spell_pointers};
-ghost use Rattle.c_tree.specs.Kinds.{is_punct, is_qualifier};
+ghost use Rattle.c_nodes.specs.Words.{keyed, punct, spell_pointers};
+ghost use Rattle.c_nodes.specs.Kinds.{is_punct, is_qualifier};
 ghost use Rattle.c_token.specs.declared.token.Punct.TheVariants.{Star};
-ghost use Rattle.c_tree.specs.Trees.{Specified, NoSpec, is_void, is_bare_void};
-ghost use Rattle.c_tree.specs.Lists.{suffixes_of};
-ghost use Rattle.c_tree.specs.Views.{spec_of, specs_of, suffix_of};
+ghost use Rattle.c_nodes.specs.Trees.{Specified, NoSpec, is_void, is_bare_void};
+ghost use Rattle.c_nodes.specs.Lists.{suffixes_of};
+ghost use Rattle.c_nodes.specs.Views.{spec_of, specs_of, suffix_of};
 ghost use Rattle.parse_expr.specs.Reader.{Shows, symbols_in, symbol_at, stars_at, pointers_at};
 ghost use Rattle.parse_expr.specs.Reading.{void_at};
 ghost use Rattle.parse_expr.specs.Parts.{in_front};
 
 use crate::kind::{is_keyword, is_qualifying};
 use crate::take::{behind_keyword, behind_punct};
+use c_nodes::expression::{Spec, Specs, Suffix};
+use c_nodes::word::{Pointer, Word};
 use c_token::{Keyword, Punct, Tok, TokKind};
-use c_tree::expression::{Spec, Specs, Suffix};
-use c_tree::word::{Pointer, Word};
 use std::alloc::{AllocError, Global};
 
 /// The word `const` or `volatile` in front, and what is after it.
@@ -93,7 +93,7 @@ pub fn behind_void<'s>(toks: &'s [Tok]) -> Option<((u32, u32), &'s [Tok])>
     Some(((void, closing), rest))
 }
 
-#[tactic(auto, using(c_tree::proofs::Shapes::show_spec_word, c_tree::proofs::Shapes::show_spec_reference, c_tree::proofs::Shapes::show_spec_body, c_tree::proofs::Shapes::show_struct_body, c_tree::proofs::Shapes::show_spec_type_name, c_tree::proofs::Shapes::show_spec_enum_reference, c_tree::proofs::Shapes::show_spec_enum_body, c_tree::proofs::Shapes::show_enum_body))]
+#[tactic(auto, using(c_nodes::proofs::Shapes::show_spec_word, c_nodes::proofs::Shapes::show_spec_reference, c_nodes::proofs::Shapes::show_spec_body, c_nodes::proofs::Shapes::show_struct_body, c_nodes::proofs::Shapes::show_spec_type_name, c_nodes::proofs::Shapes::show_spec_enum_reference, c_nodes::proofs::Shapes::show_spec_enum_body, c_nodes::proofs::Shapes::show_enum_body))]
 fn is_void_word(spec: &Spec) -> bool
     ensures { result ≡ is_void (Specified (spec_of spec.now) NoSpec) }
 {

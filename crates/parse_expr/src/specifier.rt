@@ -1,8 +1,8 @@
 //! The reader of specifiers, of type names and of structures.
 
 ghost use Rattle.std.specs.Prelude.{◌≡◌, map};
-ghost use Rattle.c_tree.specs.Words.{spell_tag};
-ghost use Rattle.c_tree.specs.Views.{spec_of, specs_of, member_of, type_name_of, next_declarator_of};
+ghost use Rattle.c_nodes.specs.Words.{spell_tag};
+ghost use Rattle.c_nodes.specs.Views.{spec_of, specs_of, member_of, type_name_of, next_declarator_of};
 ghost use Rattle.parse_expr.specs.Reader.{Gives, over, symbols_in, all_that};
 ghost use Rattle.parse_expr.specs.Reading.{at, type_name_by, specs_by, next_spec_by, spec_by, struct_by, body_by, members_by, member_by, next_member_by, next_declarator_by};
 
@@ -12,9 +12,9 @@ use crate::enumeration::enumeration;
 use crate::kind::{is_keyword, is_punct, is_specifying};
 use crate::pointer::pointers;
 use crate::take::{Read, Step, behind_name, punct, punct_comes, specs_come, stopped, type_named};
+use c_nodes::expression::{Member, NextDeclarator, Spec, Specs, TypeName};
+use c_nodes::word::{Name, Word};
 use c_token::{Keyword, Punct, Tok, TokKind};
-use c_tree::expression::{Member, NextDeclarator, Spec, Specs, TypeName};
-use c_tree::word::{Name, Word};
 use std::alloc::Global;
 
 /// The name of a type where one bracket less may be entered.

@@ -1,15 +1,15 @@
 //! The token in front of a list.
 
 ghost use Rattle.std.specs.Prelude.{◌≡◌, ◌+◌, ℕ, suc, List, Some, None, true, IfOk};
-ghost use Rattle.c_tree.specs.Words.{named, type_named};
-ghost use Rattle.c_tree.specs.Kinds.{is_punct, is_name, is_type_name, is_key, is_spec};
+ghost use Rattle.c_nodes.specs.Words.{named, type_named};
+ghost use Rattle.c_nodes.specs.Kinds.{is_punct, is_name, is_type_name, is_key, is_spec};
 ghost use Rattle.parse_expr.specs.Reader.{Fails, Gives, Shows, symbol_in, symbols_in, front_is, symbol_at, punct_at, key_at, comma_at, specs_come, type_opens};
 
 use crate::error::ParseError;
 use crate::kind::{is_keyword, is_name, is_punct, is_spec};
+use c_nodes::word::Name;
 use c_pre::word_of;
 use c_token::{Keyword, Punct, Tok};
-use c_tree::word::Name;
 use std::alloc::{AllocError, Global};
 
 /// What a reader gives: a part of a tree, and the tokens after it.

@@ -1,6 +1,6 @@
 //! The way from a text to its tree.
 
-use c_parse::{ParseError, mark, parse};
+use c_parse::{ParseError, let_go, mark, parse};
 use c_pre::{PreError, tokens};
 use c_token::{LexError, Tok, TokKind, raw};
 use c_tree::spell;
@@ -42,8 +42,9 @@ pub fn becomes(alloc: Global, text: &[u8]) -> Result<Outcome, Fail> {
 fn parsed(alloc: Global, text: &[u8], toks: &[Tok]) -> Result<Outcome, Fail> {
     match parse(alloc, text, toks) {
         Ok(unit) => {
-            let kinds = spell(alloc, &unit)?;
-            Ok(if is_spelled(&kinds, toks) {
+            let kinds = spell(alloc, &unit);
+            let_go(unit);
+            Ok(if is_spelled(&kinds?, toks) {
                 Outcome::Tree
             } else {
                 Outcome::Otherwise

@@ -1,6 +1,6 @@
 //! Cases of the front of the compiler: from texts to trees.
 //!
-//! In: texts of C. Out: nothing; these are tests of c_token, c_pre, c_tree and c_parse together.
+//! In: texts of C. Out: nothing; these are tests of c_token, c_pre, c_nodes and c_parse together.
 #![tactic(auto)]
 
 #[cfg(test)]

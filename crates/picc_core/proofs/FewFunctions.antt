@@ -8,8 +8,8 @@ use Rattle.c_token.specs.declared.token.Tok.{Tok}
 use Rattle.c_pre.specs.Items.{program_of}
 use Rattle.c_pre.specs.declared.PreError.{PreError}
 use Rattle.c_pre.proofs.Few.{program_few}
-use Rattle.c_tree.specs.Programs.{ItemTree, Function, Declaration, BlockTree, Block, spelled_block, spelled_item, spelled_unit}
-use Rattle.c_tree.specs.Trees.{SpecTrees, DeclaratorTree, spelled_specs, spelled_declarator}
+use Rattle.c_nodes.specs.Programs.{ItemTree, Function, Declaration, BlockTree, Block, spelled_block, spelled_item, spelled_unit}
+use Rattle.c_nodes.specs.Trees.{SpecTrees, DeclaratorTree, spelled_specs, spelled_declarator}
 use Rattle.c_typed.specs.Trees.{FunctionTree, Program}
 use Rattle.parse_expr.specs.Reader.{symbol_in}
 use Rattle.parse_expr.specs.declared.error.ParseError.{ParseError}

@@ -1,7 +1,7 @@
 -- A text has one tree at most, so one typed program or one rule that it breaks first.
 use Rattle.std.proofs.Common.{◌≡◌, ℕ, List, Some, Result, Ok, Err, sym, ap, ◌∙◌}
 use Rattle.c_token.specs.declared.token.Tok.{Tok}
-use Rattle.c_tree.specs.Programs.{ItemTree, spelled_unit}
+use Rattle.c_nodes.specs.Programs.{ItemTree, spelled_unit}
 use Rattle.c_typed.specs.Trees.{Program}
 use Rattle.parse_expr.specs.Reader.{symbols_in}
 use Rattle.c_parse.specs.Reading.{unit_by}

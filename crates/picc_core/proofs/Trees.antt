@@ -1,6 +1,6 @@
 -- A text with a typed program, with a broken rule on types, or with a refusal behind these has a tree.
 use Rattle.std.specs.Prelude.{ℕ, List}
-use Rattle.c_tree.specs.Programs.{ItemTree}
+use Rattle.c_nodes.specs.Programs.{ItemTree}
 use Rattle.c_typed.specs.Trees.{Program}
 use Rattle.type_rules.specs.Faults.{Fault}
 use Rattle.picc_core.specs.Answers.{IsRefusedAs}

@@ -5,7 +5,7 @@ use Rattle.c_token.specs.declared.token.Tok.{Tok}
 use Rattle.c_token.specs.declared.token.LexError.{LexError}
 use Rattle.c_pre.specs.Items.{program_of}
 use Rattle.c_pre.specs.declared.PreError.{PreError}
-use Rattle.c_tree.specs.Programs.{ItemTree, IsUnit, spelled_unit}
+use Rattle.c_nodes.specs.Programs.{ItemTree, IsUnit, spelled_unit}
 use Rattle.parse_expr.specs.Reader.{symbols_in}
 use Rattle.parse_expr.specs.declared.error.ParseError.{ParseError}
 use Rattle.c_parse.specs.Limits.{first_over}

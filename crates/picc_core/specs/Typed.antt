@@ -1,7 +1,7 @@
 -- The typed program of a text, or the first rule on names and types that it breaks (ISO/IEC 9899:1990, 6.1 to 6.7, in the subset).
 use Rattle.std.specs.Prelude.{ℕ, ◌≡◌, List, Ok, Err}
 use Rattle.c_token.specs.declared.token.Tok.{Tok}
-use Rattle.c_tree.specs.Programs.{ItemTree, IsUnit, spelled_unit}
+use Rattle.c_nodes.specs.Programs.{ItemTree, IsUnit, spelled_unit}
 use Rattle.c_typed.specs.Trees.{Program}
 use Rattle.parse_expr.specs.Reader.{symbols_in}
 use Rattle.type_rules.specs.Faults.{Fault}

@@ -1,7 +1,7 @@
 //! The stages from a text to its sizes and addresses.
 
 ghost use Rattle.std.specs.Prelude.{◌≡◌, ◌<◌, ◌≤◌, ◌^◌, ◌+◌, ℕ, true, [], ◌∷◌, length, map, sum, None, Ok, Err, IfOk, IfErr, MatchResult};
-ghost use Rattle.c_tree.specs.ProgramViews.{unit_of};
+ghost use Rattle.c_nodes.specs.ProgramViews.{unit_of};
 ghost use Rattle.c_typed.specs.Chains.{graph_of};
 ghost use Rattle.c_typed.specs.Nodes.{capped};
 ghost use Rattle.c_typed.specs.Roots.{broken_root};
@@ -32,10 +32,10 @@ use crate::code_order::code_order;
 use crate::known::Front;
 use crate::refusal::{CompileError, LimitKind, Refusal, limit};
 use c_check::{Typed, check};
-use c_parse::{mark, parse};
+use c_nodes::statement::Unit;
+use c_parse::{let_go, mark, parse};
 use c_pre::tokens;
 use c_token::{Tok, raw};
-use c_tree::statement::Unit;
 use call_graph::{Copies, FnCopy, FnId, copies};
 use code_place::{PageError, pages};
 use ram_place::{Placed, block_words, place, start_words};
@@ -83,7 +83,9 @@ fn typed_of(alloc: Global, text: &[u8]) -> Result<Typed, CompileError>
     ensures long { 262144 < length text.now → result ≡ Err (Refused (refusals.Limit kinds.Text 0)) }
 {
     let unit = tree_of(alloc, text)?;
-    Ok(check(alloc, &unit)?)
+    let typed = check(alloc, &unit);
+    let_go(unit);
+    Ok(typed?)
 }
 
 /// The copies of a typed program, or the first refusal of it up to its return stack.

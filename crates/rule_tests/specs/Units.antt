@@ -5,11 +5,11 @@ use Rattle.c_token.specs.declared.token.Keyword.TheVariants as words
 use Rattle.c_token.specs.declared.token.Punct.{Punct}
 use Rattle.c_token.specs.declared.token.Punct.TheVariants as marks
 use Rattle.c_token.specs.declared.token.TokKind.TheVariants as kinds
-use Rattle.c_tree.specs.Programs.{InitTree, DeclarationTree, Statements, BlockTree, ItemTree}
-use Rattle.c_tree.specs.Programs as unit
-use Rattle.c_tree.specs.Trees.{Tree, SpecTrees, SpecTree, EnumeratorTree, MoreEnumerators, DeclaratorTree, SuffixTree, ParamTree}
-use Rattle.c_tree.specs.Trees as tree
-use Rattle.c_tree.specs.Words.{Symbol, Symbols, plain, key, punct}
+use Rattle.c_nodes.specs.Programs.{InitTree, DeclarationTree, Statements, BlockTree, ItemTree}
+use Rattle.c_nodes.specs.Programs as unit
+use Rattle.c_nodes.specs.Trees.{Tree, SpecTrees, SpecTree, EnumeratorTree, MoreEnumerators, DeclaratorTree, SuffixTree, ParamTree}
+use Rattle.c_nodes.specs.Trees as tree
+use Rattle.c_nodes.specs.Words.{Symbol, Symbols, plain, key, punct}
 
 -- ---- parts
 abbrev pub named_at : ℕ → List ℕ → Symbol

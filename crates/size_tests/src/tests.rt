@@ -3,7 +3,7 @@
 ghost use Rattle.std.specs.Prelude.{◌≤◌, ◌^◌, length};
 
 use c_check::{RootKind, Typed, check};
-use c_parse::{mark, parse};
+use c_parse::{let_go, mark, parse};
 use c_pre::tokens;
 use c_token::raw;
 use call_graph::{Copies, FnCopy, FnId, GraphError, copies};
@@ -41,7 +41,9 @@ pub fn typed(alloc: Global, text: &[u8]) -> Result<Typed, Fail> {
     let toks = tokens(alloc, text, &raw)?;
     let toks = mark(alloc, text, &toks)?;
     let unit = parse(alloc, text, &toks)?;
-    Ok(check(alloc, &unit)?)
+    let typed = check(alloc, &unit);
+    let_go(unit);
+    Ok(typed?)
 }
 
 fn sizes(p: &Typed, copies: &Copies, placed: &Placed) -> Told {

@@ -3,7 +3,7 @@ use Rattle.std.proofs.Common.{◌≡◌, ℕ, ◌+◌, ◌≤◌, Bool, true, fa
 use Rattle.std.specs.Prelude.{slice_get}
 use Rattle.std.proofs.lemmas.Bool.{and_parts, and_from, or_parts, or_left, false≢true}
 use Rattle.std.proofs.lemmas.Grind.{common_steps}
-use Rattle.c_tree.specs.Programs.{InitTree, BegunTree, DeclaredTrees, DeclarationTree}
+use Rattle.c_nodes.specs.Programs.{InitTree, BegunTree, DeclaredTrees, DeclarationTree}
 use Rattle.c_typed.specs.Sameness.{is_array}
 use Rattle.c_typed.specs.Sound.{statement_fits, statements_fit}
 use Rattle.c_typed.specs.Trees.{Statement, VariableTree, FunctionTree, Program}

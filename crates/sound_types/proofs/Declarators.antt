@@ -1,9 +1,9 @@
 -- Specifiers with structures, declarators and parameters: the tables stay in order, and the types that they make are there.
 use Rattle.std.proofs.Common.{◌≡◌, ℕ, ◌+◌, ◌-◌, Bool, true, false, not, if◌then◌else◌, List, [], ◌∷◌, ◌++◌, length, Option, Some, None, Result, Ok, Err, ◌⊎◌, inl, inr, refl, sym, ap, ◌∙◌, subst, true≢false}
 use Rattle.std.specs.Prelude.{slice_get}
-use Rattle.c_tree.specs.Trees as tree
-use Rattle.c_tree.specs.Trees.{SpecTrees, MoreSpecs, SpecTree, EnumeratorTree, MoreEnumerators, MemberTree, MoreMembers, MoreDeclarators, DeclaratorTree, SuffixTrees, SuffixTree, MoreParams, ParamTree}
-use Rattle.c_tree.specs.Words.{Symbols}
+use Rattle.c_nodes.specs.Trees as tree
+use Rattle.c_nodes.specs.Trees.{SpecTrees, MoreSpecs, SpecTree, EnumeratorTree, MoreEnumerators, MemberTree, MoreMembers, MoreDeclarators, DeclaratorTree, SuffixTrees, SuffixTree, MoreParams, ParamTree}
+use Rattle.c_nodes.specs.Words.{Symbols}
 use Rattle.c_typed.specs.declared.types.Qualified.{Qualified}
 use Rattle.type_rules.specs.Declarators.{Context, of_member, of_param, declares_tags, tag_or_new, structure_of, structure_in, body_opened, is_tagged, enum_closed, enum_body, specified, more_specs, spec_rule, members, more_members, more_fields, field, suffixes, suffix, more_params, param, outline_of}
 use Rattle.type_rules.specs.Enumerators.{enumerators}

@@ -12,10 +12,10 @@ use Rattle.c_token.specs.declared.token.Keyword.TheVariants as words
 use Rattle.c_token.specs.declared.token.Punct.TheVariants as marks
 use Rattle.c_token.specs.declared.token.TokKind.{TokKind}
 use Rattle.c_token.specs.declared.token.TokKind.TheVariants as kinds
-use Rattle.c_tree.specs.Kinds.{is_punct, is_key}
-use Rattle.c_tree.specs.Trees as tree
-use Rattle.c_tree.specs.Trees.{Tree, Post, Pre, TypeTree, SpecTrees, MoreSpecs, SpecTree}
-use Rattle.c_tree.specs.Words.{Symbol, Symbols}
+use Rattle.c_nodes.specs.Kinds.{is_punct, is_key}
+use Rattle.c_nodes.specs.Trees as tree
+use Rattle.c_nodes.specs.Trees.{Tree, Post, Pre, TypeTree, SpecTrees, MoreSpecs, SpecTree}
+use Rattle.c_nodes.specs.Words.{Symbol, Symbols}
 use Rattle.c_typed.specs.Fits.{is_null, is_no_register, place_fits, place_rule_holds, Used}
 use Rattle.c_typed.specs.Rules.{is_zero}
 use Rattle.c_typed.specs.Sound.{is_changeable}

@@ -4,7 +4,7 @@ use Rattle.std.specs.Prelude.{slice_get}
 use Rattle.std.specs.Str.{bytes_eq}
 use Rattle.std.proofs.lemmas.Bool.{and_parts, or_parts, or_left, false≢true}
 use Rattle.std.proofs.lemmas.Option.{same_Some}
-use Rattle.c_tree.specs.Programs.{InitTree, BegunTree, DeclaredTrees, DeclarationTree}
+use Rattle.c_nodes.specs.Programs.{InitTree, BegunTree, DeclaredTrees, DeclarationTree}
 use Rattle.c_typed.specs.Sameness.{same_type, same_qualified, is_array}
 use Rattle.c_typed.specs.Trees as typed
 use Rattle.c_typed.specs.Trees.{StaticTree, VariableTree, FunctionTree, Program}

@@ -4,8 +4,8 @@ use Rattle.std.specs.Prelude.{slice_get}
 use Rattle.std.specs.List.{list_all}
 use Rattle.std.proofs.lemmas.Bool.{and_from}
 use Rattle.std.proofs.lemmas.Option.{same_Some}
-use Rattle.c_tree.specs.Programs.{BlockTree}
-use Rattle.c_tree.specs.Trees.{SpecTrees, DeclaratorTree}
+use Rattle.c_nodes.specs.Programs.{BlockTree}
+use Rattle.c_nodes.specs.Trees.{SpecTrees, DeclaratorTree}
 use Rattle.c_typed.specs.Sameness.{is_array, is_struct, is_scalar}
 use Rattle.c_typed.specs.Sound.{type_is_there, param_fits, local_fits, result_fits, statements_fit, function_fits}
 use Rattle.c_typed.specs.Trees as typed

@@ -7,9 +7,9 @@ use Rattle.std.proofs.lemmas.Option.{same_Some}
 use Rattle.c_ints.specs.Range as range
 use Rattle.c_ints.specs.declared.types.IntTy.{IntTy}
 use Rattle.c_ints.specs.declared.types.IntTy.TheVariants as int
-use Rattle.c_tree.specs.Programs.{InitTree, MoreInits}
-use Rattle.c_tree.specs.Programs as tree
-use Rattle.c_tree.specs.Words.{Symbol}
+use Rattle.c_nodes.specs.Programs.{InitTree, MoreInits}
+use Rattle.c_nodes.specs.Programs as tree
+use Rattle.c_nodes.specs.Words.{Symbol}
 use Rattle.c_typed.specs.Fits.{place_fits, Used}
 use Rattle.c_typed.specs.Folding.{folded}
 use Rattle.c_typed.specs.declared.folding.Folded.{Folded}

@@ -4,9 +4,9 @@ use Rattle.std.specs.Prelude.{slice_get}
 use Rattle.std.specs.Option.{option_map}
 use Rattle.std.proofs.lemmas.Bool.{and_from, or_left, false≢true}
 use Rattle.std.proofs.lemmas.Option.{same_Some}
-use Rattle.c_tree.specs.Programs as tree
-use Rattle.c_tree.specs.Programs.{InitTree}
-use Rattle.c_tree.specs.Trees.{Tree}
+use Rattle.c_nodes.specs.Programs as tree
+use Rattle.c_nodes.specs.Programs.{InitTree}
+use Rattle.c_nodes.specs.Trees.{Tree}
 use Rattle.c_typed.specs.Fits.{fits, place_fits, rule_holds, place_rule_holds, variable_type, is_named}
 use Rattle.c_typed.specs.Rules.{copy_fits}
 use Rattle.c_typed.specs.Sameness.{same_type, is_array, is_struct, is_scalar, same_qualified}

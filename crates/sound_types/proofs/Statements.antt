@@ -10,9 +10,9 @@ use Rattle.c_ints.specs.Conversions.{promoted}
 use Rattle.c_ints.specs.Operators.{cut_to}
 use Rattle.c_ints.specs.Quantity.{Quantity}
 use Rattle.c_ints.specs.declared.types.IntTy.{IntTy}
-use Rattle.c_tree.specs.Programs as tree
-use Rattle.c_tree.specs.Programs.{ConditionTree, HeadTree, LabelTree, StatementTree, BlockTree, Statements, ArmTree, Arms, Items}
-use Rattle.c_tree.specs.Trees.{Tree}
+use Rattle.c_nodes.specs.Programs as tree
+use Rattle.c_nodes.specs.Programs.{ConditionTree, HeadTree, LabelTree, StatementTree, BlockTree, Statements, ArmTree, Arms, Items}
+use Rattle.c_nodes.specs.Trees.{Tree}
 use Rattle.c_typed.specs.Fits.{fits, is_null, Used}
 use Rattle.c_typed.specs.Sameness.{same_type, is_void, is_scalar, is_promoted}
 use Rattle.c_typed.specs.Sound.{any_fits, condition_fits, any_condition_fits, value_fits, loop_fits, default_fits, same_number, is_label, cases_fit, count_of, switch_rule, statement_fits, statements_fit, arm_fits, arms_fit, last_fits}

@@ -3,7 +3,7 @@ use Rattle.std.proofs.Common.{◌≡◌, ℕ, ◌+◌, ◌*◌, ◌<◌, ◌≤�
 use Rattle.std.specs.Prelude.{slice_get}
 use Rattle.std.proofs.lemmas.Bool.{or_left, false≢true}
 use Rattle.std.proofs.lemmas.Option.{same_Some}
-use Rattle.c_tree.specs.Programs.{InitTree}
+use Rattle.c_nodes.specs.Programs.{InitTree}
 use Rattle.c_typed.specs.Sameness.{is_array}
 use Rattle.c_typed.specs.Trees.{VariableTree, StaticTree, FunctionTree, Program}
 use Rattle.c_typed.specs.declared.expression.Object.TheVariants as object

@@ -1,6 +1,6 @@
 -- The law, as it is read.
 use Rattle.std.specs.Prelude.{◌≡◌, true, List, Ok}
-use Rattle.c_tree.specs.Programs.{ItemTree}
+use Rattle.c_nodes.specs.Programs.{ItemTree}
 use Rattle.c_typed.specs.Sound.{is_sound}
 use Rattle.c_typed.specs.Trees.{Program}
 use Rattle.type_rules.specs.Units.{judged_unit}

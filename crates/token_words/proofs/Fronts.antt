@@ -12,7 +12,7 @@ use Rattle.c_token.specs.declared.token.Tok.{Tok}
 use Rattle.c_token.specs.declared.token.TokKind.{TokKind}
 use Rattle.c_token.specs.declared.token.TokKind.TheVariants as kind
 use Rattle.c_pre.specs.Words.{word_of}
-use Rattle.c_tree.specs.Kinds.{is_name}
+use Rattle.c_nodes.specs.Kinds.{is_name}
 
 -- where a token is a name, its bytes are those of one
 abbrev pub Spelt : List ℕ → Tok → Type 0

@@ -8,7 +8,7 @@ use Rattle.c_token.specs.declared.token.Tok.{Tok}
 use Rattle.c_token.specs.declared.token.TokKind.{TokKind}
 use Rattle.c_token.specs.declared.token.TokKind.TheVariants as kind
 use Rattle.c_token.proofs.LongestTokens.{each}
-use Rattle.c_tree.specs.Kinds.{is_name}
+use Rattle.c_nodes.specs.Kinds.{is_name}
 use Rattle.c_pre.specs.Items.{program_of}
 use Rattle.c_pre.specs.Words.{word_of}
 use Rattle.c_parse.specs.Marks.{Marking, nothing_marked, is_marked, marked_token, known_behind, marked_from, marked}

@@ -13,7 +13,7 @@ mod kinds;
 
 use crate::kinds::of_kind;
 use c_check::{CheckError, Kind, Typed, check};
-use c_parse::{mark, parse};
+use c_parse::{let_go, mark, parse};
 use c_pre::tokens;
 use c_token::raw;
 use host_io::{Host, HostError, RealHost, read_whole};
@@ -58,7 +58,9 @@ fn meaning_of(alloc: Global, text: &[u8]) -> Found {
     let Ok(unit) = parse(alloc, text, &toks) else {
         return Found::Nothing;
     };
-    match check(alloc, &unit) {
+    let typed = check(alloc, &unit);
+    let_go(unit);
+    match typed {
         Ok(typed) => Found::Tree(typed),
         Err(CheckError::Kind { kind, line }) => Found::Broken { kind, line },
         Err(CheckError::NoMemory) => Found::NoMemory,

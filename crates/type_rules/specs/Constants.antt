@@ -1,7 +1,7 @@
 -- Integer constant expressions where a value is needed (ISO/IEC 9899:1990, 6.4).
 use Rattle.std.specs.Prelude.{ℕ, ℤ, pos, int_le, unsigned_abs, Bool, not, ◌&&◌, [], ◌∷◌}
 use Rattle.c_ints.specs.Quantity.{Quantity}
-use Rattle.c_tree.specs.Trees.{Tree}
+use Rattle.c_nodes.specs.Trees.{Tree}
 use Rattle.c_typed.specs.Folding.{folded}
 use Rattle.c_typed.specs.declared.folding.Folded.{Folded}
 use Rattle.c_typed.specs.declared.folding.Folded.TheVariants as folding

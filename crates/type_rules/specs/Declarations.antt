@@ -1,7 +1,7 @@
 -- Declarations in the file and in blocks (ISO/IEC 9899:1990, 6.5 and 6.7).
 use Rattle.std.specs.Prelude.{ℕ, suc, Bool, true, false, not, ◌&&◌, ◌||◌, if◌then◌else◌, List, [], ◌∷◌, ◌++◌, length, map, Option, Some, None, is_some, Ok, slice_get}
 use Rattle.std.specs.Str.{bytes_eq}
-use Rattle.c_tree.specs.Programs.{InitTree, BegunTree, DeclaredTrees, DeclarationTree}
+use Rattle.c_nodes.specs.Programs.{InitTree, BegunTree, DeclaredTrees, DeclarationTree}
 use Rattle.c_typed.specs.Sameness.{same_type, same_qualified}
 use Rattle.c_typed.specs.Trees.{Statement}
 use Rattle.c_typed.specs.declared.types.Qualified.{Qualified}

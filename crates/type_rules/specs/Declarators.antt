@@ -1,8 +1,8 @@
 -- Specifiers with structures and enumerations, declarators and parameters (ISO/IEC 9899:1990, 6.5): one clause for each part, from left to right.
 use Rattle.std.specs.Prelude.{ℕ, Bool, true, false, not, if◌then◌else◌, List, [], ◌∷◌, Option, Some, None, is_some}
-use Rattle.c_tree.specs.Trees.{SpecTrees, MoreSpecs, SpecTree, MemberTree, MoreMembers, MoreDeclarators, DeclaratorTree, SuffixTrees, SuffixTree, MoreParams, ParamTree, EnumeratorTree, MoreEnumerators}
-use Rattle.c_tree.specs.Trees as tree
-use Rattle.c_tree.specs.Words.{Symbols}
+use Rattle.c_nodes.specs.Trees.{SpecTrees, MoreSpecs, SpecTree, MemberTree, MoreMembers, MoreDeclarators, DeclaratorTree, SuffixTrees, SuffixTree, MoreParams, ParamTree, EnumeratorTree, MoreEnumerators}
+use Rattle.c_nodes.specs.Trees as tree
+use Rattle.c_nodes.specs.Words.{Symbols}
 use Rattle.type_rules.specs.Faults as kind
 use Rattle.type_rules.specs.Known.{Tag, StructTag, EnumTag, Open, Closed, Known, Rule, given, broken, known_here, tried, ◌>>=◌}
 use Rattle.type_rules.specs.Names.{enter_list, leave_list}

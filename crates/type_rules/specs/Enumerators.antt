@@ -1,8 +1,8 @@
 -- Enumerators (ISO/IEC 9899:1990, 6.5.2.2): each is a number of type int, in scope from behind its own text on.
 use Rattle.std.specs.Prelude.{ℤ, pos, negsuc, ◌+ℤ◌, int_le, Bool, not, ◌&&◌, [], ◌∷◌}
-use Rattle.c_tree.specs.Trees.{EnumeratorTree, MoreEnumerators}
-use Rattle.c_tree.specs.Trees as tree
-use Rattle.c_tree.specs.Words.{Symbol}
+use Rattle.c_nodes.specs.Trees.{EnumeratorTree, MoreEnumerators}
+use Rattle.c_nodes.specs.Trees as tree
+use Rattle.c_nodes.specs.Words.{Symbol}
 use Rattle.type_rules.specs.Faults as kind
 use Rattle.type_rules.specs.Faults.{Tests}
 use Rattle.type_rules.specs.Known.{EnumeratorName, Known, Rule, given, known_here, tried, ◌>>=◌}

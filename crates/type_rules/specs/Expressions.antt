@@ -6,8 +6,8 @@ use Rattle.c_ints.specs.declared.types.IntTy.TheVariants as int
 use Rattle.c_token.specs.declared.token.Punct.TheVariants as marks
 use Rattle.c_token.specs.declared.token.TokKind.{TokKind}
 use Rattle.c_token.specs.declared.token.TokKind.TheVariants as kinds
-use Rattle.c_tree.specs.Trees.{Tree, Post, Pre}
-use Rattle.c_tree.specs.Trees as tree
+use Rattle.c_nodes.specs.Trees.{Tree, Post, Pre}
+use Rattle.c_nodes.specs.Trees as tree
 use Rattle.c_typed.specs.Trees as typed
 use Rattle.c_typed.specs.declared.expression.StepOp.{StepOp}
 use Rattle.c_typed.specs.declared.expression.StepOp.TheVariants as steps

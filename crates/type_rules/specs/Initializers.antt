@@ -1,8 +1,8 @@
 -- Initializers (ISO/IEC 9899:1990, 6.5.7): values, strings, and lists in braces, whose items go to the parts in order.
 use Rattle.std.specs.Prelude.{ℕ, suc, ◌-◌, Bool, true, false, not, ◌&&◌, if◌then◌else◌, nat_eq, [], ◌∷◌, Option, Some, None, is_some}
-use Rattle.c_tree.specs.Programs.{InitTree, MoreInits}
-use Rattle.c_tree.specs.Programs as tree
-use Rattle.c_tree.specs.Words.{Symbol}
+use Rattle.c_nodes.specs.Programs.{InitTree, MoreInits}
+use Rattle.c_nodes.specs.Programs as tree
+use Rattle.c_nodes.specs.Words.{Symbol}
 use Rattle.c_typed.specs.declared.types.Ty.{Ty}
 use Rattle.c_typed.specs.declared.types.Ty.TheVariants.{Array}
 use Rattle.type_rules.specs.Faults as kind

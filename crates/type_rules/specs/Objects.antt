@@ -1,8 +1,8 @@
 -- Objects (ISO/IEC 9899:1990, 6.1.2.4, 6.5.7 and 6.7.2): static ones and locals, with what they begin as.
 use Rattle.std.specs.Prelude.{ℕ, ◌+◌, Bool, true, false, not, ◌&&◌, ◌||◌, if◌then◌else◌, nat_eq, nat_le, nat_lt, List, [], ◌∷◌, ◌++◌, length, Option, Some, None, Ok}
 use Rattle.std.specs.Fmt.{decimal}
-use Rattle.c_tree.specs.Programs.{InitTree}
-use Rattle.c_tree.specs.Programs as tree
+use Rattle.c_nodes.specs.Programs.{InitTree}
+use Rattle.c_nodes.specs.Programs as tree
 use Rattle.c_typed.specs.Sameness.{is_array, is_scalar}
 use Rattle.c_typed.specs.Trees as typed
 use Rattle.c_typed.specs.Trees.{Statement, Item, StaticTree, VariableTree}

@@ -1,6 +1,6 @@
 -- What a declarator makes of a type (ISO/IEC 9899:1990, 6.5.4), and the rules of a parameter and of a member.
 use Rattle.std.specs.Prelude.{ℕ, Bool, true, false, not, ◌||◌, List, [], ◌∷◌, ◌++◌, length, is_some}
-use Rattle.c_tree.specs.Words.{Symbol, Symbols}
+use Rattle.c_nodes.specs.Words.{Symbol, Symbols}
 use Rattle.c_typed.specs.Sameness.{is_void, is_array, is_struct}
 use Rattle.c_typed.specs.declared.expression.Object.TheVariants as object
 use Rattle.c_typed.specs.declared.types.Qualified.{Qualified}

@@ -6,7 +6,7 @@ use Rattle.c_ints.specs.Range as range
 use Rattle.c_ints.specs.declared.types.IntTy.{IntTy}
 use Rattle.c_ints.specs.declared.types.IntTy.TheVariants as int
 use Rattle.c_token.specs.Constant.{element_at}
-use Rattle.c_tree.specs.Words.{Symbol}
+use Rattle.c_nodes.specs.Words.{Symbol}
 use Rattle.c_typed.specs.Sameness.{same_type, is_scalar}
 use Rattle.c_typed.specs.Sound.{kept}
 use Rattle.c_typed.specs.Trees as typed

@@ -6,10 +6,10 @@ use Rattle.c_token.specs.declared.token.Keyword.{Keyword}
 use Rattle.c_token.specs.declared.token.Keyword.TheVariants as words
 use Rattle.c_token.specs.declared.token.TokKind.{TokKind}
 use Rattle.c_token.specs.declared.token.TokKind.TheVariants as kinds
-use Rattle.c_tree.specs.Kinds.{number_of_word}
-use Rattle.c_tree.specs.Trees.{SpecTrees, SpecTree}
-use Rattle.c_tree.specs.Trees as tree
-use Rattle.c_tree.specs.Words.{Symbol}
+use Rattle.c_nodes.specs.Kinds.{number_of_word}
+use Rattle.c_nodes.specs.Trees.{SpecTrees, SpecTree}
+use Rattle.c_nodes.specs.Trees as tree
+use Rattle.c_nodes.specs.Words.{Symbol}
 use Rattle.c_typed.specs.declared.types.Qualified.{Qualified}
 use Rattle.c_typed.specs.declared.types.Ty.{Ty}
 use Rattle.c_typed.specs.declared.types.Ty.TheVariants.{Void, Int, Struct}

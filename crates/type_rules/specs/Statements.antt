@@ -6,9 +6,9 @@ use Rattle.c_ints.specs.Conversions.{promoted}
 use Rattle.c_ints.specs.Operators.{cut_to}
 use Rattle.c_ints.specs.Quantity.{Quantity}
 use Rattle.c_ints.specs.declared.types.IntTy.{IntTy}
-use Rattle.c_tree.specs.Programs.{ConditionTree, HeadTree, LabelTree, StatementTree, BlockTree, Statements, ArmTree, Arms, Items}
-use Rattle.c_tree.specs.Programs as tree
-use Rattle.c_tree.specs.Trees.{Tree}
+use Rattle.c_nodes.specs.Programs.{ConditionTree, HeadTree, LabelTree, StatementTree, BlockTree, Statements, ArmTree, Arms, Items}
+use Rattle.c_nodes.specs.Programs as tree
+use Rattle.c_nodes.specs.Trees.{Tree}
 use Rattle.c_typed.specs.Sameness.{is_void, is_scalar}
 use Rattle.c_typed.specs.Trees as typed
 use Rattle.c_typed.specs.Trees.{Expression, Statement}

@@ -2,9 +2,9 @@
 use Rattle.std.specs.Prelude.{ℕ, Bool, true, if◌then◌else◌, List, [], ◌∷◌, ◌++◌, map, Result, Ok, Err}
 use Rattle.std.specs.List.{list_any}
 use Rattle.std.specs.Str.{bytes_eq}
-use Rattle.c_tree.specs.Programs.{ItemTree, BlockTree}
-use Rattle.c_tree.specs.Programs as tree
-use Rattle.c_tree.specs.Trees.{SpecTrees, DeclaratorTree}
+use Rattle.c_nodes.specs.Programs.{ItemTree, BlockTree}
+use Rattle.c_nodes.specs.Programs as tree
+use Rattle.c_nodes.specs.Trees.{SpecTrees, DeclaratorTree}
 use Rattle.c_typed.specs.Trees.{VariableTree, FunctionTree, StructureTree, MemberTree, Program}
 use Rattle.c_typed.specs.declared.types.Ty.{Ty}
 use Rattle.type_rules.specs.Faults as kind

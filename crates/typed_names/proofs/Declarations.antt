@@ -2,9 +2,9 @@
 use Rattle.std.proofs.Common.{◌≡◌, ℕ, Bool, true, false, ◌||◌, if◌then◌else◌, List, [], ◌∷◌, ◌++◌, Option, Some, None, is_some, sym, subst}
 use Rattle.c_token.specs.Longest.{is_word}
 use Rattle.c_token.specs.declared.token.Punct.TheVariants as marks
-use Rattle.c_tree.specs.Programs.{InitTree, BegunTree, DeclaredTrees, DeclarationTree, IsBegun, AreMoreBegun, AreDeclared, IsDeclaration, AreDeclarations, spelled_equals, spelled_begun, spelled_more_begun, spelled_declared, spelled_declaration, spelled_declarations}
-use Rattle.c_tree.specs.Trees.{spelled_specs, spelled_declarator}
-use Rattle.c_tree.specs.Words.{punct}
+use Rattle.c_nodes.specs.Programs.{InitTree, BegunTree, DeclaredTrees, DeclarationTree, IsBegun, AreMoreBegun, AreDeclared, IsDeclaration, AreDeclarations, spelled_equals, spelled_begun, spelled_more_begun, spelled_declared, spelled_declaration, spelled_declarations}
+use Rattle.c_nodes.specs.Trees.{spelled_specs, spelled_declarator}
+use Rattle.c_nodes.specs.Words.{punct}
 use Rattle.c_typed.specs.declared.types.Qualified.{Qualified}
 use Rattle.c_typed.specs.declared.types.Ty.{Ty}
 use Rattle.type_rules.specs.Declarations.{param_types, function_number, function_tests, function_added, set_defined, function_rule, init_in, no_value, file_object, file_declared, type_tests, type_rule, declared_as, file_declarator, more_in_file, declared_in_file, file_declaration, block_object, block_declarator, more_in_block, declared_in_block, block_declaration, block_declarations}

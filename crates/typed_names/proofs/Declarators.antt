@@ -1,8 +1,8 @@
 -- Specifiers and declarators declare no object.
 use Rattle.std.proofs.Common.{ℕ, Bool, true, false, not, if◌then◌else◌, List, [], ◌∷◌, Option, Some, None}
-use Rattle.c_tree.specs.Trees as tree
-use Rattle.c_tree.specs.Trees.{SpecTrees, MoreSpecs, SpecTree, MemberTree, MoreMembers, MoreDeclarators, DeclaratorTree, SuffixTrees, SuffixTree, MoreParams, ParamTree, EnumeratorTree, MoreEnumerators}
-use Rattle.c_tree.specs.Words.{Symbols}
+use Rattle.c_nodes.specs.Trees as tree
+use Rattle.c_nodes.specs.Trees.{SpecTrees, MoreSpecs, SpecTree, MemberTree, MoreMembers, MoreDeclarators, DeclaratorTree, SuffixTrees, SuffixTree, MoreParams, ParamTree, EnumeratorTree, MoreEnumerators}
+use Rattle.c_nodes.specs.Words.{Symbols}
 use Rattle.type_rules.specs.Declarators.{Context, of_member, of_param, declares_tags, tag_or_new, structure_of, structure_in, body_opened, is_tagged, enum_closed, enum_body, specified, more_specs, spec_rule, members, more_members, more_fields, field, suffixes, suffix, more_params, param, outline_of}
 use Rattle.type_rules.specs.Faults as kind
 use Rattle.type_rules.specs.Known.{Tag, StructTag, EnumTag, Known, Rule, given, broken, go_on}

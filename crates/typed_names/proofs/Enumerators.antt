@@ -1,9 +1,9 @@
 -- Constant expressions and enumerators declare no object.
 use Rattle.std.proofs.Common.{ℕ, not, List, [], ◌∷◌}
 use Rattle.std.specs.Prelude.{ℤ, pos}
-use Rattle.c_tree.specs.Trees as tree
-use Rattle.c_tree.specs.Trees.{Tree, EnumeratorTree, MoreEnumerators}
-use Rattle.c_tree.specs.Words.{Symbol}
+use Rattle.c_nodes.specs.Trees as tree
+use Rattle.c_nodes.specs.Trees.{Tree, EnumeratorTree, MoreEnumerators}
+use Rattle.c_nodes.specs.Words.{Symbol}
 use Rattle.c_typed.specs.Folding.{folded}
 use Rattle.c_typed.specs.declared.folding.Folded.{Folded}
 use Rattle.c_typed.specs.declared.folding.Folded.TheVariants as folding

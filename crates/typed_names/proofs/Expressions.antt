@@ -4,8 +4,8 @@ use Rattle.c_ints.specs.declared.operators.UnOp.TheVariants as unop
 use Rattle.c_token.specs.declared.token.Punct.TheVariants as marks
 use Rattle.c_token.specs.declared.token.TokKind.{TokKind}
 use Rattle.c_token.specs.declared.token.TokKind.TheVariants as kinds
-use Rattle.c_tree.specs.Trees as tree
-use Rattle.c_tree.specs.Trees.{Tree, Post}
+use Rattle.c_nodes.specs.Trees as tree
+use Rattle.c_nodes.specs.Trees.{Tree, Post}
 use Rattle.type_rules.specs.Expressions.{name_rule, leaf, with_value, signed, selected, listed_by, arguments_in, judged, judged_behind, value_of}
 use Rattle.type_rules.specs.Faults as kind
 use Rattle.type_rules.specs.Known.{Known, Rule, given}

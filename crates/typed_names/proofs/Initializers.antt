@@ -1,8 +1,8 @@
 -- Initializers declare nothing.
 use Rattle.std.proofs.Common.{ℕ, suc, Bool, true, false, if◌then◌else◌, not, ◌&&◌, nat_eq, nat_lt, List, [], ◌∷◌, length, Option, Some, None}
-use Rattle.c_tree.specs.Programs as tree
-use Rattle.c_tree.specs.Programs.{InitTree, MoreInits}
-use Rattle.c_tree.specs.Words.{Symbol}
+use Rattle.c_nodes.specs.Programs as tree
+use Rattle.c_nodes.specs.Programs.{InitTree, MoreInits}
+use Rattle.c_nodes.specs.Words.{Symbol}
 use Rattle.c_typed.specs.Sameness.{same_type, is_scalar}
 use Rattle.c_typed.specs.Trees as typed
 use Rattle.c_typed.specs.Types.{type_of}

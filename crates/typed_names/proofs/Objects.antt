@@ -1,6 +1,6 @@
 -- Objects: a static one is named as it is told, and a local one isn't held.
 use Rattle.std.proofs.Common.{◌≡◌, ℕ, zero, suc, Bool, true, false, not, ◌||◌, if◌then◌else◌, nat_eq, List, [], ◌∷◌, ◌++◌, Option, Some, None, refl, sym, subst}
-use Rattle.c_tree.specs.Programs.{InitTree}
+use Rattle.c_nodes.specs.Programs.{InitTree}
 use Rattle.c_typed.specs.Sameness.{is_scalar}
 use Rattle.c_typed.specs.Trees as typed
 use Rattle.c_typed.specs.Trees.{Statement, Item, StaticTree}

@@ -6,10 +6,10 @@ use Rattle.c_ints.specs.declared.types.IntTy.{IntTy}
 use Rattle.c_token.specs.Longest.{is_word}
 use Rattle.c_token.specs.declared.token.Keyword.TheVariants as keywords
 use Rattle.c_token.specs.declared.token.Punct.TheVariants as marks
-use Rattle.c_tree.specs.Programs as tree
-use Rattle.c_tree.specs.Programs.{LabelTree, StatementTree, BlockTree, Statements, ArmTree, Arms, Items, spelled_condition, spelled_head, spelled_label, spelled_declarations, spelled_statement, spelled_block, spelled_statements, spelled_arm, spelled_arms, spelled_items, IsStatement, IsBlock, AreStatements, IsArm, AreArms, AreItems}
-use Rattle.c_tree.specs.Trees.{Tree}
-use Rattle.c_tree.specs.Words.{key, punct}
+use Rattle.c_nodes.specs.Programs as tree
+use Rattle.c_nodes.specs.Programs.{LabelTree, StatementTree, BlockTree, Statements, ArmTree, Arms, Items, spelled_condition, spelled_head, spelled_label, spelled_declarations, spelled_statement, spelled_block, spelled_statements, spelled_arm, spelled_arms, spelled_items, IsStatement, IsBlock, AreStatements, IsArm, AreArms, AreItems}
+use Rattle.c_nodes.specs.Trees.{Tree}
+use Rattle.c_nodes.specs.Words.{key, punct}
 use Rattle.c_typed.specs.Sameness.{is_void, is_scalar}
 use Rattle.c_typed.specs.Trees as typed
 use Rattle.c_typed.specs.Types.{type_of}

@@ -2,10 +2,10 @@
 use Rattle.std.proofs.Common.{ℕ, Bool, true, false, not, ◌&&◌, if◌then◌else◌, List, [], ◌∷◌, Option, Some, None}
 use Rattle.c_token.specs.declared.token.Keyword.TheVariants as words
 use Rattle.c_token.specs.declared.token.Punct.TheVariants as marks
-use Rattle.c_tree.specs.Kinds.{is_punct, is_key}
-use Rattle.c_tree.specs.Trees as tree
-use Rattle.c_tree.specs.Trees.{TypeTree, SpecTrees, MoreSpecs, SpecTree}
-use Rattle.c_tree.specs.Words.{Symbol, Symbols}
+use Rattle.c_nodes.specs.Kinds.{is_punct, is_key}
+use Rattle.c_nodes.specs.Trees as tree
+use Rattle.c_nodes.specs.Trees.{TypeTree, SpecTrees, MoreSpecs, SpecTree}
+use Rattle.c_nodes.specs.Words.{Symbol, Symbols}
 use Rattle.c_typed.specs.declared.types.Qualified.{Qualified}
 use Rattle.type_rules.specs.Faults as kind
 use Rattle.type_rules.specs.Known.{Tag, StructTag, EnumTag, Known, given, go_on}

@@ -2,9 +2,9 @@
 use Rattle.std.proofs.Common.{◌≡◌, ℕ, zero, suc, ◌<◌, true, List, [], ◌∷◌, ◌++◌, length, map, Some, Result, Ok, Err, ◌⊎◌, inl, inr, refl, sym, ap, ◌∙◌, subst, arith, append_assoc, append-nil}
 use Rattle.std.specs.Prelude.{slice_get, slice_index_or}
 use Rattle.c_token.specs.Longest.{is_word}
-use Rattle.c_tree.specs.Programs as tree
-use Rattle.c_tree.specs.Programs.{ItemTree, BlockTree, IsBlock, IsItem, IsUnit, spelled_declaration, spelled_block, spelled_item, spelled_unit}
-use Rattle.c_tree.specs.Trees.{SpecTrees, DeclaratorTree, spelled_specs, spelled_declarator}
+use Rattle.c_nodes.specs.Programs as tree
+use Rattle.c_nodes.specs.Programs.{ItemTree, BlockTree, IsBlock, IsItem, IsUnit, spelled_declaration, spelled_block, spelled_item, spelled_unit}
+use Rattle.c_nodes.specs.Trees.{SpecTrees, DeclaratorTree, spelled_specs, spelled_declarator}
 use Rattle.c_typed.specs.Trees as typed
 use Rattle.c_typed.specs.Trees.{FunctionTree, Program}
 use Rattle.c_typed.specs.declared.types.Ty.{Ty}

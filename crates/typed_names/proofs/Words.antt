@@ -5,8 +5,8 @@ use Rattle.std.specs.List.{list_all}
 use Rattle.std.proofs.lemmas.Bool.{false≢true, and_from, or_left}
 use Rattle.c_token.specs.Bytes.{is_decimal, begins_name, is_name_byte}
 use Rattle.c_token.specs.Longest.{is_word}
-use Rattle.c_tree.specs.Trees.{DeclaratorTree, Declares, IsDeclarator, spelled_declarator, spelled_suffixes}
-use Rattle.c_tree.specs.Words.{Symbols}
+use Rattle.c_nodes.specs.Trees.{DeclaratorTree, Declares, IsDeclarator, spelled_declarator, spelled_suffixes}
+use Rattle.c_nodes.specs.Words.{Symbols}
 use Rattle.type_rules.specs.Declarators.{name_in}
 use Rattle.type_rules.specs.Objects.{block_name}
 use Rattle.typed_names.specs.Named.{AreWords, is_dotted_byte, IsDotted}

@@ -1,6 +1,6 @@
 -- The law, as it is read.
 use Rattle.std.specs.Prelude.{◌≡◌, List, Ok}
-use Rattle.c_tree.specs.Programs.{ItemTree, IsUnit, spelled_unit}
+use Rattle.c_nodes.specs.Programs.{ItemTree, IsUnit, spelled_unit}
 use Rattle.c_typed.specs.Trees.{Program}
 use Rattle.type_rules.specs.Units.{judged_unit}
 use Rattle.typed_names.specs.Named.{AreWords, AreNamed}

@@ -3,8 +3,8 @@ use Rattle.std.specs.Prelude.{◌≡◌, ℕ, ◌<◌, Bool, true, ◌||◌, ◌
 use Rattle.std.specs.List.{list_all, AllPairs}
 use Rattle.c_token.specs.Bytes.{is_name_byte}
 use Rattle.c_token.specs.Longest.{is_word}
-use Rattle.c_tree.specs.Kinds.{is_name}
-use Rattle.c_tree.specs.Words.{Symbols}
+use Rattle.c_nodes.specs.Kinds.{is_name}
+use Rattle.c_nodes.specs.Words.{Symbols}
 use Rattle.c_typed.specs.Trees.{StaticTree, FunctionTree, Program}
 use Rattle.type_rules.specs.Faults.{Fault}
 use Rattle.type_rules.specs.Known.{Known}

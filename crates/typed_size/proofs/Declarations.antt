@@ -1,8 +1,8 @@
 -- Declarations in the file and in blocks: an object for each declarator at most.
 use Rattle.std.proofs.Common.{◌≡◌, ℕ, ◌+◌, ◌*◌, ◌≤◌, Bool, true, false, ◌||◌, if◌then◌else◌, List, [], ◌∷◌, ◌++◌, length, Option, Some, None, is_some, refl, arith, length-append}
-use Rattle.c_tree.specs.Programs.{InitTree, BegunTree, DeclaredTrees, DeclarationTree, spelled_equals, spelled_begun, spelled_more_begun, spelled_declared, spelled_declaration, spelled_declarations, spelled_init}
-use Rattle.c_tree.specs.Trees.{spelled_declarator}
-use Rattle.c_tree.specs.Words.{Symbol}
+use Rattle.c_nodes.specs.Programs.{InitTree, BegunTree, DeclaredTrees, DeclarationTree, spelled_equals, spelled_begun, spelled_more_begun, spelled_declared, spelled_declaration, spelled_declarations, spelled_init}
+use Rattle.c_nodes.specs.Trees.{spelled_declarator}
+use Rattle.c_nodes.specs.Words.{Symbol}
 use Rattle.c_typed.specs.TreeNodes.{statement_nodes, nodes_of_body, arm_nodes, arms_nodes, last_nodes}
 use Rattle.c_typed.specs.Trees.{Statement}
 use Rattle.c_typed.specs.declared.types.Qualified.{Qualified}

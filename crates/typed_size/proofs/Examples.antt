@@ -5,11 +5,11 @@ use Rattle.c_token.specs.declared.token.Keyword.{Keyword}
 use Rattle.c_token.specs.declared.token.Keyword.TheVariants as words
 use Rattle.c_token.specs.declared.token.Punct.TheVariants as marks
 use Rattle.c_token.specs.declared.token.TokKind.TheVariants as kinds
-use Rattle.c_tree.specs.Programs.{ItemTree, spelled_unit}
-use Rattle.c_tree.specs.Programs as unit
-use Rattle.c_tree.specs.Trees.{Tree, SpecTrees}
-use Rattle.c_tree.specs.Trees as tree
-use Rattle.c_tree.specs.Words.{Symbol, key, punct}
+use Rattle.c_nodes.specs.Programs.{ItemTree, spelled_unit}
+use Rattle.c_nodes.specs.Programs as unit
+use Rattle.c_nodes.specs.Trees.{Tree, SpecTrees}
+use Rattle.c_nodes.specs.Trees as tree
+use Rattle.c_nodes.specs.Words.{Symbol, key, punct}
 use Rattle.c_typed.specs.TreeNodes.{nodes_in, nodes_of_all, nodes_at, statement_nodes, nodes_of_body, arm_nodes, arms_nodes, last_nodes}
 use Rattle.c_typed.specs.Trees.{Program}
 use Rattle.type_rules.specs.Declarators.{specified, more_specs, spec_rule, suffixes, suffix}

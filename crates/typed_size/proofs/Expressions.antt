@@ -7,9 +7,9 @@ use Rattle.c_ints.specs.declared.types.IntTy.TheVariants as int
 use Rattle.c_token.specs.declared.token.Punct.TheVariants as marks
 use Rattle.c_token.specs.declared.token.TokKind.{TokKind}
 use Rattle.c_token.specs.declared.token.TokKind.TheVariants as kinds
-use Rattle.c_tree.specs.Trees as tree
-use Rattle.c_tree.specs.Trees.{Tree, Post, spelled, spelled_post, spelled_type}
-use Rattle.c_tree.specs.Words.{Symbol, punct}
+use Rattle.c_nodes.specs.Trees as tree
+use Rattle.c_nodes.specs.Trees.{Tree, Post, spelled, spelled_post, spelled_type}
+use Rattle.c_nodes.specs.Words.{Symbol, punct}
 use Rattle.c_typed.specs.TreeNodes.{nodes_in, nodes_of_all, nodes_at}
 use Rattle.c_typed.specs.Trees as typed
 use Rattle.type_rules.specs.Expressions.{unreached, named_term, name_rule, constant_term, leaf, bracketed_form, bracketed, with_value, signed, selected, step_behind, one_at_least, listed_by, arguments_in, judged, judged_behind, value_of}

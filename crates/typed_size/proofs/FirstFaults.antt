@@ -2,11 +2,11 @@
 use Rattle.std.proofs.Common.{◌≡◌, ℕ, Bool, List, [], ◌∷◌, ◌++◌, Result, Ok, Err, refl, sym, ap, ap₂, ◌∙◌}
 use Rattle.std.specs.Prelude.{ℤ}
 use Rattle.c_ints.specs.declared.types.IntTy.{IntTy}
-use Rattle.c_tree.specs.Lists as lists
-use Rattle.c_tree.specs.ProgramViews.{InnerTree, LabelInner, StatementInner, statements_of, items_of}
-use Rattle.c_tree.specs.Programs as tree
-use Rattle.c_tree.specs.Programs.{ItemTree, BegunTree, DeclarationTree, StatementTree}
-use Rattle.c_tree.specs.Trees.{Tree, MemberTree, DeclaratorTree, EnumeratorTree, ParamTree}
+use Rattle.c_nodes.specs.Lists as lists
+use Rattle.c_nodes.specs.ProgramViews.{InnerTree, LabelInner, StatementInner, statements_of, items_of}
+use Rattle.c_nodes.specs.Programs as tree
+use Rattle.c_nodes.specs.Programs.{ItemTree, BegunTree, DeclarationTree, StatementTree}
+use Rattle.c_nodes.specs.Trees.{Tree, MemberTree, DeclaratorTree, EnumeratorTree, ParamTree}
 use Rattle.type_rules.specs.Declarations.{file_declaration, file_declarator, more_in_file, block_declarator, more_in_block, block_declaration, block_declarations}
 use Rattle.type_rules.specs.Declarators.{specified, more_specs, spec_rule, members, more_members, more_fields, field, suffixes, suffix, more_params, param}
 use Rattle.type_rules.specs.Enumerators.{enumerator, more_enumerators}

@@ -1,6 +1,6 @@
 -- Lists of initializers and the arms of an `if` are judged as their parts one behind the other.
 use Rattle.std.proofs.Common.{◌≡◌, ℕ, suc, ◌+◌, Bool, true, List, [], ◌∷◌, ◌++◌, Option, Result, Ok, Err, refl, sym, ap, ◌∙◌, arith}
-use Rattle.c_tree.specs.Programs.{InitTree, MoreInits, NoInit, AndInit, Listed, ArmTree, Arm, Arms, NoElse, Else, ElseIf, Chain}
+use Rattle.c_nodes.specs.Programs.{InitTree, MoreInits, NoInit, AndInit, Listed, ArmTree, Arm, Arms, NoElse, Else, ElseIf, Chain}
 use Rattle.type_rules.specs.Faults as kind
 use Rattle.type_rules.specs.Faults.{Fault}
 use Rattle.type_rules.specs.Initializers.{items_in, with_items, has_more, begins, more_begins}

@@ -1,8 +1,8 @@
 -- The judgement of an expression is that of its nodes one behind the other.
 use Rattle.std.proofs.Common.{◌≡◌, ℕ, ◌+◌, List, [], ◌∷◌, ◌++◌, length, Result, Ok, Err, refl, sym, ap, ◌∙◌}
-use Rattle.c_tree.specs.Trees as tree
-use Rattle.c_tree.specs.Trees.{Tree, Post, TypeTree, spelled, spelled_post, spelled_type, spelled_pre}
-use Rattle.c_tree.specs.Words.{Symbol}
+use Rattle.c_nodes.specs.Trees as tree
+use Rattle.c_nodes.specs.Trees.{Tree, Post, TypeTree, spelled, spelled_post, spelled_type, spelled_pre}
+use Rattle.c_nodes.specs.Words.{Symbol}
 use Rattle.c_typed.specs.declared.types.Qualified.{Qualified}
 use Rattle.type_rules.specs.Expressions.{leaf, bracketed, signed, selected, step_behind, judged, judged_behind}
 use Rattle.type_rules.specs.Faults.{Fault}

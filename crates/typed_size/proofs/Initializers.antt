@@ -1,9 +1,9 @@
 -- Initializers: an item for each expression, and none for what no expression gives.
 use Rattle.std.proofs.Common.{◌≡◌, ℕ, suc, ◌+◌, ◌*◌, ◌≤◌, Bool, true, false, not, ◌&&◌, if◌then◌else◌, nat_eq, nat_lt, List, [], ◌∷◌, ◌++◌, length, Option, Some, None, refl, arith, length-append}
-use Rattle.c_tree.specs.Programs as tree
-use Rattle.c_tree.specs.Programs.{InitTree, MoreInits, spelled_init, spelled_more_inits}
-use Rattle.c_tree.specs.Trees.{spelled}
-use Rattle.c_tree.specs.Words.{Symbol}
+use Rattle.c_nodes.specs.Programs as tree
+use Rattle.c_nodes.specs.Programs.{InitTree, MoreInits, spelled_init, spelled_more_inits}
+use Rattle.c_nodes.specs.Trees.{spelled}
+use Rattle.c_nodes.specs.Words.{Symbol}
 use Rattle.c_typed.specs.Sameness.{same_type, is_scalar}
 use Rattle.c_typed.specs.TreeNodes.{nodes_in, items_nodes, item_nodes}
 use Rattle.c_typed.specs.Trees as typed

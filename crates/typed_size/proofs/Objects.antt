@@ -1,6 +1,6 @@
 -- Objects: one of each declarator, with what it begins as.
 use Rattle.std.proofs.Common.{ℕ, ◌+◌, ◌*◌, ◌≤◌, Bool, true, false, not, ◌||◌, if◌then◌else◌, nat_eq, List, [], ◌∷◌, length, Option, Some, None, arith, length-append}
-use Rattle.c_tree.specs.Programs.{InitTree, spelled_init}
+use Rattle.c_nodes.specs.Programs.{InitTree, spelled_init}
 use Rattle.c_typed.specs.Sameness.{is_scalar}
 use Rattle.c_typed.specs.TreeNodes.{nodes_in, nodes_at, nodes_of_all, statement_nodes, nodes_of_body, arm_nodes, arms_nodes, last_nodes, items_nodes}
 use Rattle.c_typed.specs.Trees as typed

@@ -1,9 +1,9 @@
 -- The nodes of an expression end one behind the other.
 use Rattle.std.proofs.Common.{◌≡◌, ℕ, ◌+◌, ◌≤◌, List, [], ◌∷◌, ◌++◌, length, arith, length-append}
 use Rattle.c_token.specs.declared.token.Punct.TheVariants as marks
-use Rattle.c_tree.specs.Trees as tree
-use Rattle.c_tree.specs.Trees.{Tree, Post, spelled, spelled_post, spelled_type}
-use Rattle.c_tree.specs.Words.{punct}
+use Rattle.c_nodes.specs.Trees as tree
+use Rattle.c_nodes.specs.Trees.{Tree, Post, spelled, spelled_post, spelled_type}
+use Rattle.c_nodes.specs.Words.{punct}
 use Rattle.typed_size.specs.Firsts.{InOrder}
 use Rattle.typed_size.specs.Nodes.{Node, Placed, at, nodes_of, nodes_behind}
 

@@ -4,10 +4,10 @@ use Rattle.c_ints.specs.Conversions.{promoted}
 use Rattle.c_ints.specs.Operators.{cut_to}
 use Rattle.c_ints.specs.declared.types.IntTy.{IntTy}
 use Rattle.c_token.specs.declared.token.Punct.TheVariants as marks
-use Rattle.c_tree.specs.Programs as tree
-use Rattle.c_tree.specs.Programs.{ConditionTree, HeadTree, LabelTree, StatementTree, BlockTree, Statements, ArmTree, Arms, Items, spelled_any, spelled_condition, spelled_head, spelled_label, spelled_declarations, spelled_statement, spelled_block, spelled_statements, spelled_arm, spelled_arms, spelled_items}
-use Rattle.c_tree.specs.Trees.{Tree, spelled}
-use Rattle.c_tree.specs.Words.{Symbol, Symbols, punct}
+use Rattle.c_nodes.specs.Programs as tree
+use Rattle.c_nodes.specs.Programs.{ConditionTree, HeadTree, LabelTree, StatementTree, BlockTree, Statements, ArmTree, Arms, Items, spelled_any, spelled_condition, spelled_head, spelled_label, spelled_declarations, spelled_statement, spelled_block, spelled_statements, spelled_arm, spelled_arms, spelled_items}
+use Rattle.c_nodes.specs.Trees.{Tree, spelled}
+use Rattle.c_nodes.specs.Words.{Symbol, Symbols, punct}
 use Rattle.c_typed.specs.Sameness.{is_void, is_scalar}
 use Rattle.c_typed.specs.TreeNodes.{nodes_in, nodes_in_any, statement_nodes, nodes_of_body, arm_nodes, arms_nodes, last_nodes}
 use Rattle.c_typed.specs.Trees as typed

@@ -1,10 +1,10 @@
 -- Units: the typed program of a unit is at most three times as large as the unit's spelling.
 use Rattle.std.proofs.Common.{◌≡◌, ℕ, ◌+◌, ◌*◌, ◌^◌, ◌≤◌, true, List, [], ◌∷◌, length, map, Result, Ok, Err, subst, arith, length-append}
 use Rattle.std.proofs.lemmas.List.{length-map}
-use Rattle.c_tree.specs.Programs as tree
-use Rattle.c_tree.specs.Programs.{ItemTree, BlockTree, spelled_declaration, spelled_block, spelled_item, spelled_unit}
-use Rattle.c_tree.specs.Trees.{SpecTrees, DeclaratorTree, spelled_declarator}
-use Rattle.c_tree.specs.Words.{Symbol}
+use Rattle.c_nodes.specs.Programs as tree
+use Rattle.c_nodes.specs.Programs.{ItemTree, BlockTree, spelled_declaration, spelled_block, spelled_item, spelled_unit}
+use Rattle.c_nodes.specs.Trees.{SpecTrees, DeclaratorTree, spelled_declarator}
+use Rattle.c_nodes.specs.Words.{Symbol}
 use Rattle.c_typed.specs.TreeNodes.{nodes_of_body, functions_nodes}
 use Rattle.c_typed.specs.Trees as typed
 use Rattle.c_typed.specs.Trees.{FunctionTree, Program}

@@ -1,10 +1,10 @@
 -- What is first in a list among all that breaks a rule.
 use Rattle.std.specs.Prelude.{◌≡◌, ℕ, ℤ, Bool, ◌≤◌, List, [], ◌∷◌, ◌++◌, Result, Ok, Err}
 use Rattle.c_ints.specs.declared.types.IntTy.{IntTy}
-use Rattle.c_tree.specs.Programs.{ItemTree, BegunTree, DeclarationTree, StatementTree}
-use Rattle.c_tree.specs.Lists as lists
-use Rattle.c_tree.specs.ProgramViews.{InnerTree, statements_of, items_of}
-use Rattle.c_tree.specs.Trees.{MemberTree, DeclaratorTree, EnumeratorTree, ParamTree}
+use Rattle.c_nodes.specs.Programs.{ItemTree, BegunTree, DeclarationTree, StatementTree}
+use Rattle.c_nodes.specs.Lists as lists
+use Rattle.c_nodes.specs.ProgramViews.{InnerTree, statements_of, items_of}
+use Rattle.c_nodes.specs.Trees.{MemberTree, DeclaratorTree, EnumeratorTree, ParamTree}
 use Rattle.type_rules.specs.Declarators.{more_members, more_fields, more_params}
 use Rattle.type_rules.specs.Enumerators.{more_enumerators}
 use Rattle.type_rules.specs.Declarations.{more_in_file, more_in_block, block_declarations}

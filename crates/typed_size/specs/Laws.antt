@@ -1,8 +1,8 @@
 -- The laws, as they are read.
 use Rattle.std.specs.Prelude.{◌≡◌, ◌≤◌, ℕ, suc, Bool, ◌+◌, ◌*◌, ◌^◌, List, [], ◌∷◌, length, Option, Ok, Err}
 use Rattle.c_ints.specs.declared.types.IntTy.{IntTy}
-use Rattle.c_tree.specs.Programs.{InitTree, MoreInits, Listed, ArmTree, Arms, Chain, ItemTree, spelled_unit}
-use Rattle.c_tree.specs.Trees.{Tree, spelled}
+use Rattle.c_nodes.specs.Programs.{InitTree, MoreInits, Listed, ArmTree, Arms, Chain, ItemTree, spelled_unit}
+use Rattle.c_nodes.specs.Trees.{Tree, spelled}
 use Rattle.c_typed.specs.Trees.{Program}
 use Rattle.type_rules.specs.Expressions.{judged}
 use Rattle.type_rules.specs.Faults.{Fault}

@@ -1,9 +1,9 @@
 -- The nodes of an expression in the order of its text, operands before their operators, and the rule of each node over what its parts are
 -- (ISO/IEC 9899:1990, 6.3).
 use Rattle.std.specs.Prelude.{ℕ, ◌+◌, List, [], ◌∷◌, ◌++◌, length, Result}
-use Rattle.c_tree.specs.Trees.{Tree, Post, TypeTree, spelled, spelled_type}
-use Rattle.c_tree.specs.Trees as tree
-use Rattle.c_tree.specs.Words.{Symbol}
+use Rattle.c_nodes.specs.Trees.{Tree, Post, TypeTree, spelled, spelled_type}
+use Rattle.c_nodes.specs.Trees as tree
+use Rattle.c_nodes.specs.Words.{Symbol}
 use Rattle.c_typed.specs.declared.types.Qualified.{Qualified}
 use Rattle.type_rules.specs.Expressions.{leaf, bracketed, signed, selected, step_behind, listed_by, arguments_in}
 use Rattle.type_rules.specs.Faults.{Fault}

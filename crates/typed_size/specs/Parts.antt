@@ -1,6 +1,6 @@
 -- Lists of initializers and the arms of an `if`, part by part in the order of the text, each part with its own rule.
 use Rattle.std.specs.Prelude.{ℕ, suc, true, List, [], ◌∷◌, ◌++◌, Option, Result}
-use Rattle.c_tree.specs.Programs.{ConditionTree, InitTree, MoreInits, NoInit, AndInit, StatementTree, ArmTree, Arm, Arms, NoElse, Else, ElseIf}
+use Rattle.c_nodes.specs.Programs.{ConditionTree, InitTree, MoreInits, NoInit, AndInit, StatementTree, ArmTree, Arm, Arms, NoElse, Else, ElseIf}
 use Rattle.type_rules.specs.Faults as kind
 use Rattle.type_rules.specs.Faults.{Fault}
 use Rattle.type_rules.specs.Initializers.{with_items, has_more, begins}

@@ -3,7 +3,7 @@
 //! In: nothing; the crate has laws alone. Out: nothing.
 //! The promise: the typed program that the rules give a tree is at most three times as large as the tree's spelling; and a rule that is told as broken
 //! is the first one in the order of the text. What the rules say of a tree is judged_unit of type_rules, and the tokens of a tree are spelled_unit of
-//! c_tree.
+//! c_nodes.
 #![tactic(auto)]
 
 ghost use Rattle.typed_size.specs.Laws.{JudgedSmall, JudgedBounded, FirstFault};

@@ -1,7 +1,7 @@
 use Rattle.std.proofs.Common.{◌-◌, suc, length, map, refl}
 use Rattle.std.proofs.lemmas.List.{length-map}
 use Rattle.std.proofs.lemmas.Result.{err_from_is_err_and}
-use Rattle.c_tree.specs.Views.{binary_of, postfix_suffix_of, prefix_of, spec_of, suffix_of, choice_of, cond_of, expr_of, type_name_of, member_of, param_of, next_assign_of, next_declarator_of, next_operand_of, next_param_of, target_of, enumerator_of, next_enumerator_of}
+use Rattle.c_nodes.specs.Views.{binary_of, postfix_suffix_of, prefix_of, spec_of, suffix_of, choice_of, cond_of, expr_of, type_name_of, member_of, param_of, next_assign_of, next_declarator_of, next_operand_of, next_param_of, target_of, enumerator_of, next_enumerator_of}
 use Rattle.parse_expr.specs.Reader.{symbol_in, symbols_in, all_that}
 use Rattle.parse_expr.specs.Reading.{at, cond_by, assign_by, comma_by, right_by, tier_by, post_by, prefix_by, next_spec_by, next_member_by, next_declarator_by, suffix_by, next_param_by, expr_by, type_name_by, members_by, params_by, next_enumerator_by, enumerators_by}
 use Rattle.parse_expr.proofs.Loops.{collect_first, collect_more, collect_ends, collect_out, collect_err, choices_first, choices_more, choices_end, choices_out, choices_err, choice_err, assigns_first, assigns_more, assigns_end, assigns_out, assigns_err}

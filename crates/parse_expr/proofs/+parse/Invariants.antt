@@ -1,5 +1,5 @@
 use Rattle.std.proofs.Common.{◌≡◌, ◌+◌, ◌-◌, ◌*◌, suc, length, map}
-use Rattle.c_tree.specs.Views.{postfix_suffix_of, prefix_of, spec_of, suffix_of, choice_of, member_of, next_assign_of, next_declarator_of, next_operand_of, next_param_of, target_of, next_enumerator_of}
+use Rattle.c_nodes.specs.Views.{postfix_suffix_of, prefix_of, spec_of, suffix_of, choice_of, member_of, next_assign_of, next_declarator_of, next_operand_of, next_param_of, target_of, next_enumerator_of}
 use Rattle.parse_expr.specs.Reader.{symbols_in, collect, all_that}
 use Rattle.parse_expr.specs.Reading.{at, choices, cond_by, assigns, assign_by, comma_by, right_by, tier_by, post_by, prefix_by, next_spec_by, next_member_by, next_declarator_by, suffix_by, next_param_by, next_enumerator_by}
 use Rattle.parse_expr.proofs.Loops.{fronted, chosen_in, assigned_in}

@@ -1,6 +1,6 @@
 use Rattle.std.proofs.Common.{map}
 use Rattle.std.proofs.lemmas.Result.{err_from_is_err_and}
-use Rattle.c_tree.specs.ProgramViews.{begun_of}
+use Rattle.c_nodes.specs.ProgramViews.{begun_of}
 use Rattle.c_typed.specs.Views.{statement_of}
 use Rattle.c_operate.specs.Tables.{known_of}
 use Rattle.check_expr.specs.Views.{outline_of, specified_of}

@@ -1,5 +1,5 @@
 use Rattle.std.proofs.Common.{◌≡◌, Some, drop, map}
-use Rattle.c_tree.specs.ProgramViews.{declared_of, next_begun_of}
+use Rattle.c_nodes.specs.ProgramViews.{declared_of, next_begun_of}
 use Rattle.c_typed.specs.Views.{statement_of}
 use Rattle.type_rules.specs.Declarations.{declared_in_block, more_in_block}
 use Rattle.c_operate.specs.Tables.{known_of}

@@ -1,5 +1,5 @@
 use Rattle.std.proofs.Common.{ap}
-use Rattle.c_tree.specs.ProgramViews.{declaration_of, declared_of}
+use Rattle.c_nodes.specs.ProgramViews.{declaration_of, declared_of}
 use Rattle.c_operate.specs.Tables.{known_of}
 use Rattle.check_expr.specs.Views.{context_of, specified_of}
 use Rattle.c_check.proofs.Declared.{nothing_last}

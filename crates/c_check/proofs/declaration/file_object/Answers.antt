@@ -1,6 +1,6 @@
 use Rattle.std.proofs.Common.{ℕ, List, ap, subst, ◌∙◌}
 use Rattle.std.proofs.lemmas.Result.{err_from_is_err_and}
-use Rattle.c_tree.specs.ProgramViews.{equals_of}
+use Rattle.c_nodes.specs.ProgramViews.{equals_of}
 use Rattle.type_rules.specs.Declarations.{init_in}
 use Rattle.type_rules.specs.Objects.{static_rule}
 use Rattle.c_operate.specs.Answers.{Learns}

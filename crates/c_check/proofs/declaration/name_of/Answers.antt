@@ -1,5 +1,5 @@
 use Rattle.std.proofs.Common.{sym, ap, ◌∙◌}
-use Rattle.c_tree.proofs.Shapes.{show_declarator}
+use Rattle.c_nodes.proofs.Shapes.{show_declarator}
 use Rattle.type_rules.specs.Declarators.{name_in}
 use Rattle.c_check.proofs.declaration.name_of.Goals as goal
 

@@ -1,5 +1,5 @@
 use Rattle.std.proofs.Common.{◌≡◌, ◌+◌, drop, map}
-use Rattle.c_tree.specs.ProgramViews.{more_inits, next_init_of}
+use Rattle.c_nodes.specs.ProgramViews.{more_inits, next_init_of}
 use Rattle.type_rules.specs.Initializers.{more_begins, items_in}
 use Rattle.c_operate.specs.Tables.{known_of}
 use Rattle.c_check.specs.Views.{any_slot, begun_of}

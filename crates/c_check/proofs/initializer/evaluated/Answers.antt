@@ -1,4 +1,4 @@
-use Rattle.c_tree.specs.Views.{assign_of}
+use Rattle.c_nodes.specs.Views.{assign_of}
 use Rattle.c_operate.specs.Tables.{known_of}
 use Rattle.c_operate.specs.Terms.{term_of}
 use Rattle.c_check.proofs.Evaluated.{value_is}

@@ -1,5 +1,5 @@
 use Rattle.std.proofs.Common.{Some, map}
-use Rattle.c_tree.specs.ProgramViews.{init_of}
+use Rattle.c_nodes.specs.ProgramViews.{init_of}
 use Rattle.c_typed.specs.Views.{statement_of}
 use Rattle.type_rules.specs.Objects as rule
 use Rattle.c_operate.specs.Tables.{body_in, known_of, scopes_in, types_in}

@@ -1,5 +1,5 @@
 use Rattle.std.proofs.Common.{ap, map}
-use Rattle.c_tree.specs.ProgramViews.{init_of}
+use Rattle.c_nodes.specs.ProgramViews.{init_of}
 use Rattle.c_typed.proofs.Shapes.{show_statement_declare}
 use Rattle.c_typed.specs.Views.{statement_of}
 use Rattle.c_typed.specs.declared.statement.TStmt.TheVariants as statements

@@ -1,5 +1,5 @@
 use Rattle.std.proofs.Common.{ap}
-use Rattle.c_tree.specs.ProgramViews.{init_of}
+use Rattle.c_nodes.specs.ProgramViews.{init_of}
 use Rattle.type_rules.specs.Objects as rule
 use Rattle.c_operate.specs.Tables.{known_of, scopes_in, statics_in}
 use Rattle.c_check.specs.Views.{any_init}

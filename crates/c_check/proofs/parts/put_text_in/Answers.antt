@@ -1,4 +1,4 @@
-use Rattle.c_tree.specs.Words.{quoted}
+use Rattle.c_nodes.specs.Words.{quoted}
 use Rattle.c_operate.specs.Tables.{known_of}
 use Rattle.c_check.specs.Views.{begun_of, slot_of}
 use Rattle.c_check.proofs.Beginning.{text_some, text_none}

@@ -1,11 +1,11 @@
 use Rattle.std.proofs.Common.{◌+◌, ◌++◌, [], ◌∷◌, Some, Ok, drop, map, refl, sym, ap, subst, ◌∙◌}
 use Rattle.std.proofs.lemmas.Result.{err_from_is_err_and}
-use Rattle.c_tree.proofs.ProgramShapes as shapes
-use Rattle.c_tree.specs.ProgramViews as views
-use Rattle.c_tree.specs.ProgramViews.{declaration_of}
-use Rattle.c_tree.specs.Programs as tree
-use Rattle.c_tree.specs.Views.{expr_of}
-use Rattle.c_tree.specs.declared.statement.Statement.TheViews.{out-Arm, out-Block}
+use Rattle.c_nodes.proofs.ProgramShapes as shapes
+use Rattle.c_nodes.specs.ProgramViews as views
+use Rattle.c_nodes.specs.ProgramViews.{declaration_of}
+use Rattle.c_nodes.specs.Programs as tree
+use Rattle.c_nodes.specs.Views.{expr_of}
+use Rattle.c_nodes.specs.declared.statement.Statement.TheViews.{out-Arm, out-Block}
 use Rattle.c_typed.specs.Views.{statement_of}
 use Rattle.type_rules.specs.Statements as rule
 use Rattle.c_operate.proofs.Steps.{out_of_memory}

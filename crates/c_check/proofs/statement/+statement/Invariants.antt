@@ -1,6 +1,6 @@
 use Rattle.std.proofs.Common.{◌≡◌, drop, map}
-use Rattle.c_tree.specs.ProgramViews as views
-use Rattle.c_tree.specs.declared.statement.Statement.TheViews.{out-IfChain}
+use Rattle.c_nodes.specs.ProgramViews as views
+use Rattle.c_nodes.specs.declared.statement.Statement.TheViews.{out-IfChain}
 use Rattle.c_typed.specs.Views.{arm_of, statement_of}
 use Rattle.type_rules.specs.Statements as rule
 use Rattle.c_operate.specs.Tables.{known_of}

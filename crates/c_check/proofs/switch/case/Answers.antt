@@ -1,6 +1,6 @@
 use Rattle.std.proofs.Common.{Ok, map, to_z, of_z, w64, [], ◌∷◌, ◌++◌, refl, sym, ap, subst, ◌∙◌}
 use Rattle.std.proofs.lemmas.List.{length-map}
-use Rattle.c_tree.specs.Views.{cond_of}
+use Rattle.c_nodes.specs.Views.{cond_of}
 use Rattle.c_typed.specs.Views.{statement_of}
 use Rattle.c_operate.specs.Tables.{known_of}
 use Rattle.c_check.specs.StatementViews.{body_of, case_rule, Labels}

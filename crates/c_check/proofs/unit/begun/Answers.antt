@@ -1,4 +1,4 @@
-use Rattle.c_tree.specs.ProgramViews.{unit_of}
+use Rattle.c_nodes.specs.ProgramViews.{unit_of}
 use Rattle.c_check.proofs.Units.{names_few}
 use Rattle.c_check.proofs.unit.begun.Goals as goal
 

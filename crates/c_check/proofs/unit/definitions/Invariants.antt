@@ -1,5 +1,5 @@
 use Rattle.std.proofs.Common.{◌≡◌, [], drop, map}
-use Rattle.c_tree.specs.ProgramViews.{item_of, unit_of}
+use Rattle.c_nodes.specs.ProgramViews.{item_of, unit_of}
 use Rattle.type_rules.specs.Units.{defined_in}
 use Rattle.c_check.proofs.unit.definitions.Given as goal
 

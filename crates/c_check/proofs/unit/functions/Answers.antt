@@ -1,4 +1,4 @@
-use Rattle.c_tree.specs.ProgramViews.{unit_of}
+use Rattle.c_nodes.specs.ProgramViews.{unit_of}
 use Rattle.type_rules.specs.Units.{functions_of}
 use Rattle.c_operate.specs.Tables.{known_of}
 use Rattle.c_check.proofs.Units.{function_next, declaration_next}

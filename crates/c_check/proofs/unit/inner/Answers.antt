@@ -1,6 +1,6 @@
 use Rattle.std.proofs.Common.{map}
 use Rattle.std.proofs.lemmas.Result.{err_from_is_err_and}
-use Rattle.c_tree.specs.ProgramViews.{block_of}
+use Rattle.c_nodes.specs.ProgramViews.{block_of}
 use Rattle.c_typed.specs.Views.{statement_of, variable_of}
 use Rattle.c_operate.specs.Tables.{known_of, scope_of}
 use Rattle.check_expr.specs.Views.{param_of}

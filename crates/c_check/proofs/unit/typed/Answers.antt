@@ -1,5 +1,5 @@
 use Rattle.std.proofs.Common.{ap, map}
-use Rattle.c_tree.specs.ProgramViews.{unit_of}
+use Rattle.c_nodes.specs.ProgramViews.{unit_of}
 use Rattle.c_typed.specs.Views.{function_of, static_of}
 use Rattle.type_rules.specs.Units as rule
 use Rattle.c_operate.specs.Tables.{known_of}

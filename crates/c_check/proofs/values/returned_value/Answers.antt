@@ -1,5 +1,5 @@
 use Rattle.std.proofs.Common.{sym, ap, subst, ◌∙◌}
-use Rattle.c_tree.specs.Views.{expr_of}
+use Rattle.c_nodes.specs.Views.{expr_of}
 use Rattle.c_typed.specs.Sameness.{is_void}
 use Rattle.c_typed.specs.Views.{expression_of}
 use Rattle.c_typed.specs.declared.types.Ty.{Ty}

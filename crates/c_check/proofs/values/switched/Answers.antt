@@ -1,6 +1,6 @@
 use Rattle.std.proofs.Common.{sym, ap, ◌∙◌}
 use Rattle.std.proofs.lemmas.Result.{err_from_is_err_and}
-use Rattle.c_tree.specs.Views.{expr_of}
+use Rattle.c_nodes.specs.Views.{expr_of}
 use Rattle.c_typed.specs.Views.{expression_of}
 use Rattle.type_rules.specs.Statements.{int_of}
 use Rattle.c_operate.proofs.Steps.{out_of_memory}

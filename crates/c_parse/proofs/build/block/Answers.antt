@@ -1,4 +1,4 @@
-use Rattle.c_tree.proofs.ProgramShapes.{made_block}
+use Rattle.c_nodes.proofs.ProgramShapes.{made_block}
 use Rattle.c_parse.proofs.build.block.Goals as goal
 
 pub returns : goal.returns

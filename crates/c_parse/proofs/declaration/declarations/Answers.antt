@@ -1,6 +1,6 @@
 use Rattle.std.proofs.Common.{length, map}
 use Rattle.std.proofs.lemmas.Result.{err_from_is_err_and}
-use Rattle.c_tree.specs.ProgramViews.{declaration_of}
+use Rattle.c_nodes.specs.ProgramViews.{declaration_of}
 use Rattle.c_parse.specs.Reading.{next_declaration_by}
 use Rattle.parse_expr.specs.Reader.{all_that, symbols_in}
 use Rattle.parse_expr.proofs.Loops.{collect_more, collect_ends, collect_out, collect_err}

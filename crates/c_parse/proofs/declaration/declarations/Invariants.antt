@@ -1,5 +1,5 @@
 use Rattle.std.proofs.Common.{◌≡◌, ◌-◌, length, map}
-use Rattle.c_tree.specs.ProgramViews.{declaration_of}
+use Rattle.c_nodes.specs.ProgramViews.{declaration_of}
 use Rattle.c_parse.specs.Reading.{next_declaration_by}
 use Rattle.parse_expr.specs.Reader.{collect, all_that, symbols_in}
 use Rattle.parse_expr.proofs.Loops.{fronted}

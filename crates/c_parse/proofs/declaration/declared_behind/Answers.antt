@@ -1,7 +1,7 @@
 use Rattle.std.proofs.Common.{map}
 use Rattle.std.proofs.lemmas.Result.{err_from_is_err_and}
-use Rattle.c_tree.specs.Views.{specs_of}
-use Rattle.c_tree.specs.ProgramViews.{begun_of, next_begun_of}
+use Rattle.c_nodes.specs.Views.{specs_of}
+use Rattle.c_nodes.specs.ProgramViews.{begun_of, next_begun_of}
 use Rattle.parse_expr.specs.Reader.{symbols_in}
 use Rattle.c_parse.proofs.Failing.{declared_err}
 use Rattle.c_parse.proofs.declaration.declared_behind.Goals as goal

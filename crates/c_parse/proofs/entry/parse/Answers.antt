@@ -1,4 +1,4 @@
-use Rattle.c_tree.specs.ProgramViews.{unit_of}
+use Rattle.c_nodes.specs.ProgramViews.{unit_of}
 use Rattle.c_parse.proofs.Whole.{found, as_long, only, limit_only, no_tree}
 use Rattle.c_parse.proofs.entry.parse.Goals as goal
 

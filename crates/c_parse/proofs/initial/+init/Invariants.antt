@@ -1,5 +1,5 @@
 use Rattle.std.proofs.Common.{◌≡◌, ◌+◌, ◌-◌, ◌*◌, length, map}
-use Rattle.c_tree.specs.ProgramViews.{next_init_of}
+use Rattle.c_nodes.specs.ProgramViews.{next_init_of}
 use Rattle.parse_expr.specs.Reader.{collect, all_that, symbols_in}
 use Rattle.c_parse.specs.Reading.{next_init_by, init_inside}
 use Rattle.parse_expr.proofs.Loops.{fronted}

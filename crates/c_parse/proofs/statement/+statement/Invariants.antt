@@ -1,5 +1,5 @@
 use Rattle.std.proofs.Common.{◌≡◌, ◌+◌, ◌-◌, ◌*◌, length, map}
-use Rattle.c_tree.specs.ProgramViews.{statement_of, else_arm_of, switch_item_of}
+use Rattle.c_nodes.specs.ProgramViews.{statement_of, else_arm_of, switch_item_of}
 use Rattle.c_parse.specs.Reading.{next_statement_by, next_arm_by, inner_by, statement_at}
 use Rattle.parse_expr.specs.Reader.{collect, all_that, symbols_in}
 use Rattle.parse_expr.proofs.Loops.{fronted}

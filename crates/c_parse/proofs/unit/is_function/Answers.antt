@@ -1,7 +1,7 @@
 use Rattle.std.proofs.Common.{sym, ap, ◌∙◌}
-use Rattle.c_tree.specs.Programs.{is_function}
-use Rattle.c_tree.specs.declared.expression.Binary.TheViews.{out-Declarator}
-use Rattle.c_tree.proofs.Shapes.{show_declarator}
+use Rattle.c_nodes.specs.Programs.{is_function}
+use Rattle.c_nodes.specs.declared.expression.Binary.TheViews.{out-Declarator}
+use Rattle.c_nodes.proofs.Shapes.{show_declarator}
 use Rattle.c_parse.proofs.LastSuffix.{last_is, none_is}
 use Rattle.c_parse.proofs.unit.is_function.Goals as goal
 

@@ -1,5 +1,5 @@
 use Rattle.std.proofs.Common.{◌≡◌, ◌++◌, drop, map}
-use Rattle.c_tree.specs.Words.{kinds_of, keyed, spell_pointer}
+use Rattle.c_nodes.specs.Words.{kinds_of, keyed, spell_pointer}
 use Rattle.c_tree.proofs.marks.pointer.Given as goal
 
 abbrev pub invariant-loop-qualifier : goal.invariant-loop-qualifier

@@ -1,4 +1,4 @@
-use Rattle.c_tree.specs.Words.{spell_pointer}
+use Rattle.c_nodes.specs.Words.{spell_pointer}
 use Rattle.c_tree.proofs.Append.{one_more}
 use Rattle.c_tree.proofs.marks.pointers.Goals as goal
 

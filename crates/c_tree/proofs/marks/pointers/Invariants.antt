@@ -1,5 +1,5 @@
 use Rattle.std.proofs.Common.{◌≡◌, ◌++◌, drop}
-use Rattle.c_tree.specs.Words.{kinds_of, spell_pointers}
+use Rattle.c_nodes.specs.Words.{kinds_of, spell_pointers}
 use Rattle.c_tree.proofs.marks.pointers.Given as goal
 
 abbrev pub invariant-loop-each : goal.invariant-loop-each

@@ -1,10 +1,10 @@
 use Rattle.std.proofs.Common.{List, [], ◌∷◌, ◌++◌, map, sym, ap, ◌∙◌}
 use Rattle.c_token.specs.declared.token.TokKind.TheVariants as kinds
 use Rattle.c_token.specs.declared.token.Punct.TheVariants.{LeftBrace, RightBrace}
-use Rattle.c_tree.specs.Words.{Symbols, flat, kinds_of, punct, spelled_comma}
+use Rattle.c_nodes.specs.Words.{Symbols, flat, kinds_of, punct, spelled_comma}
 use Rattle.c_tree.specs.Statements.{spell_init, spell_next_init}
-use Rattle.c_tree.specs.declared.statement.Init.{Init}
-use Rattle.c_tree.specs.declared.statement.NextInit.{NextInit}
+use Rattle.c_nodes.specs.declared.statement.Init.{Init}
+use Rattle.c_nodes.specs.declared.statement.NextInit.{NextInit}
 use Rattle.c_tree.proofs.Append.{one_more}
 use Rattle.c_tree.proofs.Initials.{list_put}
 use Rattle.c_tree.proofs.Statements.{see_init_list}

@@ -1,5 +1,5 @@
 use Rattle.std.proofs.Common.{◌≡◌, ◌++◌, drop, map}
-use Rattle.c_tree.specs.Words.{kinds_of, flat}
+use Rattle.c_nodes.specs.Words.{kinds_of, flat}
 use Rattle.c_tree.specs.Statements.{spell_next_init}
 use Rattle.c_tree.proofs.printing.+initial.Given as goal
 

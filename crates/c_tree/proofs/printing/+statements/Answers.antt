@@ -1,8 +1,8 @@
 use Rattle.std.proofs.Common.{◌∷◌, []}
 use Rattle.c_token.specs.declared.token.Punct.TheVariants.{RightBrace}
-use Rattle.c_tree.specs.Words.{punct}
+use Rattle.c_nodes.specs.Words.{punct}
 use Rattle.c_tree.specs.Statements.{spell_statement, spell_switch_item, spell_else_arm, spell_last}
-use Rattle.c_tree.specs.declared.statement.Statement.TheViews.{out-IfChain}
+use Rattle.c_nodes.specs.declared.statement.Statement.TheViews.{out-IfChain}
 use Rattle.c_tree.proofs.Append.{one_more_before}
 use Rattle.c_tree.proofs.printing.+statements.Goals as goal
 

@@ -1,8 +1,8 @@
 use Rattle.std.proofs.Common.{◌≡◌, ◌++◌, ◌∷◌, [], drop, map}
 use Rattle.c_token.specs.declared.token.Punct.TheVariants.{RightBrace}
-use Rattle.c_tree.specs.Words.{kinds_of, flat, punct}
+use Rattle.c_nodes.specs.Words.{kinds_of, flat, punct}
 use Rattle.c_tree.specs.Statements.{spell_statement, spell_switch_item, spell_block, spell_if_chain, spell_else_arm, spell_last}
-use Rattle.c_tree.specs.declared.statement.Statement.TheViews.{out-IfChain}
+use Rattle.c_nodes.specs.declared.statement.Statement.TheViews.{out-IfChain}
 use Rattle.c_tree.proofs.printing.+statements.Given as goal
 
 abbrev pub invariant-put_statement-loop-item : goal.invariant-put_statement-loop-item

@@ -1,5 +1,5 @@
 use Rattle.std.proofs.Common.{◌≡◌, ◌++◌, drop, map}
-use Rattle.c_tree.specs.Words.{kinds_of, flat}
+use Rattle.c_nodes.specs.Words.{kinds_of, flat}
 use Rattle.c_tree.specs.Statements.{spell_declaration}
 use Rattle.c_tree.proofs.printing.put_declarations.Given as goal
 

@@ -1,7 +1,7 @@
 use Rattle.std.proofs.Common.{◌≡◌, ◌++◌, drop, map}
-use Rattle.c_tree.specs.Words.{kinds_of, flat}
-use Rattle.c_tree.specs.Programs.{spelled_unit}
-use Rattle.c_tree.specs.ProgramViews.{unit_of}
+use Rattle.c_nodes.specs.Words.{kinds_of, flat}
+use Rattle.c_nodes.specs.Programs.{spelled_unit}
+use Rattle.c_nodes.specs.ProgramViews.{unit_of}
 use Rattle.c_tree.specs.Statements.{spell_item}
 use Rattle.c_tree.proofs.printing.spell.Given as goal
 

@@ -1,8 +1,8 @@
 use Rattle.std.proofs.Common.{◌∷◌, [], ◌++◌}
 use Rattle.c_token.specs.declared.token.Punct.TheVariants.{RightParenthesis, RightBrace, Semicolon}
-use Rattle.c_tree.specs.Words.{punct, spelled_comma}
+use Rattle.c_nodes.specs.Words.{punct, spelled_comma}
 use Rattle.c_tree.specs.Spelling.{spell_binary, spell_choice, spell_cond, spell_member, spell_next_assign, spell_next_declarator, spell_next_enumerator, spell_next_operand, spell_next_param, spell_operand, spell_postfix_suffix, spell_prefix, spell_spec, spell_suffix, spell_target}
-use Rattle.c_tree.specs.declared.expression.Binary.TheViews.{out-Assign, out-Cond, out-Cast, out-EnumBody}
+use Rattle.c_nodes.specs.declared.expression.Binary.TheViews.{out-Assign, out-Cond, out-Cast, out-EnumBody}
 use Rattle.c_tree.proofs.Append.{one_more, one_more_before}
 use Rattle.c_tree.proofs.spelling.+spelling.Goals as goal
 

@@ -1,8 +1,8 @@
 use Rattle.std.proofs.Common.{◌≡◌, ◌++◌, ◌∷◌, [], drop, map}
 use Rattle.c_token.specs.declared.token.Punct.TheVariants.{RightParenthesis, RightBrace, Semicolon}
-use Rattle.c_tree.specs.Words.{kinds_of, flat, punct, spelled_comma}
+use Rattle.c_nodes.specs.Words.{kinds_of, flat, punct, spelled_comma}
 use Rattle.c_tree.specs.Spelling.{spell_assign, spell_binary, spell_cast, spell_choice, spell_cond, spell_declarator, spell_enum_body, spell_expr, spell_member, spell_next_assign, spell_next_declarator, spell_next_enumerator, spell_next_operand, spell_next_param, spell_operand, spell_param, spell_postfix, spell_postfix_suffix, spell_prefix, spell_spec, spell_specs, spell_struct_body, spell_suffix, spell_target}
-use Rattle.c_tree.specs.declared.expression.Binary.TheViews.{out-Assign, out-Cond, out-Cast, out-EnumBody}
+use Rattle.c_nodes.specs.declared.expression.Binary.TheViews.{out-Assign, out-Cond, out-Cast, out-EnumBody}
 use Rattle.c_tree.proofs.spelling.+spelling.Given as goal
 
 abbrev pub invariant-put_specs-loop-spec : goal.invariant-put_specs-loop-spec

@@ -1,6 +1,6 @@
 use Rattle.std.proofs.Common.{refl}
 use Rattle.std.proofs.lemmas.Result.{err_from_is_err_and}
-use Rattle.c_tree.specs.Views.{cond_of}
+use Rattle.c_nodes.specs.Views.{cond_of}
 use Rattle.type_rules.specs.Constants.{number_of}
 use Rattle.type_rules.specs.Expressions.{judged}
 use Rattle.type_rules.specs.Terms.{used}

@@ -1,10 +1,10 @@
-use Rattle.std.proofs.Common.{◌+◌, map, drop, ap}
+use Rattle.std.proofs.Common.{refl, ◌+◌, map, drop, ap}
 use Rattle.std.proofs.lemmas.Result.{err_from_is_err_and}
-use Rattle.c_tree.specs.Lists.{suffixes_of, more_members, more_params, more_enumerators}
-use Rattle.c_tree.specs.Views.{cond_of, declarator_of, member_of, next_declarator_of, next_param_of, param_of, spec_of, specs_of, struct_body_of, suffix_of, enumerator_of, next_enumerator_of}
-use Rattle.c_tree.specs.Words.{named, type_named, spell_pointers, spell_tag}
-use Rattle.c_tree.specs.declared.expression.Binary.TheViews.{out-Declarator, out-Member, out-NextDeclarator, out-NextParam, out-Specs, out-StructBody, out-EnumBody}
-use Rattle.c_tree.proofs.Shapes.{show_declarator, show_member, show_next_declarator, show_next_param, show_param_named, show_param_unnamed, show_spec_word, show_spec_reference, show_spec_body, show_spec_type_name, show_spec_enum_reference, show_spec_enum_body, show_enum_body, show_specs, show_struct_body, show_suffix_array, show_suffix_array_unsized, show_suffix_empty, show_suffix_params, show_suffix_void}
+use Rattle.c_nodes.specs.Lists.{suffixes_of, more_members, more_params, more_enumerators}
+use Rattle.c_nodes.specs.Views.{cond_of, declarator_of, member_of, next_declarator_of, next_param_of, param_of, spec_of, specs_of, struct_body_of, suffix_of, enumerator_of, next_enumerator_of}
+use Rattle.c_nodes.specs.Words.{named, type_named, spell_pointers, spell_tag}
+use Rattle.c_nodes.specs.declared.expression.Binary.TheViews.{out-Declarator, out-Member, out-Specs, out-StructBody, out-EnumBody}
+use Rattle.c_nodes.proofs.Shapes.{show_declarator, show_member, show_param_named, show_param_unnamed, show_spec_word, show_spec_reference, show_spec_body, show_spec_type_name, show_spec_enum_reference, show_spec_enum_body, show_enum_body, show_specs, show_struct_body, show_suffix_array, show_suffix_array_unsized, show_suffix_empty, show_suffix_params, show_suffix_void}
 use Rattle.c_operate.specs.Tables.{known_of}
 use Rattle.type_rules.specs.Declarators.{members, spec_rule, specified}
 use Rattle.type_rules.specs.Faults as kind
@@ -43,10 +43,10 @@ members-loop-next-init t c = rw c.deref-next-items.ensures.value (steps.fields_b
 pub members-returns-in_err-field-2 : goal.members-returns-in_err-field-2
 members-returns-in_err-field-2 t c =
     let p = err_from_is_err_and c.from_residual-in_err-field-2.result c.from_residual-in_err-field-2.ensures.1 in
-    rw (p.1, p.2) (steps.fields_refused c.deref-next-items.result.now c.loop-next.next-index c.next-item.result (out-NextDeclarator c.next-item.result).comma (declarator_of (out-NextDeclarator c.next-item.result).declarator) (specified_of c.in_ok-specified.specified) c.args.structure (members (member_of c.args.member.now) c.args.structure (known_of c.args.checker.now)) (known_of c.loop-next.checker) c.in_err-field-2.field-0.0 c.loop-next-test.true c.next-item.is (show_next_declarator c.next-item.result) c.loop-next.invariant c.in_err-field-2.ensures)
+    rw (p.1, p.2) (steps.fields_refused c.deref-next-items.result.now c.loop-next.next-index c.next-item.result c.next-item.result.0 (declarator_of c.next-item.result.1) (specified_of c.in_ok-specified.specified) c.args.structure (members (member_of c.args.member.now) c.args.structure (known_of c.args.checker.now)) (known_of c.loop-next.checker) c.in_err-field-2.field-0.0 c.loop-next-test.true c.next-item.is refl c.loop-next.invariant c.in_err-field-2.ensures)
 
 pub members-loop-next-preserved : goal.members-loop-next-preserved
-members-loop-next-preserved t c = steps.fields_more c.deref-next-items.result.now c.loop-next.next-index c.next-item.result (out-NextDeclarator c.next-item.result).comma (declarator_of (out-NextDeclarator c.next-item.result).declarator) (specified_of c.in_ok-specified.specified) c.args.structure (members (member_of c.args.member.now) c.args.structure (known_of c.args.checker.now)) (known_of c.loop-next.checker) _ c.loop-next-test.true c.next-item.is (show_next_declarator c.next-item.result) c.loop-next.invariant c.in_ok-field-2.ensures
+members-loop-next-preserved t c = steps.fields_more c.deref-next-items.result.now c.loop-next.next-index c.next-item.result c.next-item.result.0 (declarator_of c.next-item.result.1) (specified_of c.in_ok-specified.specified) c.args.structure (members (member_of c.args.member.now) c.args.structure (known_of c.args.checker.now)) (known_of c.loop-next.checker) _ c.loop-next-test.true c.next-item.is refl c.loop-next.invariant c.in_ok-field-2.ensures
 
 pub members-returns : goal.members-returns
 members-returns t c = steps.fields_end c.deref-next-items.result.now c.loop-next.next-index (specified_of c.in_ok-specified.specified) c.args.structure (members (member_of c.args.member.now) c.args.structure (known_of c.args.checker.now)) (known_of c.loop-next.checker) c.loop-next-test.false c.loop-next.invariant
@@ -178,10 +178,10 @@ suffixes-returns t c = steps.suffixes_end c.args.suffixes.now c.loop-suffix.suff
 pub params-returns-in_err-param : goal.params-returns-in_err-param
 params-returns-in_err-param t c =
     let p = err_from_is_err_and c.from_residual.result c.from_residual.ensures.1 in
-    rw (p.1, p.2) (steps.params_refused c.args.others.now c.loop-next.next-index c.next-item.result (out-NextParam c.next-item.result).comma (param_of (out-NextParam c.next-item.result).param) c.args.bodies (map views.param_of c.loop-next.list.params.items) (steps.rest_params (map next_param_of c.args.others.now) c.args.bodies (map views.param_of c.args.list.now.params.items) (known_of c.args.checker.now)) (known_of c.loop-next.checker) c.in_err-param.field-0.0 c.loop-next-test.true c.next-item.is (show_next_param c.next-item.result) c.loop-next.invariant c.in_err-param.ensures)
+    rw (p.1, p.2) (steps.params_refused c.args.others.now c.loop-next.next-index c.next-item.result c.next-item.result.0 (param_of c.next-item.result.1) c.args.bodies (map views.param_of c.loop-next.list.params.items) (steps.rest_params (map next_param_of c.args.others.now) c.args.bodies (map views.param_of c.args.list.now.params.items) (known_of c.args.checker.now)) (known_of c.loop-next.checker) c.in_err-param.field-0.0 c.loop-next-test.true c.next-item.is refl c.loop-next.invariant c.in_err-param.ensures)
 
 pub params-loop-next-preserved : goal.params-loop-next-preserved
-params-loop-next-preserved t c = steps.params_more c.args.others.now c.loop-next.next-index c.next-item.result (out-NextParam c.next-item.result).comma (param_of (out-NextParam c.next-item.result).param) c.args.bodies (map views.param_of c.loop-next.list.params.items) _ (steps.rest_params (map next_param_of c.args.others.now) c.args.bodies (map views.param_of c.args.list.now.params.items) (known_of c.args.checker.now)) (known_of c.loop-next.checker) _ c.loop-next-test.true c.next-item.is (show_next_param c.next-item.result) c.loop-next.invariant c.in_ok-param.ensures
+params-loop-next-preserved t c = steps.params_more c.args.others.now c.loop-next.next-index c.next-item.result c.next-item.result.0 (param_of c.next-item.result.1) c.args.bodies (map views.param_of c.loop-next.list.params.items) _ (steps.rest_params (map next_param_of c.args.others.now) c.args.bodies (map views.param_of c.args.list.now.params.items) (known_of c.args.checker.now)) (known_of c.loop-next.checker) _ c.loop-next-test.true c.next-item.is refl c.loop-next.invariant c.in_ok-param.ensures
 
 pub params-returns : goal.params-returns
 params-returns t c = steps.params_end c.args.others.now c.loop-next.next-index c.args.bodies (map views.param_of c.loop-next.list.params.items) (steps.rest_params (map next_param_of c.args.others.now) c.args.bodies (map views.param_of c.args.list.now.params.items) (known_of c.args.checker.now)) (known_of c.loop-next.checker) c.loop-next-test.false c.loop-next.invariant

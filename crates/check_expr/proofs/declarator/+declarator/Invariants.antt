@@ -1,5 +1,5 @@
 use Rattle.std.proofs.Common.{◌≡◌, drop, map}
-use Rattle.c_tree.specs.Views.{spec_of, specs_of, member_of, struct_body_of, next_declarator_of, suffix_of, next_param_of}
+use Rattle.c_nodes.specs.Views.{spec_of, specs_of, member_of, struct_body_of, next_declarator_of, suffix_of, next_param_of}
 use Rattle.c_operate.specs.Tables.{known_of}
 use Rattle.type_rules.specs.Declarators.{specified, members}
 use Rattle.type_rules.specs.Specifiers.{specs_line}

@@ -1,9 +1,9 @@
 use Rattle.std.proofs.Common.{◌+◌, drop, map, Ok, refl, sym, ap, ◌∙◌}
 use Rattle.std.proofs.lemmas.Result.{err_from_is_err_and}
 use Rattle.c_token.specs.declared.token.TokKind.TheVariants as kinds
-use Rattle.c_tree.specs.Words.{signed, named, spell_constant}
-use Rattle.c_tree.specs.Views.{assign_of, binary_of, choice_of, cond_of, expr_of, next_assign_of, next_operand_of, operand_of as tree_operand_of, postfix_suffix_of, prefix_of, primary_of, target_of, type_name_of}
-use Rattle.c_tree.proofs.Shapes.{show_assign, show_binary_operand, show_binary_chain, show_cast, show_choice, show_cond, show_expr, show_next_assign, show_next_operand, show_operand_postfix, show_operand_sizeof_type, show_postfix, show_postfix_suffix_index, show_postfix_suffix_call_bare, show_postfix_suffix_call, show_postfix_suffix_member, show_postfix_suffix_step, show_primary_name, show_primary_constant, show_primary_group, show_target}
+use Rattle.c_nodes.specs.Words.{signed, named, spell_constant}
+use Rattle.c_nodes.specs.Views.{assign_of, binary_of, choice_of, cond_of, expr_of, next_assign_of, next_operand_of, operand_of as tree_operand_of, postfix_suffix_of, prefix_of, primary_of, target_of, type_name_of}
+use Rattle.c_nodes.proofs.Shapes.{show_assign, show_binary_operand, show_binary_chain, show_cast, show_choice, show_cond, show_expr, show_operand_postfix, show_operand_sizeof_type, show_postfix, show_postfix_suffix_index, show_postfix_suffix_call_bare, show_postfix_suffix_call, show_postfix_suffix_member, show_postfix_suffix_step, show_primary_name, show_primary_constant, show_primary_group}
 use Rattle.c_operate.specs.Tables.{known_of}
 use Rattle.c_operate.specs.Terms.{operand_of, term_of}
 use Rattle.check_expr.specs.Folds.{barely, sequenced_from, combined_from, arguments_from, arguments_read, sides_from, choices_from}
@@ -13,13 +13,13 @@ use Rattle.check_expr.proofs.Clauses.{judged_leaf, judged_group, behind_index, b
 use Rattle.check_expr.proofs.Folded.{judged_listed, judged_arguments, spread, spread_whole, judged_joined, judged_posted, judged_assigned, judged_chosen, judged_prefixed}
 use Rattle.check_expr.proofs.Runs.{unseen}
 use Rattle.check_expr.proofs.Signs.{alone}
-use Rattle.c_tree.specs.Lists.{posted, prefixed, joined, listed, chosen, assigned}
-use Rattle.c_tree.specs.Trees as tree
+use Rattle.c_nodes.specs.Lists.{posted, prefixed, joined, listed, chosen, assigned}
+use Rattle.c_nodes.specs.Trees as tree
 use Rattle.type_rules.specs.Expressions.{judged, judged_behind, bracketed, selected}
 use Rattle.type_rules.specs.Known.{given}
 use Rattle.type_rules.specs.Writes.{stepped, call}
-use Rattle.c_tree.specs.declared.expression.PostfixSuffix.TheVariants as PostfixSuffix
-use Rattle.c_tree.specs.declared.expression.Binary.TheViews.{out-Assign, out-Cast, out-Choice, out-Cond, out-Expr, out-NextOperand, out-Postfix}
+use Rattle.c_nodes.specs.declared.expression.PostfixSuffix.TheVariants as PostfixSuffix
+use Rattle.c_nodes.specs.declared.expression.Binary.TheViews.{out-Assign, out-Cast, out-Choice, out-Cond, out-Expr, out-Postfix}
 use Rattle.check_expr.proofs.expression.+expression.Goals as goal
 
 pub assigned-returns-in_err-targets : goal.assigned-returns-in_err-targets
@@ -124,33 +124,33 @@ primary-returns-in_ok-term-in-Group t c = sym (goes _ _ _ _ _ c.in_ok-term-in-Gr
 pub sequence-returns-in_err-right : goal.sequence-returns-in_err-right
 sequence-returns-in_err-right t c =
     let p = err_from_is_err_and c.from_residual-in_err-right.result c.from_residual-in_err-right.ensures.1 in
-    rw (p.1, p.2) (stops _ _ _ _ c.in_err-right.ensures (goes _ _ _ _ _ c.in_ok-dropped.ensures (next_of (λ bs. sequenced_from (term_of c.loop-next.left) bs (known_of c.loop-next.checker)) next_assign_of _ _ c.next-item.result _ _ c.loop-next-test.true c.next-item.is (show_next_assign c.next-item.result) c.loop-next.invariant)))
+    rw (p.1, p.2) (stops _ _ _ _ c.in_err-right.ensures (goes _ _ _ _ _ c.in_ok-dropped.ensures (next_of (λ bs. sequenced_from (term_of c.loop-next.left) bs (known_of c.loop-next.checker)) next_assign_of _ _ c.next-item.result _ _ c.loop-next-test.true c.next-item.is refl c.loop-next.invariant)))
 
 pub sequence-returns-in_err-right-2 : goal.sequence-returns-in_err-right-2
 sequence-returns-in_err-right-2 t c =
     let p = err_from_is_err_and c.from_residual-in_err-right-2.result c.from_residual-in_err-right-2.ensures.1 in
-    rw (p.1, p.2) (stops _ _ _ _ c.in_err-right-2.ensures (goes _ _ _ _ _ c.in_ok-right.ensures (goes _ _ _ _ _ c.in_ok-dropped.ensures (next_of (λ bs. sequenced_from (term_of c.loop-next.left) bs (known_of c.loop-next.checker)) next_assign_of _ _ c.next-item.result _ _ c.loop-next-test.true c.next-item.is (show_next_assign c.next-item.result) c.loop-next.invariant))))
+    rw (p.1, p.2) (stops _ _ _ _ c.in_err-right-2.ensures (goes _ _ _ _ _ c.in_ok-right.ensures (goes _ _ _ _ _ c.in_ok-dropped.ensures (next_of (λ bs. sequenced_from (term_of c.loop-next.left) bs (known_of c.loop-next.checker)) next_assign_of _ _ c.next-item.result _ _ c.loop-next-test.true c.next-item.is refl c.loop-next.invariant))))
 
 pub sequence-returns-in_err-left : goal.sequence-returns-in_err-left
 sequence-returns-in_err-left t c =
     let p = err_from_is_err_and c.from_residual-in_err-left.result c.from_residual-in_err-left.ensures.1 in
-    rw (p.1, p.2) (stops (λ u. sequenced_from u (map next_assign_of (drop (c.loop-next.next-index + 1) c.args.others.now))) _ _ _ (c.in_err-left.ensures (known_of c.used-in-loop-next.new.checker)) (goes _ _ _ _ _ c.in_ok-right-2.ensures (goes _ _ _ _ _ c.in_ok-right.ensures (goes _ _ _ _ _ c.in_ok-dropped.ensures (next_of (λ bs. sequenced_from (term_of c.loop-next.left) bs (known_of c.loop-next.checker)) next_assign_of _ _ c.next-item.result _ _ c.loop-next-test.true c.next-item.is (show_next_assign c.next-item.result) c.loop-next.invariant)))))
+    rw (p.1, p.2) (stops (λ u. sequenced_from u (map next_assign_of (drop (c.loop-next.next-index + 1) c.args.others.now))) _ _ _ (c.in_err-left.ensures (known_of c.used-in-loop-next.new.checker)) (goes _ _ _ _ _ c.in_ok-right-2.ensures (goes _ _ _ _ _ c.in_ok-right.ensures (goes _ _ _ _ _ c.in_ok-dropped.ensures (next_of (λ bs. sequenced_from (term_of c.loop-next.left) bs (known_of c.loop-next.checker)) next_assign_of _ _ c.next-item.result _ _ c.loop-next-test.true c.next-item.is refl c.loop-next.invariant)))))
 
 pub sequence-loop-next-preserved : goal.sequence-loop-next-preserved
-sequence-loop-next-preserved t c = goes (λ u. sequenced_from u (map next_assign_of (drop (c.loop-next.next-index + 1) c.args.others.now))) _ _ _ _ (c.in_ok-left.ensures (known_of c.used-in-loop-next.new.checker)) (goes _ _ _ _ _ c.in_ok-right-2.ensures (goes _ _ _ _ _ c.in_ok-right.ensures (goes _ _ _ _ _ c.in_ok-dropped.ensures (next_of (λ bs. sequenced_from (term_of c.loop-next.left) bs (known_of c.loop-next.checker)) next_assign_of _ _ c.next-item.result _ _ c.loop-next-test.true c.next-item.is (show_next_assign c.next-item.result) c.loop-next.invariant))))
+sequence-loop-next-preserved t c = goes (λ u. sequenced_from u (map next_assign_of (drop (c.loop-next.next-index + 1) c.args.others.now))) _ _ _ _ (c.in_ok-left.ensures (known_of c.used-in-loop-next.new.checker)) (goes _ _ _ _ _ c.in_ok-right-2.ensures (goes _ _ _ _ _ c.in_ok-right.ensures (goes _ _ _ _ _ c.in_ok-dropped.ensures (next_of (λ bs. sequenced_from (term_of c.loop-next.left) bs (known_of c.loop-next.checker)) next_assign_of _ _ c.next-item.result _ _ c.loop-next-test.true c.next-item.is refl c.loop-next.invariant))))
 
 pub places-returns-in_err-term : goal.places-returns-in_err-term
 places-returns-in_err-term t c =
     let p = err_from_is_err_and c.from_residual.result c.from_residual.ensures.1 in
-    rw (p.1, p.2) (stops _ _ _ _ c.in_err-term.ensures (next_of (λ bs. sides_from (map side_in c.loop-target.places.items) bs (known_of c.loop-target.checker)) target_of _ _ c.target-item.result _ _ c.loop-target-test.true c.target-item.is (show_target c.target-item.result) c.loop-target.invariant))
+    rw (p.1, p.2) (stops _ _ _ _ c.in_err-term.ensures (next_of (λ bs. sides_from (map side_in c.loop-target.places.items) bs (known_of c.loop-target.checker)) target_of _ _ c.target-item.result _ _ c.loop-target-test.true c.target-item.is refl c.loop-target.invariant))
 
 pub places-returns-in_err-refuse_table : goal.places-returns-in_err-refuse_table
 places-returns-in_err-refuse_table t c =
     let p = err_from_is_err_and c.from_residual-in_err-refuse_table.result c.from_residual-in_err-refuse_table.ensures.1 in
-    rw (p.1, p.2) (stops _ _ _ _ (c.in_err-refuse_table.ensures (known_of c.cast.new.checker)) (goes _ _ _ _ _ c.in_ok-term.ensures (next_of (λ bs. sides_from (map side_in c.loop-target.places.items) bs (known_of c.loop-target.checker)) target_of _ _ c.target-item.result _ _ c.loop-target-test.true c.target-item.is (show_target c.target-item.result) c.loop-target.invariant)))
+    rw (p.1, p.2) (stops _ _ _ _ (c.in_err-refuse_table.ensures (known_of c.cast.new.checker)) (goes _ _ _ _ _ c.in_ok-term.ensures (next_of (λ bs. sides_from (map side_in c.loop-target.places.items) bs (known_of c.loop-target.checker)) target_of _ _ c.target-item.result _ _ c.loop-target-test.true c.target-item.is refl c.loop-target.invariant)))
 
 pub places-loop-target-preserved : goal.places-loop-target-preserved
-places-loop-target-preserved t c = pushed sides_from side_in c.loop-target.places.items _ _ _ _ _ c.in_ok-push.ensures.items (goes _ _ _ _ _ (c.in_ok-refuse_table.ensures (known_of c.cast.new.checker)) (goes _ _ _ _ _ c.in_ok-term.ensures (next_of (λ bs. sides_from (map side_in c.loop-target.places.items) bs (known_of c.loop-target.checker)) target_of _ _ c.target-item.result _ _ c.loop-target-test.true c.target-item.is (show_target c.target-item.result) c.loop-target.invariant)))
+places-loop-target-preserved t c = pushed sides_from side_in c.loop-target.places.items _ _ _ _ _ c.in_ok-push.ensures.items (goes _ _ _ _ _ (c.in_ok-refuse_table.ensures (known_of c.cast.new.checker)) (goes _ _ _ _ _ c.in_ok-term.ensures (next_of (λ bs. sides_from (map side_in c.loop-target.places.items) bs (known_of c.loop-target.checker)) target_of _ _ c.target-item.result _ _ c.loop-target-test.true c.target-item.is refl c.loop-target.invariant)))
 
 pub choices-returns-in_err-condition : goal.choices-returns-in_err-condition
 choices-returns-in_err-condition t c =
@@ -178,33 +178,33 @@ choices-loop-choice-preserved t c = pushed choices_from choice_in c.loop-choice.
 pub chain-returns-in_err-b : goal.chain-returns-in_err-b
 chain-returns-in_err-b t c =
     let p = err_from_is_err_and c.from_residual-in_err-b.result c.from_residual-in_err-b.ensures.1 in
-    rw (p.1, p.2) (stops _ _ _ _ c.in_err-b.ensures (goes _ _ _ _ _ c.in_ok-a.ensures (next_of (λ bs. combined_from (term_of c.loop-next.left) bs (known_of c.loop-next.checker)) next_operand_of _ _ c.next-item.result _ _ c.loop-next-test.true c.next-item.is (show_next_operand c.next-item.result) c.loop-next.invariant)))
+    rw (p.1, p.2) (stops _ _ _ _ c.in_err-b.ensures (goes _ _ _ _ _ c.in_ok-a.ensures (next_of (λ bs. combined_from (term_of c.loop-next.left) bs (known_of c.loop-next.checker)) next_operand_of _ _ c.next-item.result _ _ c.loop-next-test.true c.next-item.is refl c.loop-next.invariant)))
 
 pub chain-returns-in_err-b-2 : goal.chain-returns-in_err-b-2
 chain-returns-in_err-b-2 t c =
     let p = err_from_is_err_and c.from_residual-in_err-b-2.result c.from_residual-in_err-b-2.ensures.1 in
-    rw (p.1, p.2) (stops _ _ _ _ c.in_err-b-2.ensures (goes _ _ _ _ _ c.in_ok-b.ensures (goes _ _ _ _ _ c.in_ok-a.ensures (next_of (λ bs. combined_from (term_of c.loop-next.left) bs (known_of c.loop-next.checker)) next_operand_of _ _ c.next-item.result _ _ c.loop-next-test.true c.next-item.is (show_next_operand c.next-item.result) c.loop-next.invariant))))
+    rw (p.1, p.2) (stops _ _ _ _ c.in_err-b-2.ensures (goes _ _ _ _ _ c.in_ok-b.ensures (goes _ _ _ _ _ c.in_ok-a.ensures (next_of (λ bs. combined_from (term_of c.loop-next.left) bs (known_of c.loop-next.checker)) next_operand_of _ _ c.next-item.result _ _ c.loop-next-test.true c.next-item.is refl c.loop-next.invariant))))
 
 pub chain-returns-in_err-left : goal.chain-returns-in_err-left
 chain-returns-in_err-left t c =
     let p = err_from_is_err_and c.from_residual-in_err-left.result c.from_residual-in_err-left.ensures.1 in
-    rw (p.1, p.2) (stops _ _ _ _ (c.in_err-left.ensures (known_of c.used-in-loop-next.new.checker)) (goes _ _ _ _ _ c.in_ok-b-2.ensures (goes _ _ _ _ _ c.in_ok-b.ensures (goes _ _ _ _ _ c.in_ok-a.ensures (next_of (λ bs. combined_from (term_of c.loop-next.left) bs (known_of c.loop-next.checker)) next_operand_of _ _ c.next-item.result _ _ c.loop-next-test.true c.next-item.is (show_next_operand c.next-item.result) c.loop-next.invariant)))))
+    rw (p.1, p.2) (stops _ _ _ _ (c.in_err-left.ensures (known_of c.used-in-loop-next.new.checker)) (goes _ _ _ _ _ c.in_ok-b-2.ensures (goes _ _ _ _ _ c.in_ok-b.ensures (goes _ _ _ _ _ c.in_ok-a.ensures (next_of (λ bs. combined_from (term_of c.loop-next.left) bs (known_of c.loop-next.checker)) next_operand_of _ _ c.next-item.result _ _ c.loop-next-test.true c.next-item.is refl c.loop-next.invariant)))))
 
 pub chain-loop-next-preserved : goal.chain-loop-next-preserved
-chain-loop-next-preserved t c = alone _ (out-NextOperand c.next-item.result).operator.no_comma _ _ _ _ _ _ _ (goes _ _ _ _ _ (c.in_ok-left.ensures (known_of c.used-in-loop-next.new.checker)) (goes _ _ _ _ _ c.in_ok-b-2.ensures (goes _ _ _ _ _ c.in_ok-b.ensures (goes _ _ _ _ _ c.in_ok-a.ensures (next_of (λ bs. combined_from (term_of c.loop-next.left) bs (known_of c.loop-next.checker)) next_operand_of _ _ c.next-item.result _ _ c.loop-next-test.true c.next-item.is (show_next_operand c.next-item.result) c.loop-next.invariant)))))
+chain-loop-next-preserved t c = alone _ c.next-item.result.0.no_comma _ _ _ _ _ _ _ (goes _ _ _ _ _ (c.in_ok-left.ensures (known_of c.used-in-loop-next.new.checker)) (goes _ _ _ _ _ c.in_ok-b-2.ensures (goes _ _ _ _ _ c.in_ok-b.ensures (goes _ _ _ _ _ c.in_ok-a.ensures (next_of (λ bs. combined_from (term_of c.loop-next.left) bs (known_of c.loop-next.checker)) next_operand_of _ _ c.next-item.result _ _ c.loop-next-test.true c.next-item.is refl c.loop-next.invariant)))))
 
 pub further_arguments-returns-in_err-argument : goal.further_arguments-returns-in_err-argument
 further_arguments-returns-in_err-argument t c =
     let p = err_from_is_err_and c.from_residual-in_err-argument.result c.from_residual-in_err-argument.ensures.1 in
-    rw (p.1, p.2) (stops _ _ _ _ c.in_err-argument.ensures (next_of (λ bs. arguments_from (map operand_of c.loop-next.arguments.items) bs (known_of c.loop-next.checker)) next_assign_of _ _ c.next-item.result _ _ c.loop-next-test.true c.next-item.is (show_next_assign c.next-item.result) c.loop-next.invariant))
+    rw (p.1, p.2) (stops _ _ _ _ c.in_err-argument.ensures (next_of (λ bs. arguments_from (map operand_of c.loop-next.arguments.items) bs (known_of c.loop-next.checker)) next_assign_of _ _ c.next-item.result _ _ c.loop-next-test.true c.next-item.is refl c.loop-next.invariant))
 
 pub further_arguments-returns-in_err-used : goal.further_arguments-returns-in_err-used
 further_arguments-returns-in_err-used t c =
     let p = err_from_is_err_and c.from_residual-in_err-used.result c.from_residual-in_err-used.ensures.1 in
-    rw (p.1, p.2) (stops _ _ _ _ c.in_err-used.ensures (goes _ _ _ _ _ c.in_ok-argument.ensures (next_of (λ bs. arguments_from (map operand_of c.loop-next.arguments.items) bs (known_of c.loop-next.checker)) next_assign_of _ _ c.next-item.result _ _ c.loop-next-test.true c.next-item.is (show_next_assign c.next-item.result) c.loop-next.invariant)))
+    rw (p.1, p.2) (stops _ _ _ _ c.in_err-used.ensures (goes _ _ _ _ _ c.in_ok-argument.ensures (next_of (λ bs. arguments_from (map operand_of c.loop-next.arguments.items) bs (known_of c.loop-next.checker)) next_assign_of _ _ c.next-item.result _ _ c.loop-next-test.true c.next-item.is refl c.loop-next.invariant)))
 
 pub further_arguments-loop-next-preserved : goal.further_arguments-loop-next-preserved
-further_arguments-loop-next-preserved t c = pushed arguments_from operand_of c.loop-next.arguments.items _ _ _ _ _ c.in_ok-push-2.ensures.items (goes _ _ _ _ _ c.in_ok-used.ensures (goes _ _ _ _ _ c.in_ok-argument.ensures (next_of (λ bs. arguments_from (map operand_of c.loop-next.arguments.items) bs (known_of c.loop-next.checker)) next_assign_of _ _ c.next-item.result _ _ c.loop-next-test.true c.next-item.is (show_next_assign c.next-item.result) c.loop-next.invariant)))
+further_arguments-loop-next-preserved t c = pushed arguments_from operand_of c.loop-next.arguments.items _ _ _ _ _ c.in_ok-push-2.ensures.items (goes _ _ _ _ _ c.in_ok-used.ensures (goes _ _ _ _ _ c.in_ok-argument.ensures (next_of (λ bs. arguments_from (map operand_of c.loop-next.arguments.items) bs (known_of c.loop-next.checker)) next_assign_of _ _ c.next-item.result _ _ c.loop-next-test.true c.next-item.is refl c.loop-next.invariant)))
 
 pub suffix-returns-in_err-whole-in-Index : goal.suffix-returns-in_err-whole-in-Index
 suffix-returns-in_err-whole-in-Index t c =

@@ -1,6 +1,6 @@
-use Rattle.c_tree.specs.Words.{named}
-use Rattle.c_tree.specs.declared.expression.Binary.TheViews.{out-Declarator}
-use Rattle.c_tree.proofs.Shapes.{show_declarator}
+use Rattle.c_nodes.specs.Words.{named}
+use Rattle.c_nodes.specs.declared.expression.Binary.TheViews.{out-Declarator}
+use Rattle.c_nodes.proofs.Shapes.{show_declarator}
 use Rattle.check_expr.proofs.Outlining.{line_some, line_none}
 use Rattle.check_expr.proofs.outline.line_of.Goals as goal
 

@@ -1,5 +1,5 @@
 use Rattle.std.proofs.Common.{◌≡◌, [], drop, map}
-use Rattle.c_tree.specs.Views.{prefix_of}
+use Rattle.c_nodes.specs.Views.{prefix_of}
 use Rattle.c_operate.specs.Tables.{known_of}
 use Rattle.check_expr.specs.Folds.{applied_from}
 use Rattle.check_expr.specs.Kept.{applied_of}

@@ -1,8 +1,8 @@
 use Rattle.std.proofs.Common.{sym, ap, ◌∙◌}
 use Rattle.std.proofs.lemmas.Result.{err_from_is_err_and}
-use Rattle.c_tree.specs.Trees as tree
-use Rattle.c_tree.specs.Views.{prefix_of, type_name_of}
-use Rattle.c_tree.proofs.Shapes.{show_prefix_operator, show_prefix_sizeof, show_prefix_cast}
+use Rattle.c_nodes.specs.Trees as tree
+use Rattle.c_nodes.specs.Views.{prefix_of, type_name_of}
+use Rattle.c_nodes.proofs.Shapes.{show_prefix_operator, show_prefix_sizeof, show_prefix_cast}
 use Rattle.type_rules.specs.Known.{given}
 use Rattle.c_operate.specs.Tables.{known_of}
 use Rattle.check_expr.specs.Folds.{AppliedCast, type_before}

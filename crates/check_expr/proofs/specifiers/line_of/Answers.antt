@@ -1,4 +1,4 @@
-use Rattle.c_tree.proofs.Shapes.{show_specs, show_spec_word, show_spec_reference, show_spec_body, show_struct_body, show_spec_type_name, show_spec_enum_reference, show_spec_enum_body, show_enum_body}
+use Rattle.c_nodes.proofs.Shapes.{show_specs, show_spec_word, show_spec_reference, show_spec_body, show_struct_body, show_spec_type_name, show_spec_enum_reference, show_spec_enum_body, show_enum_body}
 use Rattle.check_expr.proofs.specifiers.line_of.Goals as goal
 
 pub returns-in-Word : goal.returns-in-Word

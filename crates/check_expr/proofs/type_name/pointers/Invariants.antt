@@ -1,5 +1,5 @@
 use Rattle.std.proofs.Common.{◌≡◌, drop}
-use Rattle.c_tree.specs.Words.{spell_pointers}
+use Rattle.c_nodes.specs.Words.{spell_pointers}
 use Rattle.type_rules.specs.TypeNames.{with_pointers}
 use Rattle.c_operate.specs.Tables.{known_of}
 use Rattle.check_expr.proofs.type_name.pointers.Given as goal

@@ -1,5 +1,5 @@
 use Rattle.std.proofs.Common.{◌≡◌, ◌++◌, drop, map}
-use Rattle.c_tree.specs.Words.{Symbols, keyed}
+use Rattle.c_nodes.specs.Words.{Symbols, keyed}
 use Rattle.type_rules.specs.Known.{Known}
 use Rattle.type_rules.specs.TypeNames.{with_pointers}
 use Rattle.check_expr.proofs.type_name.with_qualifiers.Given as goal

@@ -1,4 +1,4 @@
-use Rattle.c_tree.proofs.Shapes.{made_cast}
+use Rattle.c_nodes.proofs.Shapes.{made_cast}
 use Rattle.parse_expr.proofs.build.cast.Goals as goal
 
 pub returns : goal.returns

@@ -1,4 +1,4 @@
-use Rattle.c_tree.proofs.Shapes.{made_declarator}
+use Rattle.c_nodes.proofs.Shapes.{made_declarator}
 use Rattle.parse_expr.proofs.build.declarator.Goals as goal
 
 pub returns : goal.returns

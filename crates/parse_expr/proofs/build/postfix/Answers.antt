@@ -1,4 +1,4 @@
-use Rattle.c_tree.proofs.Shapes.{made_postfix}
+use Rattle.c_nodes.proofs.Shapes.{made_postfix}
 use Rattle.parse_expr.proofs.build.postfix.Goals as goal
 
 pub returns : goal.returns

@@ -1,4 +1,4 @@
-use Rattle.c_tree.proofs.Shapes.{made_specs}
+use Rattle.c_nodes.proofs.Shapes.{made_specs}
 use Rattle.parse_expr.proofs.build.specs.Goals as goal
 
 pub returns : goal.returns

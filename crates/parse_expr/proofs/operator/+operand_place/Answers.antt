@@ -1,6 +1,6 @@
 use Rattle.std.proofs.Common.{ap, sym, ◌∙◌}
-use Rattle.c_tree.specs.Views.{binary_of}
-use Rattle.c_tree.specs.declared.expression.Binary.TheVariants.{Chain}
+use Rattle.c_nodes.specs.Views.{binary_of}
+use Rattle.c_nodes.specs.declared.expression.Binary.TheVariants.{Chain}
 use Rattle.parse_expr.proofs.Unary.{chain_alone, chain_is_not, same_err}
 use Rattle.parse_expr.proofs.operator.+operand_place.Goals as goal
 

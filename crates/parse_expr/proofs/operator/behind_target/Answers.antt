@@ -1,5 +1,5 @@
 use Rattle.std.proofs.Common.{ap, refl, ◌∙◌}
-use Rattle.c_tree.specs.Views.{cond_of}
+use Rattle.c_nodes.specs.Views.{cond_of}
 use Rattle.parse_expr.specs.Reader.{symbols_in}
 use Rattle.parse_expr.proofs.Unary.{no_target, same_err}
 use Rattle.parse_expr.proofs.operator.behind_target.Goals as goal

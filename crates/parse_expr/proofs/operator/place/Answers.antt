@@ -1,6 +1,6 @@
 use Rattle.std.proofs.Common.{ap, sym, refl, ◌∙◌}
-use Rattle.c_tree.specs.Views.{cond_of}
-use Rattle.c_tree.proofs.Shapes.{show_cond}
+use Rattle.c_nodes.specs.Views.{cond_of}
+use Rattle.c_nodes.proofs.Shapes.{show_cond}
 use Rattle.parse_expr.proofs.Unary.{choices_none, choices_same, choices_are_not, same_err}
 use Rattle.parse_expr.proofs.operator.place.Goals as goal
 

@@ -1,5 +1,5 @@
-use Rattle.c_tree.specs.Lists.{suffixes_of}
-use Rattle.c_tree.specs.Views.{specs_of, suffix_of}
+use Rattle.c_nodes.specs.Lists.{suffixes_of}
+use Rattle.c_nodes.specs.Views.{specs_of, suffix_of}
 use Rattle.std.proofs.Common.{map}
 use Rattle.parse_expr.proofs.Unary.{pointers_come, suffixes_come}
 use Rattle.parse_expr.proofs.pointer.is_bare_void.Goals as goal

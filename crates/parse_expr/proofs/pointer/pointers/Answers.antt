@@ -1,5 +1,5 @@
 use Rattle.std.proofs.Common.{◌<◌, ◌≤◌, length, refl, arith}
-use Rattle.c_tree.specs.Words.{spell_pointers}
+use Rattle.c_nodes.specs.Words.{spell_pointers}
 use Rattle.parse_expr.specs.Reader.{symbols_in}
 use Rattle.parse_expr.proofs.Pointers.{pointers_step, pointers_end}
 use Rattle.parse_expr.proofs.pointer.pointers.Goals as goal

@@ -1,5 +1,5 @@
 use Rattle.std.proofs.Common.{◌≡◌, ℕ, List, length}
-use Rattle.c_tree.specs.Words.{spell_pointers}
+use Rattle.c_nodes.specs.Words.{spell_pointers}
 use Rattle.parse_expr.specs.Reader.{symbols_in, pointers_at}
 use Rattle.parse_expr.specs.Parts.{in_front}
 use Rattle.parse_expr.proofs.pointer.pointers.Given as goal

@@ -1,5 +1,5 @@
 use Rattle.std.proofs.Common.{◌<◌, ◌≤◌, length, map, refl, arith}
-use Rattle.c_tree.specs.Words.{keyed}
+use Rattle.c_nodes.specs.Words.{keyed}
 use Rattle.parse_expr.specs.Reader.{symbols_in}
 use Rattle.parse_expr.proofs.Pointers.{qualifiers_step, qualifiers_end}
 use Rattle.parse_expr.proofs.pointer.qualifiers.Goals as goal

@@ -1,5 +1,5 @@
 use Rattle.std.proofs.Common.{◌≡◌, ◌≤◌, ℕ, List, length, map}
-use Rattle.c_tree.specs.Words.{keyed}
+use Rattle.c_nodes.specs.Words.{keyed}
 use Rattle.parse_expr.specs.Reader.{symbols_in, stars_at}
 use Rattle.parse_expr.specs.Parts.{in_front}
 use Rattle.parse_expr.proofs.pointer.qualifiers.Given as goal

@@ -4,13 +4,13 @@ use Rattle.c_token.specs.declared.token.TokKind.{TokKind}
 use Rattle.c_token.specs.declared.token.TokKind.TheVariants as kinds
 use Rattle.c_token.specs.declared.token.Keyword.{Keyword}
 use Rattle.c_token.specs.declared.token.Punct.{Punct}
-use Rattle.c_tree.specs.declared.word.Name.{Name}
-use Rattle.c_tree.specs.declared.word.Text.{Text}
-use Rattle.c_tree.specs.declared.word.Word.{Word}
-use Rattle.c_tree.specs.declared.word.Sign.{Sign}
-use Rattle.c_tree.specs.declared.word.Pointer.{Pointer}
-use Rattle.c_tree.specs.declared.word.Constant.{Constant}
-use Rattle.c_tree.specs.declared.word.Constant.TheVariants.{Int, Char}
+use Rattle.c_nodes.specs.declared.word.Name.{Name}
+use Rattle.c_nodes.specs.declared.word.Text.{Text}
+use Rattle.c_nodes.specs.declared.word.Word.{Word}
+use Rattle.c_nodes.specs.declared.word.Sign.{Sign}
+use Rattle.c_nodes.specs.declared.word.Pointer.{Pointer}
+use Rattle.c_nodes.specs.declared.word.Constant.{Constant}
+use Rattle.c_nodes.specs.declared.word.Constant.TheVariants.{Int, Char}
 use Rattle.c_token.specs.declared.token.Punct.TheVariants.{Star, Comma}
 
 -- A token as a tree has it: its kind, the bytes of a name or of a string (none of another token),

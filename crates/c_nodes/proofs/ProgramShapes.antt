@@ -1,28 +1,28 @@
 -- What each initializer and statement of the code is as pure data.
 use Rattle.std.proofs.Common.{◌≡◌, ℕ, Some, None, map, refl, sym, ap, ◌∙◌}
-use Rattle.c_tree.specs.Words.{quoted}
-use Rattle.c_tree.specs.Views.{assign_of}
-use Rattle.c_tree.specs.Programs as tree
-use Rattle.c_tree.specs.Programs.{InitTree, StatementTree, BlockTree, ArmTree}
-use Rattle.c_tree.specs.ProgramViews.{any_of, condition_of, head_of, label_of, more_inits, init_step, next_init_step, init_of, next_init_of, declaration_of, statements_of, arms_of, otherwise_in, InnerTree, LabelInner, StatementInner, items_of, statement_step, statement_of, switch_item_step, switch_item_of, arm_step, arm_of, block_step, block_of, else_arm_step, else_arm_of, if_chain_step, if_chain_of, otherwise_step, otherwise_of}
-use Rattle.c_tree.specs.declared.statement.Arm.{Arm}
-use Rattle.c_tree.specs.declared.statement.Block.{Block}
-use Rattle.c_tree.specs.declared.statement.ElseArm.{ElseArm}
-use Rattle.c_tree.specs.declared.statement.IfChain.{IfChain}
-use Rattle.c_tree.specs.declared.statement.Otherwise.{Otherwise}
-use Rattle.c_tree.specs.declared.statement.NextInit.{NextInit}
-use Rattle.c_tree.specs.declared.statement.Statement.TheVariants as Statement
-use Rattle.c_tree.specs.declared.statement.SwitchItem.TheVariants as SwitchItem
-use Rattle.c_tree.specs.declared.statement.Init.TheVariants as Init
-use Rattle.c_tree.specs.declared.statement.Statement.TheOpen as Open
-use Rattle.c_tree.specs.declared.statement.Init.TheOpen as OpenInit
-use Rattle.c_tree.specs.declared.statement.Statement.TheViews.{out-Arm, roll-Arm, out-Block, roll-Block, out-ElseArm, roll-ElseArm, out-IfChain, roll-IfChain, out-Otherwise, roll-Otherwise}
-use Rattle.c_tree.specs.declared.statement.Init.TheViews.{out-NextInit, roll-NextInit}
-use Rattle.c_tree.specs.declared.statement.Statement.TheFolds.{fold-Statement, fold-roll-Statement, fold-SwitchItem, fold-roll-SwitchItem, fold-roll-Arm, fold_out-Arm, fold-roll-Block, fold_out-Block, fold-roll-ElseArm, fold_out-ElseArm, fold-roll-IfChain, fold_out-IfChain, fold-roll-Otherwise, fold_out-Otherwise}
-use Rattle.c_tree.specs.declared.statement.Init.TheFolds.{fold-Init, fold-roll-Init, fold-roll-NextInit, fold_out-NextInit}
-use Rattle.c_tree.specs.declared.statement.Statement.TheFolds.{map-IfChain}
-use Rattle.c_tree.specs.declared.statement.Statement as StatementOf
-use Rattle.c_tree.specs.declared.statement.SwitchItem as SwitchItemOf
+use Rattle.c_nodes.specs.Words.{quoted}
+use Rattle.c_nodes.specs.Views.{assign_of}
+use Rattle.c_nodes.specs.Programs as tree
+use Rattle.c_nodes.specs.Programs.{InitTree, StatementTree, BlockTree, ArmTree}
+use Rattle.c_nodes.specs.ProgramViews.{any_of, condition_of, head_of, label_of, more_inits, init_step, next_init_step, init_of, next_init_of, declaration_of, statements_of, arms_of, otherwise_in, InnerTree, LabelInner, StatementInner, items_of, statement_step, statement_of, switch_item_step, switch_item_of, arm_step, arm_of, block_step, block_of, else_arm_step, else_arm_of, if_chain_step, if_chain_of, otherwise_step, otherwise_of}
+use Rattle.c_nodes.specs.declared.statement.Arm.{Arm}
+use Rattle.c_nodes.specs.declared.statement.Block.{Block}
+use Rattle.c_nodes.specs.declared.statement.ElseArm.{ElseArm}
+use Rattle.c_nodes.specs.declared.statement.IfChain.{IfChain}
+use Rattle.c_nodes.specs.declared.statement.Otherwise.{Otherwise}
+use Rattle.c_nodes.specs.declared.statement.NextInit.{NextInit}
+use Rattle.c_nodes.specs.declared.statement.Statement.TheVariants as Statement
+use Rattle.c_nodes.specs.declared.statement.SwitchItem.TheVariants as SwitchItem
+use Rattle.c_nodes.specs.declared.statement.Init.TheVariants as Init
+use Rattle.c_nodes.specs.declared.statement.Statement.TheOpen as Open
+use Rattle.c_nodes.specs.declared.statement.Init.TheOpen as OpenInit
+use Rattle.c_nodes.specs.declared.statement.Statement.TheViews.{out-Arm, roll-Arm, out-Block, roll-Block, out-ElseArm, roll-ElseArm, out-IfChain, roll-IfChain, out-Otherwise, roll-Otherwise}
+use Rattle.c_nodes.specs.declared.statement.Init.TheViews.{out-NextInit, roll-NextInit}
+use Rattle.c_nodes.specs.declared.statement.Statement.TheFolds.{fold-Statement, fold-roll-Statement, fold-SwitchItem, fold-roll-SwitchItem, fold-roll-Arm, fold_out-Arm, fold-roll-Block, fold_out-Block, fold-roll-ElseArm, fold_out-ElseArm, fold-roll-IfChain, fold_out-IfChain, fold-roll-Otherwise, fold_out-Otherwise}
+use Rattle.c_nodes.specs.declared.statement.Init.TheFolds.{fold-Init, fold-roll-Init, fold-roll-NextInit, fold_out-NextInit}
+use Rattle.c_nodes.specs.declared.statement.Statement.TheFolds.{map-IfChain}
+use Rattle.c_nodes.specs.declared.statement.Statement as StatementOf
+use Rattle.c_nodes.specs.declared.statement.SwitchItem as SwitchItemOf
 
 pub show_init_assign : (assign : _) → init_of (Init.Assign assign) ≡ tree.Value (assign_of assign)
 unfolding init_of next_init_of

@@ -4,8 +4,8 @@
 use Rattle.std.specs.Prelude.{◌≡◌, ℕ, Bool, true, false, ◌&&◌, if◌then◌else◌, ◌<◌, ◌≤◌, [], ◌∷◌, ◌++◌, Option}
 use Rattle.c_token.specs.declared.token.Keyword.TheVariants as words
 use Rattle.c_token.specs.declared.token.Punct.TheVariants as marks
-use Rattle.c_tree.specs.Words.{Symbol, Symbols, key, punct, spelled_comma}
-use Rattle.c_tree.specs.Kinds.{is_punct, is_key, is_name, is_type_name, is_leaf, level_of, is_assignment, is_prefix, is_step, is_field, is_qualifier, is_spec_word}
+use Rattle.c_nodes.specs.Words.{Symbol, Symbols, key, punct, spelled_comma}
+use Rattle.c_nodes.specs.Kinds.{is_punct, is_key, is_name, is_type_name, is_leaf, level_of, is_assignment, is_prefix, is_step, is_field, is_qualifier, is_spec_word}
 
 mutual
   -- an expression

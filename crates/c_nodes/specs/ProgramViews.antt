@@ -1,37 +1,37 @@
 -- The initializers, declarations, statements and units that the code has, as pure data.
 use Rattle.std.specs.Prelude.{ℕ, List, [], ◌∷◌, Option, Some, None, map}
 use Rattle.std.specs.Global.{Box}
-use Rattle.c_tree.specs.Words.{quoted}
-use Rattle.c_tree.specs.Trees.{Tree}
-use Rattle.c_tree.specs.Views.{expr_of, cond_of, assign_of, specs_of, declarator_of}
-use Rattle.c_tree.specs.Programs as tree
-use Rattle.c_tree.specs.Programs.{ConditionTree, HeadTree, LabelTree, InitTree, MoreInits, NoInit, AndInit, BegunTree, DeclaredTrees, DeclarationTree, StatementTree, BlockTree, Statements, NoStatement, AndStatement, ArmTree, Arms, NoElse, Else, ElseIf, Items, NoItem, AndLabel, AndInner, ItemTree}
-use Rattle.c_tree.specs.declared.expression.Expr.{Expr}
-use Rattle.c_tree.specs.declared.statement.Unit.{Unit}
-use Rattle.c_tree.specs.declared.statement.Item.{Item}
-use Rattle.c_tree.specs.declared.statement.Declaration.{Declaration}
-use Rattle.c_tree.specs.declared.statement.Declared.{Declared}
-use Rattle.c_tree.specs.declared.statement.NextInitDeclarator.{NextInitDeclarator}
-use Rattle.c_tree.specs.declared.statement.InitDeclarator.{InitDeclarator}
-use Rattle.c_tree.specs.declared.statement.EqualsInit.{EqualsInit}
-use Rattle.c_tree.specs.declared.statement.Init.{Init}
-use Rattle.c_tree.specs.declared.statement.NextInit.{NextInit}
-use Rattle.c_tree.specs.declared.statement.Condition.{Condition}
-use Rattle.c_tree.specs.declared.statement.ForHead.{ForHead}
-use Rattle.c_tree.specs.declared.statement.Label.{Label}
-use Rattle.c_tree.specs.declared.statement.Statement.{Statement}
-use Rattle.c_tree.specs.declared.statement.SwitchItem.{SwitchItem}
-use Rattle.c_tree.specs.declared.statement.Arm.{Arm}
-use Rattle.c_tree.specs.declared.statement.Block.{Block}
-use Rattle.c_tree.specs.declared.statement.ElseArm.{ElseArm}
-use Rattle.c_tree.specs.declared.statement.IfChain.{IfChain}
-use Rattle.c_tree.specs.declared.statement.Otherwise.{Otherwise}
-use Rattle.c_tree.specs.declared.statement.Item.TheVariants as items
-use Rattle.c_tree.specs.declared.statement.Label.TheVariants as labels
-use Rattle.c_tree.specs.declared.statement.Init.TheOpen as OpenInit
-use Rattle.c_tree.specs.declared.statement.Init.TheFolds.{fold-Init, fold-NextInit}
-use Rattle.c_tree.specs.declared.statement.Statement.TheOpen as Open
-use Rattle.c_tree.specs.declared.statement.Statement.TheFolds.{fold-Statement, fold-SwitchItem, fold-Arm, fold-Block, fold-ElseArm, fold-IfChain, fold-Otherwise}
+use Rattle.c_nodes.specs.Words.{quoted}
+use Rattle.c_nodes.specs.Trees.{Tree}
+use Rattle.c_nodes.specs.Views.{expr_of, cond_of, assign_of, specs_of, declarator_of}
+use Rattle.c_nodes.specs.Programs as tree
+use Rattle.c_nodes.specs.Programs.{ConditionTree, HeadTree, LabelTree, InitTree, MoreInits, NoInit, AndInit, BegunTree, DeclaredTrees, DeclarationTree, StatementTree, BlockTree, Statements, NoStatement, AndStatement, ArmTree, Arms, NoElse, Else, ElseIf, Items, NoItem, AndLabel, AndInner, ItemTree}
+use Rattle.c_nodes.specs.declared.expression.Expr.{Expr}
+use Rattle.c_nodes.specs.declared.statement.Unit.{Unit}
+use Rattle.c_nodes.specs.declared.statement.Item.{Item}
+use Rattle.c_nodes.specs.declared.statement.Declaration.{Declaration}
+use Rattle.c_nodes.specs.declared.statement.Declared.{Declared}
+use Rattle.c_nodes.specs.declared.statement.NextInitDeclarator.{NextInitDeclarator}
+use Rattle.c_nodes.specs.declared.statement.InitDeclarator.{InitDeclarator}
+use Rattle.c_nodes.specs.declared.statement.EqualsInit.{EqualsInit}
+use Rattle.c_nodes.specs.declared.statement.Init.{Init}
+use Rattle.c_nodes.specs.declared.statement.NextInit.{NextInit}
+use Rattle.c_nodes.specs.declared.statement.Condition.{Condition}
+use Rattle.c_nodes.specs.declared.statement.ForHead.{ForHead}
+use Rattle.c_nodes.specs.declared.statement.Label.{Label}
+use Rattle.c_nodes.specs.declared.statement.Statement.{Statement}
+use Rattle.c_nodes.specs.declared.statement.SwitchItem.{SwitchItem}
+use Rattle.c_nodes.specs.declared.statement.Arm.{Arm}
+use Rattle.c_nodes.specs.declared.statement.Block.{Block}
+use Rattle.c_nodes.specs.declared.statement.ElseArm.{ElseArm}
+use Rattle.c_nodes.specs.declared.statement.IfChain.{IfChain}
+use Rattle.c_nodes.specs.declared.statement.Otherwise.{Otherwise}
+use Rattle.c_nodes.specs.declared.statement.Item.TheVariants as items
+use Rattle.c_nodes.specs.declared.statement.Label.TheVariants as labels
+use Rattle.c_nodes.specs.declared.statement.Init.TheOpen as OpenInit
+use Rattle.c_nodes.specs.declared.statement.Init.TheFolds.{fold-Init, fold-NextInit}
+use Rattle.c_nodes.specs.declared.statement.Statement.TheOpen as Open
+use Rattle.c_nodes.specs.declared.statement.Statement.TheFolds.{fold-Statement, fold-SwitchItem, fold-Arm, fold-Block, fold-ElseArm, fold-IfChain, fold-Otherwise}
 
 -- an expression that may be left out
 abbrev pub any_of : Option Expr → Option Tree

@@ -1,8 +1,8 @@
 -- Trees from the lists that the code has: what is behind one another there stands in one another here.
 use Rattle.std.specs.Prelude.{ℕ, List, [], ◌∷◌}
 use Rattle.c_token.specs.declared.token.Punct.TheVariants as marks
-use Rattle.c_tree.specs.Words.{Symbol, punct}
-use Rattle.c_tree.specs.Trees.{Tree, Behind, Before, Join, Choose, Assign, Post, Pre, SpecTree, MoreSpecs, NoSpec, AndSpec, MemberTree, MoreMembers, NoMember, AndMember, DeclaratorTree, MoreDeclarators, NoDeclarator, AndDeclarator, SuffixTree, SuffixTrees, NoSuffix, AndSuffix, ParamTree, MoreParams, NoParam, AndParam, EnumeratorTree, MoreEnumerators, NoEnumerator, AndEnumerator}
+use Rattle.c_nodes.specs.Words.{Symbol, punct}
+use Rattle.c_nodes.specs.Trees.{Tree, Behind, Before, Join, Choose, Assign, Post, Pre, SpecTree, MoreSpecs, NoSpec, AndSpec, MemberTree, MoreMembers, NoMember, AndMember, DeclaratorTree, MoreDeclarators, NoDeclarator, AndDeclarator, SuffixTree, SuffixTrees, NoSuffix, AndSuffix, ParamTree, MoreParams, NoParam, AndParam, EnumeratorTree, MoreEnumerators, NoEnumerator, AndEnumerator}
 
 -- an operand with the postfixes behind it
 abbrev pub posted : Tree → List Post → Tree

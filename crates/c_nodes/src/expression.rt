@@ -1,6 +1,7 @@
 //! Expressions, and the declarators and type names that stand in them and hold them.
 //!
-//! A field of type `u32` that is named after a token is the line of that token.
+//! A field of type `u32` that is named after a token is the line of that token. What stands in a list behind a token or
+//! before one is a pair: types that reach one another are dear to prove by their number, and a pair adds none to them.
 
 use crate::word::{Constant, Infix, Name, Pointer, Sign, Word};
 
@@ -55,13 +56,8 @@ pub struct EnumBody {
     pub closing: u32,
 }
 
-/// A comma and an enumerator.
-#[cycle(expression)]
-#[derive(Drop)]
-pub struct NextEnumerator {
-    pub comma: u32,
-    pub enumerator: Enumerator,
-}
+/// The line of a comma, and an enumerator.
+pub type NextEnumerator = (u32, Enumerator);
 
 /// The name of a number, with its value or without one.
 #[cycle(expression)]
@@ -87,13 +83,8 @@ pub struct Member {
     pub semicolon: u32,
 }
 
-/// A comma and a declarator.
-#[cycle(expression)]
-#[derive(Drop)]
-pub struct NextDeclarator {
-    pub comma: u32,
-    pub declarator: Declarator,
-}
+/// The line of a comma, and a declarator.
+pub type NextDeclarator = (u32, Declarator);
 
 /// A declarator: pointers, the name that it declares, and suffixes (ISO/IEC 9899:1990, 6.5.4).
 #[cycle(expression)]
@@ -134,13 +125,8 @@ pub enum Suffix {
     },
 }
 
-/// A comma and a parameter.
-#[cycle(expression)]
-#[derive(Drop)]
-pub struct NextParam {
-    pub comma: u32,
-    pub param: Param,
-}
+/// The line of a comma, and a parameter.
+pub type NextParam = (u32, Param);
 
 /// A parameter, with a name or without one.
 #[cycle(expression)]
@@ -157,13 +143,8 @@ pub enum Param {
     },
 }
 
-/// The name of a type in a cast or in `sizeof` (ISO/IEC 9899:1990, 6.5.5).
-#[cycle(expression)]
-#[derive(Drop)]
-pub struct TypeName {
-    pub specs: Specs,
-    pub pointers: Vec<Pointer>,
-}
+/// The name of a type in a cast or in `sizeof` (ISO/IEC 9899:1990, 6.5.5): specifiers and pointers.
+pub type TypeName = (Specs, Vec<Pointer>);
 
 /// An expression: assignments between commas (ISO/IEC 9899:1990, 6.3.17). The arguments of a call
 /// have the same form.
@@ -174,13 +155,8 @@ pub struct Expr {
     pub others: Vec<NextAssign>,
 }
 
-/// A comma and an assignment.
-#[cycle(expression)]
-#[derive(Drop)]
-pub struct NextAssign {
-    pub comma: u32,
-    pub assign: Assign,
-}
+/// The line of a comma, and an assignment.
+pub type NextAssign = (u32, Assign);
 
 /// A value, and what it is assigned to, the outermost first (ISO/IEC 9899:1990, 6.3.16).
 #[cycle(expression)]
@@ -191,12 +167,7 @@ pub struct Assign {
 }
 
 /// The left side of an assignment, and its operator.
-#[cycle(expression)]
-#[derive(Drop)]
-pub struct Target {
-    pub place: Cast,
-    pub operator: Sign,
-}
+pub type Target = (Cast, Sign);
 
 /// Choices by `?` and `:`, the outermost first, and what is left where no condition holds
 /// (ISO/IEC 9899:1990, 6.3.15).
@@ -230,12 +201,7 @@ pub enum Binary {
 }
 
 /// A binary operator, and its right operand.
-#[cycle(expression)]
-#[derive(Drop)]
-pub struct NextOperand {
-    pub operator: Infix,
-    pub operand: Binary,
-}
+pub type NextOperand = (Infix, Binary);
 
 /// An operand with its prefixes, the outermost first (ISO/IEC 9899:1990, 6.3.3 and 6.3.4).
 #[cycle(expression)]

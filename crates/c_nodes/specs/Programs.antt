@@ -4,9 +4,9 @@
 use Rattle.std.specs.Prelude.{◌≡◌, ℕ, suc, max, Bool, true, false, ◌≤◌, List, [], ◌∷◌, ◌++◌, Option, Some, None}
 use Rattle.c_token.specs.declared.token.Keyword.TheVariants as words
 use Rattle.c_token.specs.declared.token.Punct.TheVariants as marks
-use Rattle.c_tree.specs.Words.{Symbol, Symbols, key, punct, spelled_comma}
-use Rattle.c_tree.specs.Kinds.{is_text}
-use Rattle.c_tree.specs.Trees.{Tree, SpecTrees, DeclaratorTree, Declares, SuffixTrees, NoSuffix, AndSuffix, SuffixTree, Unsized, Sized, Empty, VoidOnly, Params, spelled, spelled_specs, spelled_declarator, IsTree, AreSpecs, IsDeclarator, rank}
+use Rattle.c_nodes.specs.Words.{Symbol, Symbols, key, punct, spelled_comma}
+use Rattle.c_nodes.specs.Kinds.{is_text}
+use Rattle.c_nodes.specs.Trees.{Tree, SpecTrees, DeclaratorTree, Declares, SuffixTrees, NoSuffix, AndSuffix, SuffixTree, Unsized, Sized, Empty, VoidOnly, Params, spelled, spelled_specs, spelled_declarator, IsTree, AreSpecs, IsDeclarator, rank}
 
 -- ---- expressions that stand alone
 

@@ -1,7 +1,7 @@
 //! The tokens that a tree keeps: each with its line.
 
 ghost use Rattle.std.specs.Prelude.{◌<◌, ◌≤◌};
-ghost use Rattle.c_tree.specs.Kinds.{tier_of};
+ghost use Rattle.c_nodes.specs.Kinds.{tier_of};
 
 use c_token::{Keyword, Punct};
 

@@ -1,5 +1,0 @@
-use Rattle.c_tree.proofs.Shapes.{made_next_enumerator}
-use Rattle.parse_expr.proofs.build.next_enumerator.Goals as goal
-
-pub returns : goal.returns
-returns c = made_next_enumerator _

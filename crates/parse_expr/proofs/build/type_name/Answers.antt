@@ -1,5 +1,0 @@
-use Rattle.c_tree.proofs.Shapes.{made_type_name}
-use Rattle.parse_expr.proofs.build.type_name.Goals as goal
-
-pub returns : goal.returns
-returns c = made_type_name _
