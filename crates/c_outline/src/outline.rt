@@ -1,9 +1,8 @@
 //! What a declarator makes of a type (ISO/IEC 9899:1990, 6.5.4).
 
-ghost use Rattle.std.specs.Prelude.{◌≡◌, ◌||◌, true, [], map, IfErr, IfOk};
+ghost use Rattle.std.specs.Prelude.{◌≡◌, ◌||◌, true, [], map, IfOk};
 ghost use Rattle.c_tables.specs.Answers.{Answers, Learns};
 ghost use Rattle.c_tables.specs.Tables.{known_of, scope_of, scopes_in, types_in};
-ghost use Rattle.c_tables.specs.declared.error.CheckError.TheVariants.{NoMemory};
 ghost use Rattle.c_typed.specs.Sameness as sameness;
 ghost use Rattle.type_rules.specs.Known.{Known, tried};
 ghost use Rattle.type_rules.specs.Outlines as rule;

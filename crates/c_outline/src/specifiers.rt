@@ -1,6 +1,6 @@
 //! Specifiers of declarations (ISO/IEC 9899:1990, 6.5.1 to 6.5.3).
 
-ghost use Rattle.std.specs.Prelude.{◌≡◌, ◌&&◌, ◌||◌, not, []};
+ghost use Rattle.std.specs.Prelude.{◌≡◌, ◌&&◌, ◌||◌, not};
 ghost use Rattle.std.specs.Option.{option_map};
 ghost use Rattle.c_tables.specs.Answers.{Answers};
 ghost use Rattle.type_rules.specs.Known.{Known};

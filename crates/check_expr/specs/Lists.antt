@@ -1,20 +1,14 @@
 -- The parts of declarators between the rules' own.
-use Rattle.std.specs.Prelude.{◌≡◌, ℕ, Bool, true, if◌then◌else◌, List, Option, Some, None, Result, Ok, Err}
+use Rattle.std.specs.Prelude.{ℕ, Bool, true, if◌then◌else◌}
 use Rattle.c_token.specs.declared.token.Keyword.{Keyword}
 use Rattle.c_token.specs.declared.token.Keyword.TheVariants as words
 use Rattle.c_token.specs.declared.token.TokKind.TheVariants as kinds
 use Rattle.c_tree.specs.Kinds.{is_key}
 use Rattle.c_tree.specs.Trees.{SpecTree, TypeTree}
 use Rattle.c_tree.specs.Trees as tree
-use Rattle.c_tables.specs.Answers.{Refuses}
-use Rattle.c_tables.specs.declared.error.CheckError.{CheckError}
 use Rattle.c_typed.specs.declared.types.Qualified.{Qualified}
-use Rattle.c_typed.specs.declared.types.Ty.{Ty}
-use Rattle.c_typed.specs.declared.types.Ty.TheVariants.{Array}
 use Rattle.type_rules.specs.Declarators.{members, more_members, enum_body}
-use Rattle.type_rules.specs.Faults.{Fault}
 use Rattle.type_rules.specs.Known.{Closed, Known, Rule, known_here, ◌>>=◌}
-use Rattle.type_rules.specs.Outlines.{Param, Made, ArrayMade, FunctionMade, Declared, ObjectDeclared, FunctionDeclared, Outline, behind, pointer_outline}
 use Rattle.type_rules.specs.Places.{size_of_type}
 use Rattle.type_rules.specs.Rows.{set_progress}
 use Rattle.type_rules.specs.Specifiers.{InFile}

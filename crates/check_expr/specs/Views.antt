@@ -13,5 +13,7 @@ abbrev pub unlisted : Result (Term × Known) Fault → Result (Term × Known) Fa
 unlisted (Ok x) = Ok (record x.0 { listed = [] }, x.1)
 unlisted (Err fault) = Err fault
 
+-- ---- declarations
+
 abbrev pub context_of : Context → rule.Context
 context_of c = record { site = site_of c.site; bodies = c.bodies }
