@@ -16,11 +16,11 @@ use Rattle.type_rules.specs.Slots as rule
 use Rattle.type_rules.specs.Slots.{Slot, Begun, with_item, value_line, text_of}
 use Rattle.type_rules.specs.Terms.{Operand}
 use Rattle.type_rules.specs.Writes.{structure_read}
-use Rattle.c_operate.specs.Answers.{Answers, Refuses}
-use Rattle.c_operate.specs.declared.error.CheckError.{CheckError}
-use Rattle.c_operate.specs.declared.error.CheckError.TheVariants.{NoMemory}
+use Rattle.c_tables.specs.Answers.{Answers, Refuses}
+use Rattle.c_tables.specs.declared.error.CheckError.{CheckError}
+use Rattle.c_tables.specs.declared.error.CheckError.TheVariants.{NoMemory}
 use Rattle.c_check.specs.Views.{begin_scalar}
-use Rattle.c_operate.proofs.Steps.{then_refuses, then_tried_false}
+use Rattle.c_tables.proofs.Steps.{then_refuses, then_tried_false}
 
 -- a call that only puts something
 pub put_answers : (result : Result Unit CheckError) (now made : Begun) (known : Known) (said : Result (Begun × Known) Fault) → OnOk result (now ≡ made) → IfErr result (λ e. e ≡ NoMemory) → said ≡ Ok (made, known) → Answers (λ _. now) result known said

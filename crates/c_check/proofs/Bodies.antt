@@ -34,8 +34,8 @@ use Rattle.type_rules.specs.Faults.{Fault}
 use Rattle.type_rules.specs.Known.{Known, Rule, given, go_on, ◌>>=◌}
 use Rattle.type_rules.specs.Names.{enter, leave}
 use Rattle.type_rules.specs.Statements as rule
-use Rattle.c_operate.specs.Answers.{Refuses}
-use Rattle.c_operate.specs.declared.error.CheckError.{CheckError}
+use Rattle.c_tables.specs.Answers.{Refuses}
+use Rattle.c_tables.specs.declared.error.CheckError.{CheckError}
 use Rattle.c_check.specs.StatementViews.{any_statement, arms_behind, block_line, block_list, chain_arms, do_rule, for_rule, if_of, scoped_rule, switch_of, switch_rule, switched_rule, while_rule}
 use Rattle.c_check.proofs.Answering.{goes, stops, refuses_as, next_of, none_left}
 use Rattle.c_check.proofs.Items.{arms_else, arm_more, arm_refuses, items_end, label_more, label_refuses, inner_more, inner_refuses, with_statement}

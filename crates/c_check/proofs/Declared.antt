@@ -13,9 +13,9 @@ use Rattle.type_rules.specs.Names.{innermost_in, is_declared, bind, tests_of_new
 use Rattle.type_rules.specs.Objects.{next_declarator, object_rule, static_rule, block_name, local_rule}
 use Rattle.type_rules.specs.Outlines.{Outline, Param, is_function, object_type}
 use Rattle.type_rules.specs.Specifiers.{Specified}
-use Rattle.c_operate.specs.Answers.{Answers, Learns, Refuses}
-use Rattle.c_operate.specs.declared.error.CheckError.{CheckError}
-use Rattle.c_operate.specs.declared.error.CheckError.TheVariants as errors
+use Rattle.c_tables.specs.Answers.{Answers, Learns, Refuses}
+use Rattle.c_tables.specs.declared.error.CheckError.{CheckError}
+use Rattle.c_tables.specs.declared.error.CheckError.TheVariants as errors
 use Rattle.c_check.specs.StatementViews.{behind, function_known, object_in_block}
 use Rattle.c_check.proofs.Lists.{passes_on}
 

@@ -5,11 +5,11 @@ use Rattle.type_rules.specs.Expressions.{judged, value_of}
 use Rattle.type_rules.specs.Faults.{Fault}
 use Rattle.type_rules.specs.Known.{Known, go_on}
 use Rattle.type_rules.specs.Terms as rule
-use Rattle.c_operate.specs.Answers.{Answers, Refuses}
-use Rattle.c_operate.specs.Terms.{operand_of}
-use Rattle.c_operate.specs.declared.error.CheckError.{CheckError}
-use Rattle.c_operate.specs.declared.error.CheckError.TheVariants as errors
-use Rattle.c_operate.specs.declared.term.Operand.{Operand}
+use Rattle.c_tables.specs.Answers.{Answers, Refuses}
+use Rattle.c_terms.specs.Terms.{operand_of}
+use Rattle.c_tables.specs.declared.error.CheckError.{CheckError}
+use Rattle.c_tables.specs.declared.error.CheckError.TheVariants as errors
+use Rattle.c_terms.specs.declared.term.Operand.{Operand}
 use Rattle.check_expr.specs.Views.{unlisted}
 
 abbrev bare : rule.Term → rule.Term

@@ -9,8 +9,8 @@ use Rattle.type_rules.specs.Declarations as declarations
 use Rattle.type_rules.specs.Faults.{Fault}
 use Rattle.type_rules.specs.Known.{Known, given, go_on, ◌>>=◌}
 use Rattle.type_rules.specs.Statements as rule
-use Rattle.c_operate.specs.Answers.{Refuses}
-use Rattle.c_operate.specs.declared.error.CheckError.{CheckError}
+use Rattle.c_tables.specs.Answers.{Refuses}
+use Rattle.c_tables.specs.declared.error.CheckError.{CheckError}
 use Rattle.c_check.specs.StatementViews.{behind, block_list, arms_behind}
 use Rattle.c_check.proofs.Lists.{passes_on}
 

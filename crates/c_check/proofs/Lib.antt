@@ -5,7 +5,6 @@ pub mod Evaluated
 pub mod Listing
 pub mod Locals
 pub mod Making
-pub mod Parting
 pub mod Puts
 pub mod Texts
 pub mod Declared

@@ -20,9 +20,9 @@ use Rattle.type_rules.specs.Initializers.{begins, more_begins, items_in, value_r
 use Rattle.type_rules.specs.Known.{Known, go_on}
 use Rattle.type_rules.specs.Slots.{Slot, Begun, part}
 use Rattle.type_rules.specs.Terms.{Operand}
-use Rattle.c_operate.specs.Answers.{Answers, Refuses}
-use Rattle.c_operate.specs.declared.error.CheckError.{CheckError}
-use Rattle.c_operate.specs.declared.error.CheckError.TheVariants as errors
+use Rattle.c_tables.specs.Answers.{Answers, Refuses}
+use Rattle.c_tables.specs.declared.error.CheckError.{CheckError}
+use Rattle.c_tables.specs.declared.error.CheckError.TheVariants as errors
 use Rattle.c_check.specs.Views.{list_closed}
 
 -- ---- each form

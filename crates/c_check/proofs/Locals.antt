@@ -24,8 +24,8 @@ use Rattle.c_typed.specs.declared.statement.TStmt.TheVariants as TStatements
 use Rattle.c_typed.specs.declared.types.Qualified.{Qualified}
 use Rattle.type_rules.specs.Known.{Known}
 use Rattle.type_rules.specs.Objects.{is_expression, begun_as_one, local_statements}
-use Rattle.c_operate.specs.Answers.{Answers}
-use Rattle.c_operate.specs.declared.error.CheckError.{CheckError}
+use Rattle.c_tables.specs.Answers.{Answers}
+use Rattle.c_tables.specs.declared.error.CheckError.{CheckError}
 use Rattle.c_check.specs.Views.{only_one}
 
 pub expression_assign : (assign : _) → is_expression (init_of (Init.Assign assign)) ≡ true

@@ -23,11 +23,11 @@ use Rattle.type_rules.specs.Outlines.{Outline, ObjectDeclared, is_function, obje
 use Rattle.type_rules.specs.Rows.{plain, like, place_of_row, with_row, target_of, array_of, bytes_of, is_complete}
 use Rattle.type_rules.specs.Slots.{Slot, Begun, nothing_begun}
 use Rattle.type_rules.specs.Specifiers.{Specified}
-use Rattle.c_operate.specs.Answers.{Answers, Learns, Refuses}
-use Rattle.c_operate.specs.declared.error.CheckError.{CheckError}
-use Rattle.c_operate.specs.declared.error.CheckError.TheVariants as errors
-use Rattle.c_operate.specs.declared.error.Kind.TheVariants as kinds
-use Rattle.c_operate.proofs.Steps.{then_refuses, tried_true, tried_false}
+use Rattle.c_tables.specs.Answers.{Answers, Learns, Refuses}
+use Rattle.c_tables.specs.declared.error.CheckError.{CheckError}
+use Rattle.c_tables.specs.declared.error.CheckError.TheVariants as errors
+use Rattle.c_tables.specs.declared.error.Kind.TheVariants as kinds
+use Rattle.c_tables.proofs.Steps.{then_refuses, tried_true, tried_false}
 
 -- ---- the type of an object
 

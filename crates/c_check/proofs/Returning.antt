@@ -15,8 +15,8 @@ use Rattle.type_rules.specs.Faults.{Fault}
 use Rattle.type_rules.specs.Known.{Known, Rule, given, known_here, tried, wanted, go_on, ◌>>=◌}
 use Rattle.type_rules.specs.Statements as rule
 use Rattle.type_rules.specs.Terms.{Operand}
-use Rattle.c_operate.specs.Answers.{Answers}
-use Rattle.c_operate.specs.declared.error.CheckError.{CheckError}
+use Rattle.c_tables.specs.Answers.{Answers}
+use Rattle.c_tables.specs.declared.error.CheckError.{CheckError}
 use Rattle.c_check.specs.StatementViews.{switched_rule, valued_return}
 
 abbrev returning : ℕ → Operand → Rule Expression

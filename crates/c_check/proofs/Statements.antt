@@ -23,7 +23,8 @@ use Rattle.type_rules.specs.Known.{Known, given, wanted, go_on, ◌>>=◌}
 use Rattle.type_rules.specs.Names.{leave}
 use Rattle.type_rules.specs.Statements as rule
 use Rattle.type_rules.specs.Terms.{Operand}
-use Rattle.c_check.specs.StatementViews.{scoped_rule, while_rule, do_rule, for_rule, switch_rule, break_rule, continue_rule, chain_arms, if_of, switch_of}
+use Rattle.c_check.specs.StatementViews.{scoped_rule, while_rule, do_rule, for_rule, switch_rule, chain_arms, if_of, switch_of}
+use Rattle.c_outline.specs.Flows.{break_rule, continue_rule}
 
 -- ---- lists of typed statements and arms: the rules' are those of the typed trees
 

@@ -39,13 +39,13 @@ use Rattle.sound_types.proofs.Units.{judged_sound}
 use Rattle.typed_size.specs.Sizes.{size_of}
 use Rattle.typed_size.proofs.Counts.{size_counts}
 use Rattle.typed_size.proofs.Units.{judged_bounded}
-use Rattle.c_operate.specs.Answers.{Refuses}
-use Rattle.c_operate.specs.Tables.{known_of}
-use Rattle.c_operate.specs.declared.checker.Checker.{Checker}
-use Rattle.c_operate.specs.declared.error.CheckError.{CheckError}
-use Rattle.c_operate.specs.declared.error.CheckError.TheVariants as errors
-use Rattle.check_expr.specs.Views.{param_of}
-use Rattle.check_expr.specs.declared.outline.ParamShape.{ParamShape}
+use Rattle.c_tables.specs.Answers.{Refuses}
+use Rattle.c_tables.specs.Tables.{known_of}
+use Rattle.c_tables.specs.declared.checker.Checker.{Checker}
+use Rattle.c_tables.specs.declared.error.CheckError.{CheckError}
+use Rattle.c_tables.specs.declared.error.CheckError.TheVariants as errors
+use Rattle.c_outline.specs.Views.{param_of}
+use Rattle.c_outline.specs.declared.outline.ParamShape.{ParamShape}
 use Rattle.c_check.specs.StatementViews.{behind, block_list, inner_rule}
 use Rattle.c_check.proofs.Lists.{next, passes_on}
 

@@ -3,8 +3,8 @@ use Rattle.std.specs.Prelude.{◌≡◌, Result, Ok, Err}
 use Rattle.c_typed.specs.Trees.{Program}
 use Rattle.c_typed.specs.Views.{program_of}
 use Rattle.c_typed.specs.declared.program.Typed.{Typed}
-use Rattle.c_operate.specs.Answers.{Refuses}
-use Rattle.c_operate.specs.declared.error.CheckError.{CheckError}
+use Rattle.c_tables.specs.Answers.{Refuses}
+use Rattle.c_tables.specs.declared.error.CheckError.{CheckError}
 use Rattle.type_rules.specs.Faults.{Fault}
 
 abbrev pub Checks : Result Typed CheckError → Result Program Fault → Type 0

@@ -30,9 +30,8 @@ use Rattle.type_rules.specs.Outlines.{Outline, Param}
 use Rattle.type_rules.specs.Specifiers.{Specified}
 use Rattle.type_rules.specs.Statements as rule
 use Rattle.type_rules.specs.Units as units
-use Rattle.c_operate.specs.Answers.{Refuses}
-use Rattle.c_operate.specs.declared.error.CheckError.{CheckError}
-use Rattle.c_check.specs.declared.flow.Flow.{Flow}
+use Rattle.c_tables.specs.Answers.{Refuses}
+use Rattle.c_tables.specs.declared.error.CheckError.{CheckError}
 use Rattle.c_check.specs.declared.switch.SwitchBody.{SwitchBody}
 
 -- What stands before, and behind it what a rule makes.
@@ -66,21 +65,6 @@ valued_return e line = do
   known ← known_here
   _ ← tried ((is_void (known.body).result, kind.Return) ∷ []) line
   assigned x (known.body).result line
-
--- ---- `break` and `continue`
-
-abbrev pub flow_of : Flow → rule.Flow
-flow_of f = record { breaks = f.breaks; continues = f.continues }
-
-abbrev pub break_rule : rule.Flow → ℕ → Rule Statement
-break_rule flow line = do
-  _ ← tried ((not flow.breaks, kind.Jump) ∷ []) line
-  given (typed.Break line)
-
-abbrev pub continue_rule : rule.Flow → ℕ → Rule Statement
-continue_rule flow line = do
-  _ ← tried ((not flow.continues, kind.Jump) ∷ []) line
-  given (typed.Continue line)
 
 -- ---- blocks
 

@@ -1,11 +1,10 @@
--- What an initializer initializes and has given so far, as the rules speak of it.
-use Rattle.std.specs.Prelude.{ℕ, List, [], ◌∷◌, map, Option, Some, None}
+-- Parts of the rules on initializers, as the checker's functions answer them.
+use Rattle.std.specs.Prelude.{ℕ, List, [], ◌∷◌, Option, Some, None}
 use Rattle.std.specs.Borrow.{Bor}
 use Rattle.c_nodes.specs.Programs.{InitTree}
 use Rattle.c_nodes.specs.ProgramViews.{init_of}
 use Rattle.c_nodes.specs.declared.statement.Init.{Init}
 use Rattle.c_typed.specs.Trees as typed
-use Rattle.c_typed.specs.Views.{item_of}
 use Rattle.c_typed.specs.declared.types.Ty.{Ty}
 use Rattle.type_rules.specs.Conversions.{assigned}
 use Rattle.type_rules.specs.Faults as kind
@@ -13,18 +12,6 @@ use Rattle.type_rules.specs.Initializers.{has_more, with_items}
 use Rattle.type_rules.specs.Known.{Rule, given, known_here, tried, ◌>>=◌}
 use Rattle.type_rules.specs.Slots as rule
 use Rattle.type_rules.specs.Terms.{Operand}
-use Rattle.c_check.specs.declared.slots.Sink.{Sink}
-use Rattle.c_check.specs.declared.slot.Slot.{Slot}
-
-abbrev pub slot_of : Slot → rule.Slot
-slot_of s = record { ty = s.ty; offset = s.offset }
-
-abbrev pub any_slot : Option Slot → Option rule.Slot
-any_slot None = None
-any_slot (Some s) = Some (slot_of s)
-
-abbrev pub begun_of : Sink → rule.Begun
-begun_of s = record { static_object = s.fixed; initial = s.initial.items; items = map item_of s.items.items; count = s.length; line = s.line }
 
 -- the initializer of a declarator, if it has one
 abbrev pub any_init : Option (Bor Init) → Option InitTree

@@ -9,10 +9,11 @@ ghost use Rattle.type_rules.specs.Declarators as declarators;
 ghost use Rattle.type_rules.specs.Faults as faults;
 ghost use Rattle.type_rules.specs.Known.{Known, tried};
 ghost use Rattle.type_rules.specs.Names.{innermost_in};
-ghost use Rattle.c_operate.specs.Answers.{Answers, Learns};
-ghost use Rattle.c_operate.specs.Tables.{known_of};
-ghost use Rattle.check_expr.specs.Views.{context_of, is_static, outline_of, param_of, specified_of};
-ghost use Rattle.check_expr.specs.Views.{declared_of as check_declared_of};
+ghost use Rattle.c_tables.specs.Answers.{Answers, Learns};
+ghost use Rattle.c_tables.specs.Tables.{known_of};
+ghost use Rattle.check_expr.specs.Views.{context_of};
+ghost use Rattle.c_outline.specs.Views.{is_static, outline_of, param_of, specified_of};
+ghost use Rattle.c_outline.specs.Views.{declared_of as check_declared_of};
 ghost use Rattle.type_rules.specs.Outlines as outlines;
 ghost use Rattle.c_check.specs.Views.{any_init};
 ghost use Rattle.c_check.specs.StatementViews.{function_known, object_in_block};
@@ -21,13 +22,14 @@ use crate::initializer::begun;
 use crate::objects::{block_static, local_object, object_type, static_object};
 use c_nodes::expression::Declarator;
 use c_nodes::statement::{Declaration, Declared as DeclaredTree, EqualsInit, Init, InitDeclarator};
-use c_operate::checker::Checker;
-use c_operate::error::{CheckError, Kind, refused};
-use c_operate::scope::Binding;
+use c_outline::outline::{Declared, Outline, ParamShape};
+use c_outline::specifiers::{Site, Specified, Storage, is_typedef};
+use c_tables::checker::Checker;
+use c_tables::error::{CheckError, Kind, refused};
+use c_tables::scope::Binding;
 use c_typed::{Qualified, TStmt, Ty};
 use check_expr::declarator::{Context, outline, specified};
-use check_expr::outline::{Declared, Outline, ParamShape, line_of};
-use check_expr::specifiers::{Site, Specified, Storage, is_typedef};
+use check_expr::lines::declarator_line;
 use std::alloc::{AllocError, Global};
 
 /// The context of what stands outside functions.
@@ -286,7 +288,7 @@ fn file_declarator(
     ensures { Learns result (known_of checker.new) (rule.file_declarator (begun_of declared.now) (specified_of specified) (known_of checker.old)) }
 {
     let outline = outline(&declared.declarator, checker, specified, true)?;
-    let line = line_of(&declared.declarator);
+    let line = declarator_line(&declared.declarator);
     let name = name_of(&declared.declarator);
     if is_typedef(specified.storage) {
         let begun = is_given(&declared.init);
@@ -387,7 +389,7 @@ fn block_declarator(
     ensures { Answers (λ made. map statement_of made.items) result (known_of checker.new) (rule.block_declarator (begun_of declared.now) (specified_of specified) (known_of checker.old)) }
 {
     let outline = outline(&declared.declarator, checker, specified, false)?;
-    let line = line_of(&declared.declarator);
+    let line = declarator_line(&declared.declarator);
     let name = name_of(&declared.declarator);
     checker.scopes.refuse_again(name, line)?;
     block_object(&declared.init, checker, specified, outline, name, line)

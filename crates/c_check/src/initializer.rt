@@ -7,20 +7,21 @@ ghost use Rattle.type_rules.specs.Expressions.{value_of};
 ghost use Rattle.type_rules.specs.Initializers as rule;
 ghost use Rattle.type_rules.specs.Known.{Known};
 ghost use Rattle.type_rules.specs.Slots.{nothing_begun};
-ghost use Rattle.c_operate.specs.Answers.{Answers};
-ghost use Rattle.c_operate.specs.Tables.{known_of, types_in};
-ghost use Rattle.c_operate.specs.Terms.{operand_of};
-ghost use Rattle.c_check.specs.Views.{any_slot, begun_of, list_closed};
+ghost use Rattle.c_tables.specs.Answers.{Answers};
+ghost use Rattle.c_tables.specs.Tables.{known_of, types_in};
+ghost use Rattle.c_terms.specs.Terms.{operand_of};
+ghost use Rattle.c_check.specs.Views.{list_closed};
+ghost use Rattle.c_outline.specs.Slots.{any_slot, begun_of};
 
 use crate::parts::{put_text, put_value};
-use crate::slot::Slot;
-use crate::slots::{Sink, count_items, has_more, part};
 use c_nodes::expression::Assign;
 use c_nodes::statement::{Init, NextInit};
-use c_operate::checker::Checker;
-use c_operate::error::{CheckError, Kind, refused};
-use c_operate::term::{Operand, used};
-use c_operate::types::Types;
+use c_outline::slot::Slot;
+use c_outline::slots::{Sink, count_items, has_more, part};
+use c_tables::checker::Checker;
+use c_tables::error::{CheckError, Kind, refused};
+use c_tables::types::Types;
+use c_terms::term::{Operand, used};
 use check_expr::expression::assign;
 
 /// What an initializer gives to an object, or to nothing, where its expressions are checked all the same.

@@ -8,12 +8,9 @@
 #![tactic(auto)]
 
 mod declaration;
-mod flow;
 mod initializer;
 mod objects;
 mod parts;
-mod slot;
-mod slots;
 mod statement;
 mod switch;
 mod text;
@@ -21,7 +18,7 @@ mod types;
 mod unit;
 mod values;
 
-pub use c_operate::error::{CheckError, Kind};
+pub use c_tables::error::{CheckError, Kind};
 pub use c_typed::{
     Folded, Function, Initial, InitialByte, LogicalOp, LoopForm, Member, Object, Qualified,
     RootKind, Static, StepOp, Structure, TArm, TCase, TExpr, TItem, TPlace, TStmt, Ty, Typed,

@@ -8,12 +8,12 @@ ghost use Rattle.c_typed.specs.Trees as typed;
 ghost use Rattle.c_typed.specs.Views.{arm_of, expression_of, statement_of};
 ghost use Rattle.type_rules.specs.Known.{Known, given};
 ghost use Rattle.type_rules.specs.Statements as rule;
-ghost use Rattle.c_operate.specs.Answers.{Answers};
-ghost use Rattle.c_operate.specs.Tables.{known_of};
-ghost use Rattle.c_check.specs.StatementViews.{any_statement, block_list, body_of, do_rule, flow_of, for_rule, scoped_rule, switch_rule, while_rule};
+ghost use Rattle.c_tables.specs.Answers.{Answers};
+ghost use Rattle.c_tables.specs.Tables.{known_of};
+ghost use Rattle.c_check.specs.StatementViews.{any_statement, block_list, body_of, do_rule, for_rule, scoped_rule, switch_rule, while_rule};
+ghost use Rattle.c_outline.specs.Flows.{flow_of};
 
 use crate::declaration::block_declarations;
-use crate::flow::Flow;
 use crate::switch::{SwitchBody, labelled};
 use crate::values::{
     LoopHead, condition, condition_if_any, dropped, evaluated_if_any, returned, switched,
@@ -23,6 +23,9 @@ use c_nodes::expression::Expr;
 use c_nodes::statement::{Arm, Block, ForHead, IfChain, Otherwise, Statement, SwitchItem};
 use c_operate::checker::Checker;
 use c_operate::error::CheckError;
+use c_outline::flow::Flow;
+use c_tables::checker::Checker;
+use c_tables::error::CheckError;
 use c_typed::{LoopForm, TArm, TStmt};
 use std::alloc::Global;
 

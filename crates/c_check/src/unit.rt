@@ -9,25 +9,26 @@ ghost use Rattle.type_rules.specs.Declarators.{line_in, name_in};
 ghost use Rattle.type_rules.specs.Faults as faults;
 ghost use Rattle.type_rules.specs.Known.{Known, known_first, tried};
 ghost use Rattle.type_rules.specs.Units as rule;
-ghost use Rattle.c_operate.specs.Answers.{Answers, Learns};
-ghost use Rattle.c_operate.specs.Tables.{known_of, scope_of};
-ghost use Rattle.c_operate.specs.declared.error.CheckError.TheVariants.{NoMemory};
-ghost use Rattle.check_expr.specs.Views.{outline_of, param_of, specified_of};
+ghost use Rattle.c_tables.specs.Answers.{Answers, Learns};
+ghost use Rattle.c_tables.specs.Tables.{known_of, scope_of};
+ghost use Rattle.c_tables.specs.declared.error.CheckError.TheVariants.{NoMemory};
+ghost use Rattle.c_outline.specs.Views.{outline_of, param_of, specified_of};
 ghost use Rattle.c_check.specs.Checks.{Checks};
 ghost use Rattle.c_check.specs.StatementViews.{inner_rule, no_function};
 
 use crate::declaration::{declare_function, file_declaration, in_file, name_of};
-use crate::flow::Flow;
 use crate::statement::block;
 use c_nodes::statement::{Function, Item, Unit};
-use c_operate::body::Body;
-use c_operate::checker::Checker;
-use c_operate::error::{CheckError, Kind, refused};
-use c_operate::scope::Names;
+use c_outline::flow::Flow;
+use c_outline::outline::{Declared, Outline, ParamShape};
+use c_outline::specifiers::{Specified, is_typedef};
+use c_tables::body::Body;
+use c_tables::checker::Checker;
+use c_tables::error::{CheckError, Kind, refused};
+use c_tables::scope::Names;
 use c_typed::{Function as TypedFunction, TStmt, Ty, Typed, Variable};
 use check_expr::declarator::{outline, specified};
-use check_expr::outline::{Declared, Outline, ParamShape, line_of};
-use check_expr::specifiers::{Specified, is_typedef};
+use check_expr::lines::declarator_line;
 use indexmap::IndexSet;
 use std::alloc::Global;
 use std::mem;
@@ -159,7 +160,7 @@ fn function_declared(
 ) -> Result<TypedFunction, CheckError>
     ensures { Answers function_of result (known_of checker.new) (rule.function_declared (outline_of outline).declared (block_of function.now.body) (specified_of specified) (outline_of outline) (name_in (declarator_of function.now.declarator)) (line_in (declarator_of function.now.declarator)) (known_of checker.old)) }
 {
-    let line = line_of(&function.declarator);
+    let line = declarator_line(&function.declarator);
     let name = name_of(&function.declarator);
     let bad = outline.bad;
     match outline.declared {

@@ -10,17 +10,17 @@ ghost use Rattle.type_rules.specs.Expressions.{value_of};
 ghost use Rattle.type_rules.specs.Faults as faults;
 ghost use Rattle.type_rules.specs.Known.{Known, tried};
 ghost use Rattle.type_rules.specs.Statements as rule;
-ghost use Rattle.c_operate.specs.Answers.{Answers, Learns};
-ghost use Rattle.c_operate.specs.Tables.{known_of};
-ghost use Rattle.c_operate.specs.Terms.{operand_of};
+ghost use Rattle.c_tables.specs.Answers.{Answers, Learns};
+ghost use Rattle.c_tables.specs.Tables.{known_of};
+ghost use Rattle.c_terms.specs.Terms.{operand_of};
 ghost use Rattle.c_check.specs.StatementViews.{switched_rule, valued_return};
 
 use c_ints::{IntTy, promote};
 use c_nodes::expression::Expr;
-use c_operate::checker::Checker;
-use c_operate::conversion::{assigned, converted};
-use c_operate::error::{CheckError, Kind, refused};
-use c_operate::term::{Operand, used};
+use c_tables::checker::Checker;
+use c_tables::error::{CheckError, Kind, refused};
+use c_terms::conversion::{assigned, converted};
+use c_terms::term::{Operand, used};
 use c_typed::{TExpr, TStmt, Ty, is_scalar, is_void};
 use check_expr::expression::expression;
 

@@ -10,9 +10,9 @@ use Rattle.type_rules.specs.Faults.{Fault}
 use Rattle.type_rules.specs.Known.{Signature, Known, Rule, given, tried, wanted, go_on, ◌>>=◌}
 use Rattle.type_rules.specs.Terms.{Term, Operand, value_term}
 use Rattle.type_rules.specs.Writes.{function_named, signature_in, passed, call}
-use Rattle.c_operate.specs.Answers.{Refuses}
-use Rattle.c_operate.specs.declared.error.CheckError.{CheckError}
-use Rattle.c_operate.proofs.Steps.{then_refuses}
+use Rattle.c_tables.specs.Answers.{Refuses}
+use Rattle.c_tables.specs.declared.error.CheckError.{CheckError}
+use Rattle.c_tables.proofs.Steps.{then_refuses}
 
 -- ---- arguments
 

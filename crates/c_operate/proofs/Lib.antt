@@ -1,13 +1,3 @@
-pub mod Alike
-pub mod Names
-pub mod Rows
-pub mod Scopes
-pub mod Sights
-pub mod Steps
-pub mod Operating
-pub mod PlacesRead
-pub mod Starts
-pub mod Refusing
 pub mod PlaceSteps
 pub mod WriteSteps
 pub mod CallSteps

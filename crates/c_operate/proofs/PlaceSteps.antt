@@ -15,7 +15,7 @@ use Rattle.type_rules.specs.Operations.{Operation}
 use Rattle.type_rules.specs.Places.{object_pointed, reach_behind, dereference, element_at, address_of, address, member_in, member_of, member, part_type, size_of_type}
 use Rattle.type_rules.specs.Rows.{pointer_to, bytes_of, is_complete}
 use Rattle.type_rules.specs.Terms.{Reach, Form, ValueForm, PlaceForm, FunctionForm, TypeForm, Term, Operand, value_term, place_term, number_of_type, no_table, is_addressable, first_into}
-use Rattle.c_operate.specs.Terms.{place_in}
+use Rattle.c_terms.specs.Terms.{place_in}
 
 -- ---- what is pointed to
 

@@ -15,9 +15,9 @@ use Rattle.type_rules.specs.Operations.{Operation, operation_of, counts_in, elem
 use Rattle.type_rules.specs.Rows.{bytes_of}
 use Rattle.type_rules.specs.Terms.{Term, Operand, Side, side_of, value_term, no_table}
 use Rattle.type_rules.specs.Writes.{written_place, structure_read, copy, simple_assignment, keeps_type, compound_assignment, counted, stepped}
-use Rattle.c_operate.specs.Answers.{Refuses}
-use Rattle.c_operate.specs.declared.error.CheckError.{CheckError}
-use Rattle.c_operate.proofs.Steps.{then_refuses}
+use Rattle.c_tables.specs.Answers.{Refuses}
+use Rattle.c_tables.specs.declared.error.CheckError.{CheckError}
+use Rattle.c_tables.proofs.Steps.{then_refuses}
 
 -- ---- `=`
 

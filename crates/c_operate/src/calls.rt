@@ -4,17 +4,17 @@ ghost use Rattle.std.specs.Prelude.{◌≡◌, ◌∷◌, [], MatchOption, lengt
 ghost use Rattle.c_typed.specs.Views.{arguments_of, expression_of};
 ghost use Rattle.type_rules.specs.Known.{Known};
 ghost use Rattle.type_rules.specs.Writes as rule;
-ghost use Rattle.c_operate.specs.Answers.{Answers, Learns};
-ghost use Rattle.c_operate.specs.Tables.{known_of, signature_of, types_in};
-ghost use Rattle.c_operate.specs.Terms.{form_of, operand_of, term_of};
+ghost use Rattle.c_tables.specs.Answers.{Answers, Learns};
+ghost use Rattle.c_tables.specs.Tables.{known_of, signature_of, types_in};
+ghost use Rattle.c_terms.specs.Terms.{form_of, operand_of, term_of};
 
-use crate::checker::Checker;
-use crate::conversion::assigned;
-use crate::error::{CheckError, Kind, refused};
-use crate::functions::Functions;
-use crate::nodes::call_node;
-use crate::term::{Form, Operand, Term, refuse_table, value_term};
-use crate::types::Types;
+use c_tables::checker::Checker;
+use c_tables::error::{CheckError, Kind, refused};
+use c_tables::functions::Functions;
+use c_tables::types::Types;
+use c_terms::conversion::assigned;
+use c_terms::nodes::call_node;
+use c_terms::term::{Form, Operand, Term, refuse_table, value_term};
 use c_typed::{TExpr, Ty};
 use std::alloc::Global;
 

@@ -9,20 +9,20 @@ ghost use Rattle.type_rules.specs.Conversions.{converted as rule_converted};
 ghost use Rattle.type_rules.specs.Known.{Known, given};
 ghost use Rattle.type_rules.specs.Operators as rule;
 ghost use Rattle.type_rules.specs.Terms.{value_term};
-ghost use Rattle.c_operate.specs.Answers.{Answers};
-ghost use Rattle.c_operate.specs.Tables.{types_in};
-ghost use Rattle.c_operate.specs.Terms.{node_of, operation_of, operand_of, reach_moved, reach_of, side_of as shown_side, term_of};
+ghost use Rattle.c_tables.specs.Answers.{Answers};
+ghost use Rattle.c_tables.specs.Tables.{types_in};
+ghost use Rattle.c_terms.specs.Terms.{node_of, operation_of, operand_of, reach_moved, reach_of, side_of as shown_side, term_of};
 
-use crate::conversion::{in_type, is_assignable, is_castable};
-use crate::error::{CheckError, Kind, refused};
-use crate::nodes::{
+use c_ints::{BinOp, IntTy, UnOp, promote, usual};
+use c_tables::error::{CheckError, Kind, refused};
+use c_tables::types::Types;
+use c_terms::conversion::{in_type, is_assignable, is_castable};
+use c_terms::nodes::{
     binary_node, cast_node, comma_node, conditional_node, difference_node, logical_node,
     offset_node, unary_node,
 };
-use crate::operation::{Node, Operation, binary_operator, operation_of};
-use crate::term::{Form, Operand, Reach, Side, Term, first_reach, value_term};
-use crate::types::Types;
-use c_ints::{BinOp, IntTy, UnOp, promote, usual};
+use c_terms::operation::{Node, Operation, binary_operator, operation_of};
+use c_terms::term::{Form, Operand, Reach, Side, Term, first_reach, value_term};
 use c_token::Punct;
 use c_typed::{LogicalOp, Qualified, TExpr, Ty, is_pointer, is_scalar, same_type};
 use std::alloc::{AllocError, Global};

@@ -5,20 +5,20 @@ ghost use Rattle.std.specs.Option.{option_map};
 ghost use Rattle.c_typed.specs.Views.{place_of};
 ghost use Rattle.type_rules.specs.Known.{Known, given};
 ghost use Rattle.type_rules.specs.Places as rule;
-ghost use Rattle.c_operate.specs.Answers.{Answers};
-ghost use Rattle.c_operate.specs.Tables.{field_of, types_in};
-ghost use Rattle.c_operate.specs.Terms.{form_of, lvalue_reach, operand_of, operation_of, reach_of, term_of};
+ghost use Rattle.c_tables.specs.Answers.{Answers};
+ghost use Rattle.c_tables.specs.Tables.{field_of, types_in};
+ghost use Rattle.c_terms.specs.Terms.{form_of, lvalue_reach, operand_of, operation_of, reach_of, term_of};
 
-use crate::conversion::converted;
-use crate::error::{CheckError, Kind, refused};
-use crate::nodes::{address_node, deref_place, member_place, offset_node};
-use crate::operation::{Operation, operation_of};
-use crate::term::{
+use c_ints::{BinOp, IntTy};
+use c_tables::error::{CheckError, Kind, refused};
+use c_tables::types::{Field, Types};
+use c_terms::conversion::converted;
+use c_terms::nodes::{address_node, deref_place, member_place, offset_node};
+use c_terms::operation::{Operation, operation_of};
+use c_terms::term::{
     Form, Lvalue, Operand, Reach, Term, constant, first_reach, indexed, into_lvalue, lvalue_term,
     refuse_table, used_value, value_term,
 };
-use crate::types::{Field, Types};
-use c_ints::{BinOp, IntTy};
 use c_typed::{Qualified, TPlace, Ty, is_array};
 use std::alloc::Global;
 

@@ -5,15 +5,15 @@ ghost use Rattle.c_nodes.specs.Words.{spell_constant};
 ghost use Rattle.type_rules.specs.Expressions as rule;
 ghost use Rattle.type_rules.specs.Known.{Known};
 ghost use Rattle.type_rules.specs.Terms.{number_of_type};
-ghost use Rattle.c_operate.specs.Answers.{Answers};
-ghost use Rattle.c_operate.specs.Tables.{binding_of, scopes_in};
-ghost use Rattle.c_operate.specs.Terms.{form_of, term_of};
+ghost use Rattle.c_tables.specs.Answers.{Answers};
+ghost use Rattle.c_tables.specs.Tables.{binding_of, scopes_in};
+ghost use Rattle.c_terms.specs.Terms.{form_of, term_of};
 
-use crate::error::{CheckError, Kind, refused};
-use crate::scope::{Binding, Scopes};
-use crate::term::{Form, Lvalue, Term, constant, lvalue_term, value_term};
 use c_ints::IntTy;
 use c_nodes::word::{Constant, Name};
+use c_tables::error::{CheckError, Kind, refused};
+use c_tables::scope::{Binding, Scopes};
+use c_terms::term::{Form, Lvalue, Term, constant, lvalue_term, value_term};
 use c_typed::TPlace;
 
 // What has no value and no place, at this line.

@@ -6,12 +6,12 @@ use Rattle.type_rules.specs.Faults.{Fault}
 use Rattle.type_rules.specs.Known.{Known, Rule, go_on, ◌>>=◌}
 use Rattle.check_expr.proofs.Runs.{grouped}
 use Rattle.type_rules.specs.Terms.{Term}
-use Rattle.c_operate.specs.Terms.{term_of}
-use Rattle.c_operate.specs.declared.term.Term as checked
+use Rattle.c_terms.specs.Terms.{term_of}
+use Rattle.c_terms.specs.declared.term.Term as checked
 use Rattle.check_expr.specs.Views.{unlisted}
-use Rattle.c_operate.specs.Answers.{Refuses, Answers}
-use Rattle.c_operate.specs.declared.error.CheckError.{CheckError}
-use Rattle.c_operate.specs.declared.error.CheckError.TheVariants as errors
+use Rattle.c_tables.specs.Answers.{Refuses, Answers}
+use Rattle.c_tables.specs.declared.error.CheckError.{CheckError}
+use Rattle.c_tables.specs.declared.error.CheckError.TheVariants as errors
 
 pub goes : {A B : Type 0} (f : A → Rule B) (r : Result (A × Known) Fault) (a : A) (k : Known) (said : Result (B × Known) Fault) → r ≡ Ok (a, k) → go_on f r ≡ said → f a k ≡ said
 goes f r a k said e p = sym (ap (go_on f) e) ∙ p

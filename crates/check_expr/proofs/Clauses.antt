@@ -14,10 +14,10 @@ use Rattle.c_ints.specs.declared.operators.BinOp.TheVariants as binop
 use Rattle.type_rules.specs.Operators.{between, choice, cast}
 use Rattle.type_rules.specs.Places.{before_index, element, element_at, pointed_type, size_of_type, size_of_term}
 use Rattle.type_rules.specs.Writes.{assignment, stepped, called, call}
-use Rattle.c_operate.specs.Answers.{Answers}
-use Rattle.c_operate.specs.Terms.{term_of}
-use Rattle.c_operate.specs.declared.error.CheckError.{CheckError}
-use Rattle.c_operate.specs.declared.term.Term as checked
+use Rattle.c_tables.specs.Answers.{Answers}
+use Rattle.c_terms.specs.Terms.{term_of}
+use Rattle.c_tables.specs.declared.error.CheckError.{CheckError}
+use Rattle.c_terms.specs.declared.term.Term as checked
 use Rattle.check_expr.specs.Lists.{sized_name}
 use Rattle.check_expr.specs.Folds.{bare, arguments_read}
 use Rattle.check_expr.specs.Views.{unlisted}

@@ -1,7 +1,5 @@
 -- Declarators, part by part: each clause of the rules, and lists from their front.
-use Rattle.std.proofs.Common.{◌≡◌, ℕ, ◌+◌, ◌<◌, ◌≤◌, Bool, true, false, List, [], ◌∷◌, ◌++◌, length, drop, map, Option, Result, Ok, Err, refl, sym, ap, subst, ◌∙◌, append_assoc, zero, suc, arith}
-use Rattle.std.specs.Prelude.{◌==◌}
-use Rattle.std.proofs.lemmas.Bool.{eqb-false}
+use Rattle.std.proofs.Common.{◌≡◌, ℕ, ◌+◌, ◌<◌, ◌≤◌, Bool, true, false, List, [], ◌∷◌, ◌++◌, length, drop, map, Option, Result, Ok, Err, refl, sym, ap, subst, ◌∙◌, append_assoc}
 use Rattle.std.proofs.Math.ListN.{get_or}
 use Rattle.std.proofs.lemmas.List.{drop_more, drop_all, append-nil}
 use Rattle.c_nodes.specs.Lists.{more_specs, more_members, more_declarators, suffixes_of, more_params}
@@ -13,8 +11,8 @@ use Rattle.c_nodes.specs.declared.expression.Spec.{Spec}
 use Rattle.c_nodes.specs.declared.expression.Member.{Member}
 use Rattle.c_nodes.specs.declared.expression.Suffix.{Suffix}
 use Rattle.c_nodes.specs.declared.word.Word.{Word}
-use Rattle.c_operate.specs.Answers.{Refuses}
-use Rattle.c_operate.specs.declared.error.CheckError.{CheckError}
+use Rattle.c_tables.specs.Answers.{Refuses}
+use Rattle.c_tables.specs.declared.error.CheckError.{CheckError}
 use Rattle.type_rules.specs.Declarators.{Context, of_member, of_param, body_opened, structure_in, structure_of, specified, spec_rule, members, field, suffixes, suffix, param, outline_of, line_in}
 use Rattle.type_rules.specs.Declarators as rule
 use Rattle.type_rules.specs.Faults as kind
@@ -29,13 +27,13 @@ use Rattle.type_rules.specs.TypeNames as names
 use Rattle.type_rules.specs.TypeNames.{with_pointers, type_named, named_spec, more_named_specs}
 use Rattle.type_rules.specs.Constants.{array_length}
 use Rattle.c_typed.specs.declared.types.Qualified.{Qualified}
-use Rattle.check_expr.specs.Gathering.{GathersTo, base_of, kept_of, based, worded}
+use Rattle.c_outline.specs.Gathering.{GathersTo, base_of, kept_of, based, worded}
 use Rattle.check_expr.specs.Lists.{body_rule, enum_rule}
-use Rattle.check_expr.specs.declared.specifiers.Base.{Base}
-use Rattle.check_expr.specs.declared.specifiers.Base.TheVariants as bases
-use Rattle.check_expr.specs.declared.specifiers.Words.{Words}
-use Rattle.check_expr.proofs.Gathering.{kept_base, kept_word}
-use Rattle.check_expr.proofs.Outlining.{refused_through, go_on_both}
+use Rattle.c_outline.specs.declared.specifiers.Base.{Base}
+use Rattle.c_outline.specs.declared.specifiers.Base.TheVariants as bases
+use Rattle.c_outline.specs.declared.specifiers.Words.{Words}
+use Rattle.c_outline.proofs.Gathering.{kept_base, kept_word}
+use Rattle.c_outline.proofs.Outlining.{refused_through, go_on_both}
 
 -- ---- a list at its front, and at its end
 
@@ -494,28 +492,3 @@ enum_given t line tag o e es last c context g w v known after is b h i = record 
 
 pub enum_refused : (t : SpecTree) (line : ℕ) (tag : Symbols) (o : ℕ) (e : EnumeratorTree) (es : MoreEnumerators) (last : Option ℕ) (c : ℕ) (context : Context) (g : Gathered) (known : Known) (error : CheckError) → t ≡ tree.EnumBody line tag o e es last c → Refuses error (enum_rule t context.bodies known) → Refuses error (spec_rule t context g known)
 enum_refused t line tag o e es last c context g known error is h = subst (λ t. Refuses error (spec_rule t context g known)) (sym is) (subst (Refuses error) (sym (enum_split line tag o e es last c context g known)) (refused_through error (λ (x : Known). given (with_base EnumBase g)) (rule.enum_body context tag e es line known) (subst (λ t. Refuses error (enum_rule t context.bodies known)) is h)))
-
--- ---- a list whose last one is taken
-
-map_push : {A B : Type 0} (f : A → B) (ys : List A) (x : A) → map f (ys ++ x ∷ []) ≡ map f ys ++ f x ∷ []
-map_push f [] x = refl
-map_push f (y ∷ ys) x = ap (λ l. f y ∷ l) (map_push f ys x)
-
-pub popped : {A B : Type 0} (f : A → B) (xs ys : List A) (x : A) → xs ≡ ys ++ x ∷ [] → map f xs ≡ map f ys ++ f x ∷ []
-popped f xs ys x e = ap (map f) e ∙ map_push f ys x
-
-pub none_left : {A B : Type 0} (f : A → B) (xs : List A) → length xs ≡ 0 → map f xs ≡ []
-none_left f [] e = refl
-none_left f (x ∷ xs) e = absurd (omega (arith, e))
-
-pub some_left : {A B : Type 0} (f : A → B) (xs : List A) → 0 < length xs → 0 < length (map f xs)
-some_left f [] lt = lt
-some_left f (x ∷ xs) lt = omega arith
-
-pub positive : (n : ℕ) → false ≡ (n == 0) → 0 < n
-positive zero e = absurd (eqb-false 0 0 (sym e) refl)
-positive (suc n) e = omega arith
-
-pub length_mapped : {A B : Type 0} (f : A → B) (xs : List A) → length (map f xs) ≡ length xs
-length_mapped f [] = refl
-length_mapped f (x ∷ xs) = ap suc (length_mapped f xs)

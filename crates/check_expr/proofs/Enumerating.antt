@@ -9,9 +9,9 @@ use Rattle.c_nodes.specs.Trees as tree
 use Rattle.c_nodes.specs.Trees.{Tree, SpecTree, EnumeratorTree}
 use Rattle.c_nodes.specs.Views.{next_enumerator_of, NextEnumerator}
 use Rattle.c_nodes.specs.Words.{Symbol, Symbols}
-use Rattle.c_operate.specs.Answers.{Refuses, Learns}
-use Rattle.c_operate.specs.declared.error.CheckError.{CheckError}
-use Rattle.c_operate.specs.declared.error.CheckError.TheVariants as errors
+use Rattle.c_tables.specs.Answers.{Refuses, Learns}
+use Rattle.c_tables.specs.declared.error.CheckError.{CheckError}
+use Rattle.c_tables.specs.declared.error.CheckError.TheVariants as errors
 use Rattle.type_rules.specs.Constants.{constant_value}
 use Rattle.type_rules.specs.Declarators.{Context, enum_opened, enum_closed}
 use Rattle.type_rules.specs.Enumerators as rule
@@ -22,7 +22,7 @@ use Rattle.type_rules.specs.Names.{is_declared, bind, tests_of_new}
 use Rattle.type_rules.specs.Specifiers.{InFile}
 use Rattle.check_expr.specs.Lists.{enum_rule}
 use Rattle.check_expr.proofs.Declaring.{at_front, at_end}
-use Rattle.check_expr.proofs.Outlining.{refused_through}
+use Rattle.c_outline.proofs.Outlining.{refused_through}
 
 -- ---- the number of an enumerator
 

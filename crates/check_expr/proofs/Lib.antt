@@ -3,7 +3,6 @@ mod Clauses
 mod Folded
 mod Signs
 mod Answering
-pub mod Gathering
-pub mod Outlining
+pub mod Pointers
 pub mod Declaring
 pub mod Enumerating

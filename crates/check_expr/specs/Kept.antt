@@ -6,8 +6,8 @@ use Rattle.c_token.specs.declared.token.TokKind.{TokKind}
 use Rattle.c_token.specs.declared.token.TokKind.TheVariants as kinds
 use Rattle.c_nodes.specs.Words.{signed}
 use Rattle.type_rules.specs.Terms as rule
-use Rattle.c_operate.specs.Terms.{term_of, operand_of}
-use Rattle.c_operate.specs.declared.term.Operand.{Operand}
+use Rattle.c_terms.specs.Terms.{term_of, operand_of}
+use Rattle.c_terms.specs.declared.term.Operand.{Operand}
 use Rattle.check_expr.specs.Folds as fold
 use Rattle.check_expr.specs.declared.expression.Chosen.{Chosen}
 use Rattle.check_expr.specs.declared.expression.Target.{Target}

@@ -1,5 +1,4 @@
 pub mod Views
 pub mod Folds
 pub mod Kept
-pub mod Gathering
 pub mod Lists

@@ -3,16 +3,16 @@
 ghost use Rattle.c_nodes.specs.Views.{cond_of};
 ghost use Rattle.type_rules.specs.Constants as rule;
 ghost use Rattle.type_rules.specs.Known.{Known};
-ghost use Rattle.c_operate.specs.Answers.{Answers};
-ghost use Rattle.c_operate.specs.Tables.{known_of};
-ghost use Rattle.c_operate.specs.Terms.{operand_of};
+ghost use Rattle.c_tables.specs.Answers.{Answers};
+ghost use Rattle.c_tables.specs.Tables.{known_of};
+ghost use Rattle.c_terms.specs.Terms.{operand_of};
 
 use crate::expression::conditional;
 use c_ints::Value;
 use c_nodes::expression::Cond;
-use c_operate::checker::Checker;
-use c_operate::error::{CheckError, Kind, refused};
-use c_operate::term::{Operand, used};
+use c_tables::checker::Checker;
+use c_tables::error::{CheckError, Kind, refused};
+use c_terms::term::{Operand, used};
 use c_typed::Folded;
 
 // The greatest length of an array.

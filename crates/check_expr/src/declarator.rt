@@ -8,26 +8,29 @@ ghost use Rattle.type_rules.specs.Declarators as rule;
 ghost use Rattle.type_rules.specs.Known.{Known};
 ghost use Rattle.type_rules.specs.Rows as rows;
 ghost use Rattle.type_rules.specs.Specifiers.{Gathered};
-ghost use Rattle.c_operate.specs.Answers.{Answers, Learns};
-ghost use Rattle.c_operate.specs.Tables as tables;
-ghost use Rattle.c_operate.specs.Tables.{known_of, types_in};
-ghost use Rattle.check_expr.specs.Gathering.{Gathers, kept_of};
-ghost use Rattle.check_expr.specs.Lists.{Lists, body_rule};
-ghost use Rattle.check_expr.specs.Views as views;
-ghost use Rattle.check_expr.specs.Views.{context_of, made_of, outline_of, specified_of};
+ghost use Rattle.c_tables.specs.Answers.{Answers, Learns};
+ghost use Rattle.c_tables.specs.Tables as tables;
+ghost use Rattle.c_tables.specs.Tables.{known_of, types_in};
+ghost use Rattle.c_outline.specs.Gathering.{Gathers, kept_of};
+ghost use Rattle.check_expr.specs.Lists.{body_rule};
+ghost use Rattle.c_outline.specs.Lists.{Lists};
+ghost use Rattle.c_outline.specs.Views as views;
+ghost use Rattle.check_expr.specs.Views.{context_of};
+ghost use Rattle.c_outline.specs.Views.{made_of, outline_of, specified_of};
 
 use crate::constants::array_length;
 use crate::enumerators::enumeration;
-use crate::outline::{
-    Made, Outline, ParamList, add_field, add_param, line_of, object, outlined, param_outlined,
-};
-use crate::specifiers::{self, Base, Site, Specified, Words};
+use crate::lines::{declarator_line, specs_line};
 use crate::type_name::{self, base_named, enumeration_of};
 use c_nodes::expression::{Declarator, Member, NextParam, Param, Spec, Specs, StructBody, Suffix};
 use c_nodes::word::Name;
-use c_operate::checker::Checker;
-use c_operate::error::{CheckError, Kind, refused};
-use c_operate::types::{Progress, Tag, Types};
+use c_outline::outline::{
+    Made, Outline, ParamList, add_field, add_param, object, outlined, param_outlined,
+};
+use c_outline::specifiers::{Base, Site, Specified, Words};
+use c_tables::checker::Checker;
+use c_tables::error::{CheckError, Kind, refused};
+use c_tables::types::{Progress, Tag, Types};
 
 /// Where a declaration stands, and whether a structure or an enumeration may get its body there.
 #[derive(Clone, Copy)]
@@ -148,7 +151,7 @@ pub fn specified(
         words = specifier(spec, checker, context, words)?;
     }
     let in_file = checker.scopes.is_file();
-    words.finished(context.site, in_file, specifiers::line_of(specs))
+    words.finished(context.site, in_file, specs_line(specs))
 }
 
 #[cycle(declarator)]
@@ -224,7 +227,7 @@ fn field(
     ensures { Learns result (known_of checker.new) (rule.field (declarator_of declarator.now) (specified_of specified) structure (known_of checker.old)) }
 {
     let outline = outline(declarator, checker, specified, false)?;
-    let line = line_of(declarator);
+    let line = declarator_line(declarator);
     let name = &declarator.name.bytes;
     add_field(&mut checker.types, structure, outline, name, line)
 }
@@ -313,7 +316,7 @@ fn param(
             let made = self::suffixes(&declarator.suffixes, checker, bodies)?;
             let object = object(base, specified.incomplete);
             let outline = param_outlined(&mut checker.types, object, made)?;
-            let line = line_of(declarator);
+            let line = declarator_line(declarator);
             let name = &declarator.name.bytes;
             add_param(checker, list, specified, outline, name, line)
         }

@@ -10,17 +10,17 @@ ghost use Rattle.type_rules.specs.Declarators as declarators;
 ghost use Rattle.type_rules.specs.Enumerators as rule;
 ghost use Rattle.type_rules.specs.Known.{Known};
 ghost use Rattle.type_rules.specs.Specifiers.{InFile};
-ghost use Rattle.c_operate.specs.Answers.{Answers, Learns};
-ghost use Rattle.c_operate.specs.Tables.{known_of, types_in};
+ghost use Rattle.c_tables.specs.Answers.{Answers, Learns};
+ghost use Rattle.c_tables.specs.Tables.{known_of, types_in};
 ghost use Rattle.check_expr.specs.Lists.{enum_rule};
 
 use crate::constants::constant_value;
 use c_nodes::expression::{EnumBody, Enumerator, NextEnumerator};
 use c_nodes::word::Name;
-use c_operate::checker::Checker;
-use c_operate::error::{CheckError, Kind, refused};
-use c_operate::scope::Binding;
-use c_operate::types::Types;
+use c_tables::checker::Checker;
+use c_tables::error::{CheckError, Kind, refused};
+use c_tables::scope::Binding;
+use c_tables::types::Types;
 
 // The least and the greatest number of type int.
 const LEAST: i64 = -32_768;

@@ -10,7 +10,6 @@ pub mod constants;
 pub mod declarator;
 mod enumerators;
 pub mod expression;
-pub mod outline;
+pub mod lines;
 mod prefixes;
-pub mod specifiers;
 mod type_name;

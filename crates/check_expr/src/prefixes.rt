@@ -4,9 +4,9 @@ ghost use Rattle.std.specs.Prelude.{[], map};
 ghost use Rattle.c_token.specs.declared.token.TokKind.TheVariants as kinds;
 ghost use Rattle.c_nodes.specs.Views.{prefix_of};
 ghost use Rattle.type_rules.specs.Expressions as rule;
-ghost use Rattle.c_operate.specs.Answers.{Answers};
-ghost use Rattle.c_operate.specs.Tables.{known_of};
-ghost use Rattle.c_operate.specs.Terms.{operand_of, term_of};
+ghost use Rattle.c_tables.specs.Answers.{Answers};
+ghost use Rattle.c_tables.specs.Tables.{known_of};
+ghost use Rattle.c_terms.specs.Terms.{operand_of, term_of};
 ghost use Rattle.check_expr.specs.Folds as fold;
 ghost use Rattle.check_expr.specs.Kept.{applied_list, applied_of};
 
@@ -14,12 +14,12 @@ use crate::type_name::type_named;
 use c_ints::UnOp;
 use c_nodes::expression::Prefix;
 use c_nodes::word::Sign;
-use c_operate::checker::Checker;
-use c_operate::error::CheckError;
 use c_operate::operators::{arithmetic, cast_to, negation};
 use c_operate::places::{address, pointed, size_of_term};
-use c_operate::term::{Operand, Term, used};
 use c_operate::writes::stepped;
+use c_tables::checker::Checker;
+use c_tables::error::CheckError;
+use c_terms::term::{Operand, Term, used};
 use c_token::Punct;
 use c_typed::{Qualified, StepOp};
 

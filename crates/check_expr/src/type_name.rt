@@ -12,22 +12,23 @@ ghost use Rattle.type_rules.specs.Names.{meaning_of};
 ghost use Rattle.type_rules.specs.Rows.{tagged};
 ghost use Rattle.type_rules.specs.Specifiers.{Gathered, named_base};
 ghost use Rattle.type_rules.specs.TypeNames as rule;
-ghost use Rattle.c_operate.specs.Answers.{Answers, kind_of};
-ghost use Rattle.c_operate.specs.Tables.{known_of, scopes_in, types_in};
-ghost use Rattle.c_operate.specs.Terms.{term_of};
-ghost use Rattle.check_expr.specs.Gathering.{Gathers, base_of, kept_of};
+ghost use Rattle.c_tables.specs.Answers.{Answers, kind_of};
+ghost use Rattle.c_tables.specs.Tables.{known_of, scopes_in, types_in};
+ghost use Rattle.c_terms.specs.Terms.{term_of};
+ghost use Rattle.c_outline.specs.Gathering.{Gathers, base_of, kept_of};
 ghost use Rattle.check_expr.specs.Lists as lists;
 ghost use Rattle.check_expr.specs.Lists.{sized_name};
 
-use crate::specifiers::{Base, Site, Words, line_of};
+use crate::lines::specs_line;
 use c_nodes::expression::{Spec, TypeName};
 use c_nodes::word::{Name, Pointer, Word};
-use c_operate::checker::Checker;
-use c_operate::error::{CheckError, Kind, refused};
 use c_operate::places::size_of_type;
-use c_operate::scope::{Binding, Scopes};
-use c_operate::term::Term;
-use c_operate::types::{Tag, Types, plain};
+use c_outline::specifiers::{Base, Site, Words};
+use c_tables::checker::Checker;
+use c_tables::error::{CheckError, Kind, refused};
+use c_tables::scope::{Binding, Scopes};
+use c_tables::types::{Tag, Types, plain};
+use c_terms::term::Term;
 use c_token::Keyword;
 use c_typed::Qualified;
 
@@ -168,7 +169,7 @@ pub(crate) fn type_named(name: &TypeName, checker: &mut Checker) -> Result<Quali
         words = type_word(spec, checker, words)?;
     }
     let in_file = checker.scopes.is_file();
-    let base = words.finished(Site::TypeName, in_file, line_of(&name.0))?;
+    let base = words.finished(Site::TypeName, in_file, specs_line(&name.0))?;
     if base.incomplete {
         return refused(Kind::Incomplete, base.line);
     }

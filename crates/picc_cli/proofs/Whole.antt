@@ -2,7 +2,7 @@
 use Rattle.std.proofs.Common.{◌≡◌, ℕ, ◌<◌, ◌≤◌, ⊎_elim, List, length, take, refl, sym, ap, ◌∙◌, subst, arith, min, Err}
 use Rattle.std.proofs.lemmas.Bool.{cases_lt, lt-ltb}
 use Rattle.std.proofs.lemmas.List.{length-take, take_all}
-use Rattle.c_operate.specs.Answers.{fault_of}
+use Rattle.c_tables.specs.Answers.{fault_of}
 use Rattle.picc_core.proofs.Trees.{typed_tree, mistyped_tree, refused_tree}
 use Rattle.picc_core.specs.Answers.{Tells}
 use Rattle.picc_core.specs.Decided.{IsAcceptedText}

@@ -1,7 +1,7 @@
 -- The lines that tell why a text is refused.
 use Rattle.std.specs.Prelude.{ℕ, List, [], ◌∷◌, ◌++◌, codes, decimal, Option, Some, None}
-use Rattle.c_operate.specs.declared.error.Kind.{Kind}
-use Rattle.c_operate.specs.declared.error.Kind.TheVariants as kinds
+use Rattle.c_tables.specs.declared.error.Kind.{Kind}
+use Rattle.c_tables.specs.declared.error.Kind.TheVariants as kinds
 use Rattle.c_typed.specs.declared.program.RootKind.{RootKind}
 use Rattle.c_typed.specs.declared.program.RootKind.TheVariants as roots
 use Rattle.picc_core.specs.declared.refusal.LimitKind.{LimitKind}

@@ -3,9 +3,9 @@ use Rattle.std.proofs.Common.{◌≡◌, ℕ, ◌<◌, ◌≤◌, ◌⊎◌, ⊎
 use Rattle.std.specs.Global.{Global}
 use Rattle.std.specs.declared.vec.Vec.{Vec}
 use Rattle.std.proofs.lemmas.Bool.{cases_lt}
-use Rattle.c_operate.specs.Answers.{kind_of, fault_of}
-use Rattle.c_operate.specs.declared.error.Kind.{Kind}
-use Rattle.c_operate.specs.declared.error.Kind.TheVariants as kinds
+use Rattle.c_tables.specs.Answers.{kind_of, fault_of}
+use Rattle.c_tables.specs.declared.error.Kind.{Kind}
+use Rattle.c_tables.specs.declared.error.Kind.TheVariants as kinds
 use Rattle.c_typed.specs.Chains.{graph_of}
 use Rattle.c_typed.specs.Roots.{broken_root}
 use Rattle.c_typed.specs.Trees.{Program}

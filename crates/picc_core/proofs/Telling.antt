@@ -10,7 +10,7 @@ use Rattle.c_pre.specs.Items.{program_of, IsError}
 use Rattle.c_pre.specs.declared.PreError.{PreError}
 use Rattle.c_pre.specs.declared.PreError.TheVariants as pre
 use Rattle.c_nodes.specs.Programs.{ItemTree, IsUnit, spelled_unit}
-use Rattle.c_operate.specs.Answers.{fault_of}
+use Rattle.c_tables.specs.Answers.{fault_of}
 use Rattle.c_typed.specs.Views.{program_of as view_of}
 use Rattle.parse_expr.specs.Reader.{symbols_in}
 use Rattle.parse_expr.specs.declared.error.ParseError.{ParseError}

@@ -1,6 +1,6 @@
 -- What the answers of the stages say of a text.
 use Rattle.std.specs.Prelude.{ℕ, ◌≡◌, ◌⊎◌, List, Result, Err}
-use Rattle.c_operate.specs.Answers.{fault_of}
+use Rattle.c_tables.specs.Answers.{fault_of}
 use Rattle.c_typed.specs.Trees.{Program}
 use Rattle.picc_core.specs.Accepted.{IsFirstRefusal}
 use Rattle.picc_core.specs.Texts.{program_tokens, HasNoTree}

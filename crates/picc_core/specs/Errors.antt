@@ -5,8 +5,8 @@ use Rattle.c_pre.specs.declared.PreError.{PreError}
 use Rattle.c_pre.specs.declared.PreError.TheVariants as pre
 use Rattle.parse_expr.specs.declared.error.ParseError.{ParseError}
 use Rattle.parse_expr.specs.declared.error.ParseError.TheVariants as parse
-use Rattle.c_operate.specs.declared.error.CheckError.{CheckError}
-use Rattle.c_operate.specs.declared.error.CheckError.TheVariants as check
+use Rattle.c_tables.specs.declared.error.CheckError.{CheckError}
+use Rattle.c_tables.specs.declared.error.CheckError.TheVariants as check
 use Rattle.call_graph.specs.declared.types.GraphError.{GraphError}
 use Rattle.call_graph.specs.declared.types.GraphError.TheVariants as graph
 use Rattle.ram_place.specs.declared.placing.PlaceError.{PlaceError}

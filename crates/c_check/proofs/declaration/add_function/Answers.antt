@@ -3,9 +3,9 @@ use Rattle.std.proofs.lemmas.Result.{err_from_is_err_and}
 use Rattle.type_rules.specs.Declarations.{new_function}
 use Rattle.type_rules.specs.Known.{FunctionName, given, go_on, ◌>>=◌}
 use Rattle.type_rules.specs.Names.{bind}
-use Rattle.c_operate.specs.Answers.{Refuses}
-use Rattle.c_operate.specs.Tables.{functions_in, known_of}
-use Rattle.c_operate.proofs.Steps.{then_refuses}
+use Rattle.c_tables.specs.Answers.{Refuses}
+use Rattle.c_tables.specs.Tables.{functions_in, known_of}
+use Rattle.c_tables.proofs.Steps.{then_refuses}
 use Rattle.c_check.proofs.declaration.add_function.Goals as goal
 
 pub returns-in_err-function : goal.returns-in_err-function

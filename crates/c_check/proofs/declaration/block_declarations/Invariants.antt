@@ -2,7 +2,7 @@ use Rattle.std.proofs.Common.{◌≡◌, drop, map}
 use Rattle.c_nodes.specs.ProgramViews.{declaration_of}
 use Rattle.c_typed.specs.Views.{statement_of}
 use Rattle.type_rules.specs.Declarations as rule
-use Rattle.c_operate.specs.Tables.{known_of}
+use Rattle.c_tables.specs.Tables.{known_of}
 use Rattle.c_check.specs.StatementViews.{behind}
 use Rattle.c_check.proofs.declaration.block_declarations.Given as goal
 

@@ -2,8 +2,8 @@ use Rattle.std.proofs.Common.{◌≡◌, Some, drop, map}
 use Rattle.c_nodes.specs.ProgramViews.{declared_of, next_begun_of}
 use Rattle.c_typed.specs.Views.{statement_of}
 use Rattle.type_rules.specs.Declarations.{declared_in_block, more_in_block}
-use Rattle.c_operate.specs.Tables.{known_of}
-use Rattle.check_expr.specs.Views.{specified_of}
+use Rattle.c_tables.specs.Tables.{known_of}
+use Rattle.c_outline.specs.Views.{specified_of}
 use Rattle.c_check.specs.StatementViews.{behind}
 use Rattle.c_check.proofs.declaration.block_declarators.Given as goal
 

@@ -2,8 +2,8 @@ use Rattle.std.proofs.Common.{map}
 use Rattle.std.proofs.lemmas.Result.{err_from_is_err_and}
 use Rattle.c_nodes.specs.ProgramViews.{equals_of}
 use Rattle.c_typed.specs.Views.{statement_of}
-use Rattle.c_operate.specs.Tables.{body_in, known_of}
-use Rattle.check_expr.specs.Views.{outline_of, specified_of}
+use Rattle.c_tables.specs.Tables.{body_in, known_of}
+use Rattle.c_outline.specs.Views.{outline_of, specified_of}
 use Rattle.c_check.proofs.Declared.{block_first, block_next, block_last}
 use Rattle.c_check.proofs.declaration.block_object.Goals as goal
 

@@ -4,10 +4,10 @@ use Rattle.c_typed.specs.declared.types.Ty.{Ty}
 use Rattle.type_rules.specs.Declarations.{set_defined}
 use Rattle.type_rules.specs.Known.{go_on, ◌>>=◌}
 use Rattle.type_rules.specs.Names.{innermost_in}
-use Rattle.c_operate.specs.Answers.{Refuses}
-use Rattle.c_operate.specs.Tables.{known_of}
-use Rattle.c_operate.proofs.Steps.{then_refuses}
-use Rattle.check_expr.specs.Views.{param_of}
+use Rattle.c_tables.specs.Answers.{Refuses}
+use Rattle.c_tables.specs.Tables.{known_of}
+use Rattle.c_tables.proofs.Steps.{then_refuses}
+use Rattle.c_outline.specs.Views.{param_of}
 use Rattle.c_check.specs.StatementViews.{function_known}
 use Rattle.c_check.proofs.Declared.{function_is}
 use Rattle.c_check.proofs.declaration.declare_function.Goals as goal

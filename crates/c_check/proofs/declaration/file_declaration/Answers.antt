@@ -1,7 +1,8 @@
 use Rattle.std.proofs.Common.{ap}
 use Rattle.c_nodes.specs.ProgramViews.{declaration_of, declared_of}
-use Rattle.c_operate.specs.Tables.{known_of}
-use Rattle.check_expr.specs.Views.{context_of, specified_of}
+use Rattle.c_tables.specs.Tables.{known_of}
+use Rattle.check_expr.specs.Views.{context_of}
+use Rattle.c_outline.specs.Views.{specified_of}
 use Rattle.c_check.proofs.Declared.{nothing_last}
 use Rattle.c_check.proofs.declaration.file_declaration.Goals as goal
 

@@ -1,8 +1,8 @@
 use Rattle.std.proofs.Common.{◌≡◌, Some, drop, map}
 use Rattle.c_nodes.specs.ProgramViews.{declared_of, next_begun_of}
 use Rattle.type_rules.specs.Declarations.{declared_in_file, more_in_file}
-use Rattle.c_operate.specs.Tables.{known_of}
-use Rattle.check_expr.specs.Views.{specified_of}
+use Rattle.c_tables.specs.Tables.{known_of}
+use Rattle.c_outline.specs.Views.{specified_of}
 use Rattle.c_check.proofs.declaration.file_declarators.Given as goal
 
 abbrev pub invariant-loop-next : goal.invariant-loop-next

@@ -3,9 +3,9 @@ use Rattle.std.proofs.lemmas.Result.{err_from_is_err_and}
 use Rattle.c_nodes.specs.ProgramViews.{equals_of}
 use Rattle.type_rules.specs.Declarations.{init_in}
 use Rattle.type_rules.specs.Objects.{static_rule}
-use Rattle.c_operate.specs.Answers.{Learns}
-use Rattle.c_operate.specs.Tables.{known_of}
-use Rattle.check_expr.specs.Views.{outline_of, specified_of}
+use Rattle.c_tables.specs.Answers.{Learns}
+use Rattle.c_tables.specs.Tables.{known_of}
+use Rattle.c_outline.specs.Views.{outline_of, specified_of}
 use Rattle.c_check.proofs.Declared.{object_first, object_next, object_last}
 use Rattle.c_check.proofs.declaration.file_object.Goals as goal
 

@@ -1,7 +1,7 @@
 use Rattle.std.proofs.Common.{sym}
 use Rattle.std.proofs.lemmas.Result.{err_from_is_err_and}
-use Rattle.c_operate.specs.Tables.{known_of}
-use Rattle.check_expr.specs.Views.{outline_of, specified_of}
+use Rattle.c_tables.specs.Tables.{known_of}
+use Rattle.c_outline.specs.Views.{outline_of, specified_of}
 use Rattle.c_check.proofs.Declared.{named_again, named_badly, named_well}
 use Rattle.c_check.proofs.declaration.named_type.Goals as goal
 

@@ -1,6 +1,6 @@
 use Rattle.std.proofs.Common.{◌≡◌, ◌++◌, drop, map}
 use Rattle.type_rules.specs.Declarations.{param_types}
-use Rattle.check_expr.specs.Views.{param_of}
+use Rattle.c_outline.specs.Views.{param_of}
 use Rattle.c_check.proofs.declaration.types_of.Given as goal
 
 abbrev pub invariant-loop-param : goal.invariant-loop-param

@@ -1,13 +1,13 @@
 use Rattle.std.proofs.Common.{◌+◌, map, refl}
 use Rattle.c_nodes.specs.ProgramViews.{more_inits, next_init_of}
 use Rattle.type_rules.specs.Initializers.{items_in, more_begins}
-use Rattle.c_operate.specs.Tables.{known_of}
-use Rattle.c_operate.specs.Terms.{operand_of}
+use Rattle.c_tables.specs.Tables.{known_of}
+use Rattle.c_terms.specs.Terms.{operand_of}
 use Rattle.type_rules.specs.Initializers.{begins}
 use Rattle.c_nodes.specs.ProgramViews.{init_of}
-use Rattle.c_check.specs.Views.{any_slot, begun_of}
+use Rattle.c_outline.specs.Slots.{any_slot, begun_of}
 use Rattle.c_check.proofs.Listing.{item_read, item_wrong, all_read, one_counted, one_behind, all_counted, value_answered, value_wrong, text_answered, list_answered, first_wrong, more_wrong}
-use Rattle.c_operate.proofs.Steps.{passed_on}
+use Rattle.c_tables.proofs.Steps.{passed_on}
 use Rattle.c_check.proofs.initializer.+initializer.Goals as goal
 
 pub items-loop-next-preserved : goal.items-loop-next-preserved

@@ -1,8 +1,8 @@
 use Rattle.std.proofs.Common.{◌≡◌, ◌+◌, drop, map}
 use Rattle.c_nodes.specs.ProgramViews.{more_inits, next_init_of}
 use Rattle.type_rules.specs.Initializers.{more_begins, items_in}
-use Rattle.c_operate.specs.Tables.{known_of}
-use Rattle.c_check.specs.Views.{any_slot, begun_of}
+use Rattle.c_tables.specs.Tables.{known_of}
+use Rattle.c_outline.specs.Slots.{any_slot, begun_of}
 use Rattle.c_check.proofs.initializer.+initializer.Given as goal
 
 -- what is left goes on from the items so far

@@ -1,6 +1,6 @@
 use Rattle.c_nodes.specs.Views.{assign_of}
-use Rattle.c_operate.specs.Tables.{known_of}
-use Rattle.c_operate.specs.Terms.{term_of}
+use Rattle.c_tables.specs.Tables.{known_of}
+use Rattle.c_terms.specs.Terms.{term_of}
 use Rattle.c_check.proofs.Evaluated.{value_is}
 use Rattle.c_check.proofs.initializer.evaluated.Goals as goal
 

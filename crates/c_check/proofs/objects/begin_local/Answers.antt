@@ -2,10 +2,10 @@ use Rattle.std.proofs.Common.{Some, map}
 use Rattle.c_nodes.specs.ProgramViews.{init_of}
 use Rattle.c_typed.specs.Views.{statement_of}
 use Rattle.type_rules.specs.Objects as rule
-use Rattle.c_operate.specs.Tables.{body_in, known_of, scopes_in, types_in}
-use Rattle.c_check.specs.Views.{begun_of, slot_of}
+use Rattle.c_tables.specs.Tables.{body_in, known_of, scopes_in, types_in}
+use Rattle.c_outline.specs.Slots.{begun_of, slot_of}
 use Rattle.c_check.proofs.Making.{local_unclosed, local_unbound, local_is}
-use Rattle.c_operate.proofs.Steps.{passed_on}
+use Rattle.c_tables.proofs.Steps.{passed_on}
 use Rattle.c_check.proofs.objects.begin_local.Goals as goal
 
 pub returns-in_err-whole : goal.returns-in_err-whole

@@ -1,10 +1,10 @@
 use Rattle.std.proofs.Common.{Some}
 use Rattle.c_nodes.specs.ProgramViews.{init_of}
 use Rattle.type_rules.specs.Objects as rule
-use Rattle.c_operate.specs.Tables.{known_of, scopes_in, types_in}
-use Rattle.c_check.specs.Views.{begun_of, slot_of}
+use Rattle.c_tables.specs.Tables.{known_of, scopes_in, types_in}
+use Rattle.c_outline.specs.Slots.{begun_of, slot_of}
 use Rattle.c_check.proofs.Making.{static_unclosed, static_unbound, static_is}
-use Rattle.c_operate.proofs.Steps.{passed_on_test}
+use Rattle.c_tables.proofs.Steps.{passed_on_test}
 use Rattle.c_check.proofs.objects.begin_static.Goals as goal
 
 pub returns-in_err-whole : goal.returns-in_err-whole

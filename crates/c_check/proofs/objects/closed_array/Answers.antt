@@ -1,7 +1,7 @@
 use Rattle.type_rules.specs.Objects as rule
-use Rattle.c_operate.specs.Tables.{types_in}
+use Rattle.c_tables.specs.Tables.{types_in}
 use Rattle.c_check.proofs.Making.{closed_long, closed_refused, closed_sized, closed_large}
-use Rattle.c_operate.proofs.Steps.{passed_on}
+use Rattle.c_tables.proofs.Steps.{passed_on}
 use Rattle.c_check.proofs.objects.closed_array.Goals as goal
 
 pub returns-then-is_long : goal.returns-then-is_long

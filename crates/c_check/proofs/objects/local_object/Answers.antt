@@ -4,10 +4,10 @@ use Rattle.c_typed.proofs.Shapes.{show_statement_declare}
 use Rattle.c_typed.specs.Views.{statement_of}
 use Rattle.c_typed.specs.declared.statement.TStmt.TheVariants as statements
 use Rattle.type_rules.specs.Objects as rule
-use Rattle.c_operate.specs.Tables.{body_in, known_of, scopes_in}
+use Rattle.c_tables.specs.Tables.{body_in, known_of, scopes_in}
 use Rattle.c_check.specs.Views.{any_init}
 use Rattle.c_check.proofs.Making.{local_unadded, local_unnamed, local_some, local_none}
-use Rattle.c_operate.proofs.Steps.{passed_on}
+use Rattle.c_tables.proofs.Steps.{passed_on}
 use Rattle.c_check.proofs.objects.local_object.Goals as goal
 
 pub returns-in_err-local : goal.returns-in_err-local

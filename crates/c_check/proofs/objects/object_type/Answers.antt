@@ -1,6 +1,6 @@
 use Rattle.std.proofs.Common.{ap}
-use Rattle.c_operate.specs.Tables.{types_in}
-use Rattle.check_expr.specs.Views.{declared_of, outline_of, specified_of}
+use Rattle.c_tables.specs.Tables.{types_in}
+use Rattle.c_outline.specs.Views.{declared_of, outline_of, specified_of}
 use Rattle.c_check.proofs.Making.{object_large, object_missing, object_whole}
 use Rattle.c_check.proofs.objects.object_type.Goals as goal
 

@@ -1,10 +1,10 @@
 use Rattle.std.proofs.Common.{ap}
 use Rattle.c_nodes.specs.ProgramViews.{init_of}
 use Rattle.type_rules.specs.Objects as rule
-use Rattle.c_operate.specs.Tables.{known_of, scopes_in, statics_in}
+use Rattle.c_tables.specs.Tables.{known_of, scopes_in, statics_in}
 use Rattle.c_check.specs.Views.{any_init}
 use Rattle.c_check.proofs.Making.{static_unadded, static_unnamed, static_some, static_none}
-use Rattle.c_operate.proofs.Steps.{passed_on_test}
+use Rattle.c_tables.proofs.Steps.{passed_on_test}
 use Rattle.c_check.proofs.objects.static_object.Goals as goal
 
 pub returns-in_err-number : goal.returns-in_err-number

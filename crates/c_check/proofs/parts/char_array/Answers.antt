@@ -1,5 +1,5 @@
-use Rattle.c_operate.specs.Tables.{types_in}
-use Rattle.c_check.proofs.Parting.{chars_found, no_chars}
+use Rattle.c_tables.specs.Tables.{types_in}
+use Rattle.c_outline.proofs.Parting.{chars_found, no_chars}
 use Rattle.c_check.proofs.parts.char_array.Goals as goal
 
 pub returns-then-is_char : goal.returns-then-is_char

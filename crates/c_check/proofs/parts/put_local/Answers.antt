@@ -1,9 +1,9 @@
 use Rattle.std.proofs.Common.{sym, subst}
 use Rattle.type_rules.specs.Slots as rule
-use Rattle.c_operate.specs.Answers.{Answers}
-use Rattle.c_operate.specs.Tables.{known_of}
-use Rattle.c_operate.specs.Terms.{operand_of}
-use Rattle.c_check.specs.Views.{begun_of, slot_of}
+use Rattle.c_tables.specs.Answers.{Answers}
+use Rattle.c_tables.specs.Tables.{known_of}
+use Rattle.c_terms.specs.Terms.{operand_of}
+use Rattle.c_outline.specs.Slots.{begun_of, slot_of}
 use Rattle.c_check.proofs.parts.put_local.Goals as goal
 
 pub returns-in-Struct : goal.returns-in-Struct

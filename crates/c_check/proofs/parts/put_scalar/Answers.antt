@@ -1,11 +1,12 @@
 use Rattle.c_typed.specs.Trees as typed
 use Rattle.c_typed.specs.Views.{expression_of}
 use Rattle.type_rules.specs.Slots.{with_item}
-use Rattle.c_operate.specs.Tables.{known_of}
-use Rattle.c_operate.specs.Terms.{operand_of}
-use Rattle.c_check.specs.Views.{begin_scalar, begun_of, slot_of}
+use Rattle.c_tables.specs.Tables.{known_of}
+use Rattle.c_terms.specs.Terms.{operand_of}
+use Rattle.c_check.specs.Views.{begin_scalar}
+use Rattle.c_outline.specs.Slots.{begun_of, slot_of}
 use Rattle.c_check.proofs.Beginning.{put_answers, scalar_refused, scalar_given}
-use Rattle.c_operate.proofs.Steps.{passed_on}
+use Rattle.c_tables.proofs.Steps.{passed_on}
 use Rattle.c_check.proofs.parts.put_scalar.Goals as goal
 
 pub returns-in_err-value : goal.returns-in_err-value

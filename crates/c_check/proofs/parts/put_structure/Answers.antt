@@ -3,9 +3,9 @@ use Rattle.c_typed.specs.Sameness.{same_type}
 use Rattle.c_typed.specs.Trees as typed
 use Rattle.c_typed.specs.Views.{place_of}
 use Rattle.type_rules.specs.Slots as rule
-use Rattle.c_operate.specs.Tables.{types_in}
-use Rattle.c_operate.specs.Terms.{operand_of}
-use Rattle.c_check.specs.Views.{begun_of, slot_of}
+use Rattle.c_tables.specs.Tables.{types_in}
+use Rattle.c_terms.specs.Terms.{operand_of}
+use Rattle.c_outline.specs.Slots.{begun_of, slot_of}
 use Rattle.c_check.proofs.Beginning.{put_answers, structure_given}
 use Rattle.c_check.proofs.parts.put_structure.Goals as goal
 

@@ -1,6 +1,6 @@
 use Rattle.c_nodes.specs.Words.{quoted}
-use Rattle.c_operate.specs.Tables.{known_of}
-use Rattle.c_check.specs.Views.{begun_of, slot_of}
+use Rattle.c_tables.specs.Tables.{known_of}
+use Rattle.c_outline.specs.Slots.{begun_of, slot_of}
 use Rattle.c_check.proofs.Beginning.{text_some, text_none}
 use Rattle.c_check.proofs.parts.put_text_in.Goals as goal
 

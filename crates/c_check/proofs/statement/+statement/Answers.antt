@@ -8,10 +8,11 @@ use Rattle.c_nodes.specs.Views.{expr_of}
 use Rattle.c_nodes.specs.declared.statement.Statement.TheViews.{out-Arm, out-Block}
 use Rattle.c_typed.specs.Views.{statement_of}
 use Rattle.type_rules.specs.Statements as rule
-use Rattle.c_operate.proofs.Steps.{out_of_memory}
-use Rattle.c_operate.specs.Tables.{known_of, scopes_in}
-use Rattle.c_operate.specs.declared.checker.Checker.{Checker}
-use Rattle.c_check.specs.StatementViews.{Sees, body_of, do_rule, flow_of, for_rule, switch_rule, while_rule}
+use Rattle.c_tables.proofs.Steps.{out_of_memory}
+use Rattle.c_tables.specs.Tables.{known_of, scopes_in}
+use Rattle.c_tables.specs.declared.checker.Checker.{Checker}
+use Rattle.c_check.specs.StatementViews.{Sees, body_of, do_rule, for_rule, switch_rule, while_rule}
+use Rattle.c_outline.specs.Flows.{flow_of}
 use Rattle.c_check.specs.declared.switch.SwitchBody.{SwitchBody}
 use Rattle.c_check.proofs.Answering.{goes, stops, ends, no_memory}
 use Rattle.c_check.proofs.Bodies.{scoped_refuses, scoped_is, block_shown, while_starts, do_starts, for_starts, looped_as, arm_starts, arm_shown, else_starts, first_refuses, chain_begins, other_refuses, chain_more, last_refuses, chain_is, switch_starts, label_on, label_off, inner_on, inner_off, body_is}

@@ -3,8 +3,9 @@ use Rattle.c_nodes.specs.ProgramViews as views
 use Rattle.c_nodes.specs.declared.statement.Statement.TheViews.{out-IfChain}
 use Rattle.c_typed.specs.Views.{arm_of, statement_of}
 use Rattle.type_rules.specs.Statements as rule
-use Rattle.c_operate.specs.Tables.{known_of}
-use Rattle.c_check.specs.StatementViews.{arms_behind, behind, block_list, body_of, chain_arms, flow_of, Sees}
+use Rattle.c_tables.specs.Tables.{known_of}
+use Rattle.c_check.specs.StatementViews.{arms_behind, behind, block_list, body_of, chain_arms, Sees}
+use Rattle.c_outline.specs.Flows.{flow_of}
 use Rattle.c_check.proofs.statement.+statement.Given as goal
 
 abbrev pub invariant-block-loop-inner : goal.invariant-block-loop-inner

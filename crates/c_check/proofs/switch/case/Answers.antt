@@ -2,7 +2,7 @@ use Rattle.std.proofs.Common.{Ok, map, to_z, of_z, w64, [], ◌∷◌, ◌++◌,
 use Rattle.std.proofs.lemmas.List.{length-map}
 use Rattle.c_nodes.specs.Views.{cond_of}
 use Rattle.c_typed.specs.Views.{statement_of}
-use Rattle.c_operate.specs.Tables.{known_of}
+use Rattle.c_tables.specs.Tables.{known_of}
 use Rattle.c_check.specs.StatementViews.{body_of, case_rule, Labels}
 use Rattle.c_check.proofs.Labels.{case_again, case_once, kept_number, seen_more}
 use Rattle.c_check.proofs.switch.case.Goals as goal

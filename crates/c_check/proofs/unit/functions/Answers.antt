@@ -1,6 +1,6 @@
 use Rattle.c_nodes.specs.ProgramViews.{unit_of}
 use Rattle.type_rules.specs.Units.{functions_of}
-use Rattle.c_operate.specs.Tables.{known_of}
+use Rattle.c_tables.specs.Tables.{known_of}
 use Rattle.c_check.proofs.Units.{function_next, declaration_next}
 use Rattle.c_check.proofs.unit.functions.Goals.{in-Function+in_ok-made-in-Function+in_ok-push-in-Function, in-Declaration+in_ok-file_declaration-in-Declaration}
 use Rattle.c_check.proofs.unit.functions.Goals as goal

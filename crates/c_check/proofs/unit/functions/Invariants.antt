@@ -2,7 +2,7 @@ use Rattle.std.proofs.Common.{◌≡◌, drop, map}
 use Rattle.c_nodes.specs.ProgramViews.{item_of, unit_of}
 use Rattle.c_typed.specs.Views.{function_of}
 use Rattle.type_rules.specs.Units.{functions_of}
-use Rattle.c_operate.specs.Tables.{known_of}
+use Rattle.c_tables.specs.Tables.{known_of}
 use Rattle.c_check.specs.StatementViews.{behind}
 use Rattle.c_check.proofs.unit.functions.Given as goal
 

@@ -2,9 +2,9 @@ use Rattle.std.proofs.Common.{map}
 use Rattle.std.proofs.lemmas.Result.{err_from_is_err_and}
 use Rattle.c_nodes.specs.ProgramViews.{block_of}
 use Rattle.c_typed.specs.Views.{statement_of, variable_of}
-use Rattle.c_operate.specs.Tables.{known_of, scope_of}
-use Rattle.check_expr.specs.Views.{param_of}
-use Rattle.c_check.specs.StatementViews.{flow_of}
+use Rattle.c_tables.specs.Tables.{known_of, scope_of}
+use Rattle.c_outline.specs.Views.{param_of}
+use Rattle.c_outline.specs.Flows.{flow_of}
 use Rattle.c_check.proofs.Units.{scope_refuses, body_refuses, inner_made}
 use Rattle.c_check.proofs.unit.inner.Goals as goal
 

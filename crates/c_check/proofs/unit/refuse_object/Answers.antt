@@ -2,7 +2,7 @@ use Rattle.std.proofs.Common.{ap}
 use Rattle.std.proofs.lemmas.Result.{err_from_is_err_and}
 use Rattle.type_rules.specs.Faults as kind
 use Rattle.type_rules.specs.Known.{broken, go_on}
-use Rattle.c_operate.specs.Tables.{known_of}
+use Rattle.c_tables.specs.Tables.{known_of}
 use Rattle.c_check.proofs.Lists.{passes_on}
 use Rattle.c_check.proofs.unit.refuse_object.Goals as goal
 

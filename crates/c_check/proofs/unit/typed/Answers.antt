@@ -2,7 +2,7 @@ use Rattle.std.proofs.Common.{ap, map}
 use Rattle.c_nodes.specs.ProgramViews.{unit_of}
 use Rattle.c_typed.specs.Views.{function_of, static_of}
 use Rattle.type_rules.specs.Units as rule
-use Rattle.c_operate.specs.Tables.{known_of}
+use Rattle.c_tables.specs.Tables.{known_of}
 use Rattle.c_check.proofs.Units.{is_given, is_kept, is_few}
 use Rattle.c_check.proofs.unit.typed.Goals as goal
 

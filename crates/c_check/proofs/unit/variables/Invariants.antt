@@ -2,7 +2,7 @@ use Rattle.std.proofs.Common.{◌≡◌, ◌++◌, map}
 use Rattle.std.specs.Vec.Iter.{into_iter_items}
 use Rattle.c_typed.specs.Views.{variable_of}
 use Rattle.type_rules.specs.Units as rule
-use Rattle.check_expr.specs.Views.{param_of}
+use Rattle.c_outline.specs.Views.{param_of}
 use Rattle.c_check.proofs.unit.variables.Given as goal
 
 abbrev pub invariant-loop-param : goal.invariant-loop-param

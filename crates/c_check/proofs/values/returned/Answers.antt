@@ -3,7 +3,7 @@ use Rattle.std.proofs.lemmas.Result.{err_from_is_err_and}
 use Rattle.c_nodes.specs.ProgramViews.{any_of}
 use Rattle.c_nodes.specs.Views.{expr_of}
 use Rattle.type_rules.specs.Statements as rule
-use Rattle.c_operate.specs.Tables.{known_of}
+use Rattle.c_tables.specs.Tables.{known_of}
 use Rattle.c_check.proofs.Answering.{stops}
 use Rattle.c_check.proofs.Returning.{return_starts}
 use Rattle.c_check.proofs.values.returned.Goals as goal

@@ -4,9 +4,9 @@ use Rattle.c_typed.specs.Sameness.{is_void}
 use Rattle.c_typed.specs.Views.{expression_of}
 use Rattle.c_typed.specs.declared.types.Ty.{Ty}
 use Rattle.type_rules.specs.Conversions.{assigned}
-use Rattle.c_operate.specs.Answers.{Answers}
-use Rattle.c_operate.specs.Tables.{known_of}
-use Rattle.c_operate.specs.Terms.{operand_of}
+use Rattle.c_tables.specs.Answers.{Answers}
+use Rattle.c_tables.specs.Tables.{known_of}
+use Rattle.c_terms.specs.Terms.{operand_of}
 use Rattle.c_check.proofs.Returning.{value_returned}
 use Rattle.c_check.proofs.values.returned_value.Goals as goal
 

@@ -3,9 +3,9 @@ use Rattle.std.proofs.lemmas.Result.{err_from_is_err_and}
 use Rattle.c_nodes.specs.Views.{expr_of}
 use Rattle.c_typed.specs.Views.{expression_of}
 use Rattle.type_rules.specs.Statements.{int_of}
-use Rattle.c_operate.proofs.Steps.{out_of_memory}
-use Rattle.c_operate.specs.Tables.{known_of}
-use Rattle.c_operate.specs.Terms.{operand_of}
+use Rattle.c_tables.proofs.Steps.{out_of_memory}
+use Rattle.c_tables.specs.Tables.{known_of}
+use Rattle.c_terms.specs.Terms.{operand_of}
 use Rattle.c_check.proofs.Returning.{switched_is}
 use Rattle.c_check.proofs.values.switched.Goals as goal
 

@@ -1,13 +1,13 @@
 use Rattle.std.proofs.Common.{◌≡◌, nat_eq, length, map, true, sym, ap, subst, ◌∙◌}
 use Rattle.c_typed.specs.Views.{arguments_of, expression_of}
 use Rattle.type_rules.specs.Writes as rule
-use Rattle.c_operate.specs.Answers.{Refuses}
-use Rattle.c_operate.specs.Tables.{known_of, signature_of}
-use Rattle.c_operate.specs.Terms.{operand_of, term_of}
+use Rattle.c_tables.specs.Answers.{Refuses}
+use Rattle.c_tables.specs.Tables.{known_of, signature_of}
+use Rattle.c_terms.specs.Terms.{operand_of, term_of}
 use Rattle.c_operate.proofs.CallSteps.{to_definition, not_passed, is_called}
 use Rattle.c_operate.proofs.PlaceSteps.{valued_as}
-use Rattle.c_operate.proofs.Refusing.{made}
-use Rattle.c_operate.proofs.Steps.{passed_on}
+use Rattle.c_terms.proofs.Refusing.{made}
+use Rattle.c_tables.proofs.Steps.{passed_on}
 use Rattle.c_operate.proofs.calls.call.Goals as goal
 
 pub returns-in_err-values : goal.returns-in_err-values

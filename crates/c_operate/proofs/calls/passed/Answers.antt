@@ -3,10 +3,10 @@ use Rattle.std.proofs.lemmas.List.{map-append}
 use Rattle.std.specs.Vec.Iter.{into_iter_items}
 use Rattle.c_typed.specs.Views.{arguments_of, expression_of}
 use Rattle.type_rules.specs.Writes as rule
-use Rattle.c_operate.specs.Tables.{types_in}
-use Rattle.c_operate.specs.Terms.{operand_of}
+use Rattle.c_tables.specs.Tables.{types_in}
+use Rattle.c_terms.specs.Terms.{operand_of}
 use Rattle.c_operate.proofs.CallSteps.{nothing_left, passed_one, passed_none, passed_all, passed_to_all}
-use Rattle.c_operate.proofs.Steps.{passed_on}
+use Rattle.c_tables.proofs.Steps.{passed_on}
 use Rattle.c_operate.proofs.calls.passed.Goals as goal
 
 pub loop-ty-preserved : goal.loop-ty-preserved

@@ -3,8 +3,8 @@ use Rattle.std.specs.Vec.Iter.{into_iter_items, into_iter_len}
 use Rattle.c_typed.specs.Views.{expression_of}
 use Rattle.type_rules.specs.Known.{Known}
 use Rattle.type_rules.specs.Writes as rule
-use Rattle.c_operate.specs.Tables.{types_in}
-use Rattle.c_operate.specs.Terms.{operand_of}
+use Rattle.c_tables.specs.Tables.{types_in}
+use Rattle.c_terms.specs.Terms.{operand_of}
 use Rattle.c_operate.proofs.CallSteps.{behind}
 use Rattle.c_operate.proofs.calls.passed.Given as goal
 

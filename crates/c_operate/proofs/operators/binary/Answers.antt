@@ -3,10 +3,10 @@ use Rattle.std.specs.Option.{option_map}
 use Rattle.c_typed.specs.Views.{expression_of}
 use Rattle.type_rules.specs.Operations as rule
 use Rattle.type_rules.specs.Terms.{side_of}
-use Rattle.c_operate.specs.Tables.{types_in}
-use Rattle.c_operate.specs.Terms.{operation_of, operand_of, reach_of}
-use Rattle.c_operate.specs.Terms.{side_of as shown_side}
-use Rattle.c_operate.proofs.Operating.{binary_is}
+use Rattle.c_tables.specs.Tables.{types_in}
+use Rattle.c_terms.specs.Terms.{operation_of, operand_of, reach_of}
+use Rattle.c_terms.specs.Terms.{side_of as shown_side}
+use Rattle.c_terms.proofs.Operating.{binary_is}
 use Rattle.c_operate.proofs.operators.binary.Goals as goal
 
 pub returns : goal.returns

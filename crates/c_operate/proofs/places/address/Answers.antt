@@ -2,11 +2,11 @@ use Rattle.std.proofs.Common.{refl, sym, ap, ◌∙◌}
 use Rattle.c_typed.specs.Views.{place_of}
 use Rattle.type_rules.specs.Places as rule
 use Rattle.type_rules.specs.Rows.{pointer_to}
-use Rattle.c_operate.specs.Tables.{types_in}
-use Rattle.c_operate.specs.Terms.{form_of, lvalue_reach, term_of}
+use Rattle.c_tables.specs.Tables.{types_in}
+use Rattle.c_terms.specs.Terms.{form_of, lvalue_reach, term_of}
 use Rattle.c_operate.proofs.PlaceSteps.{no_table_address, is_addressed, valued_as}
-use Rattle.c_operate.proofs.Refusing.{made, only_memory}
-use Rattle.c_operate.proofs.Steps.{passed_on}
+use Rattle.c_terms.proofs.Refusing.{made, only_memory}
+use Rattle.c_tables.proofs.Steps.{passed_on}
 use Rattle.c_operate.proofs.places.address.Goals as goal
 
 pub returns-in_err-ty : goal.returns-in_err-ty

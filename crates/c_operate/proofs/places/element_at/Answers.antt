@@ -2,10 +2,10 @@ use Rattle.std.proofs.Common.{refl, ap, ◌∙◌}
 use Rattle.type_rules.specs.Conversions.{converted}
 use Rattle.type_rules.specs.Known.{given}
 use Rattle.type_rules.specs.Places as rule
-use Rattle.c_operate.specs.Terms.{operand_of, operation_of, term_of}
+use Rattle.c_terms.specs.Terms.{operand_of, operation_of, term_of}
 use Rattle.c_operate.proofs.PlaceSteps.{element_as}
-use Rattle.c_operate.proofs.Refusing.{made, only_memory, given_is}
-use Rattle.c_operate.proofs.Steps.{passed_on}
+use Rattle.c_terms.proofs.Refusing.{made, only_memory, given_is}
+use Rattle.c_tables.proofs.Steps.{passed_on}
 use Rattle.c_operate.proofs.places.element_at.Goals as goal
 
 pub returns-in_err-left : goal.returns-in_err-left

@@ -1,10 +1,10 @@
 use Rattle.std.proofs.Common.{refl, sym, ap, ◌∙◌}
 use Rattle.c_typed.specs.Views.{place_of}
 use Rattle.type_rules.specs.Places as rule
-use Rattle.c_operate.specs.Tables.{field_of, types_in}
-use Rattle.c_operate.specs.Terms.{form_of, lvalue_reach, term_of}
+use Rattle.c_tables.specs.Tables.{field_of, types_in}
+use Rattle.c_terms.specs.Terms.{form_of, lvalue_reach, term_of}
 use Rattle.c_operate.proofs.PlaceSteps.{no_table_member, is_member, member_as}
-use Rattle.c_operate.proofs.Refusing.{made}
+use Rattle.c_terms.proofs.Refusing.{made}
 use Rattle.c_operate.proofs.places.member.Goals as goal
 
 pub returns : goal.returns

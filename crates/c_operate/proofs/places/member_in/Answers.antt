@@ -1,6 +1,6 @@
 use Rattle.std.proofs.Common.{sym, ap, ◌∙◌}
 use Rattle.type_rules.specs.Places as rule
-use Rattle.c_operate.specs.Tables.{types_in}
+use Rattle.c_tables.specs.Tables.{types_in}
 use Rattle.c_operate.proofs.places.member_in.Goals as goal
 
 pub returns-in-Struct : goal.returns-in-Struct

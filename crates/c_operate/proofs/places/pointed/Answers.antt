@@ -1,9 +1,9 @@
 use Rattle.std.proofs.Common.{sym, ap, ◌∙◌}
 use Rattle.type_rules.specs.Places as rule
-use Rattle.c_operate.specs.Tables.{types_in}
-use Rattle.c_operate.specs.Terms.{operand_of, term_of}
+use Rattle.c_tables.specs.Tables.{types_in}
+use Rattle.c_terms.specs.Terms.{operand_of, term_of}
 use Rattle.c_operate.proofs.PlaceSteps.{is_pointed, placed_as}
-use Rattle.c_operate.proofs.Refusing.{made}
+use Rattle.c_terms.proofs.Refusing.{made}
 use Rattle.c_operate.proofs.places.pointed.Goals as goal
 
 pub returns : goal.returns

@@ -1,6 +1,6 @@
 use Rattle.std.proofs.Common.{Some, sym, ap, ◌∙◌}
 use Rattle.type_rules.specs.Places as rule
-use Rattle.c_operate.specs.Tables.{types_in}
+use Rattle.c_tables.specs.Tables.{types_in}
 use Rattle.c_operate.proofs.places.pointed_type.Goals as goal
 
 pub returns-in-Pointer : goal.returns-in-Pointer

@@ -2,10 +2,10 @@ use Rattle.std.proofs.Common.{◌%◌, sym, ap, ◌∙◌}
 use Rattle.c_ints.specs.declared.types.IntTy.TheVariants as int
 use Rattle.type_rules.specs.Places as rule
 use Rattle.type_rules.specs.Terms.{number_of_type}
-use Rattle.c_operate.specs.Tables.{types_in}
-use Rattle.c_operate.specs.Terms.{term_of}
+use Rattle.c_tables.specs.Tables.{types_in}
+use Rattle.c_terms.specs.Terms.{term_of}
 use Rattle.c_operate.proofs.PlaceSteps.{has_size, valued_as}
-use Rattle.c_operate.proofs.Refusing.{made}
+use Rattle.c_terms.proofs.Refusing.{made}
 use Rattle.c_operate.proofs.places.size_of_type.Goals as goal
 
 pub returns : goal.returns

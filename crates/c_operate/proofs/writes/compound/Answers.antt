@@ -7,11 +7,11 @@ use Rattle.type_rules.specs.Known.{given}
 use Rattle.type_rules.specs.Operations as operations
 use Rattle.type_rules.specs.Terms.{value_term}
 use Rattle.type_rules.specs.Writes as rule
-use Rattle.c_operate.specs.Tables.{types_in}
-use Rattle.c_operate.specs.Terms.{operand_of, operation_of, side_of, valued}
+use Rattle.c_tables.specs.Tables.{types_in}
+use Rattle.c_terms.specs.Terms.{operand_of, operation_of, side_of, valued}
 use Rattle.c_operate.proofs.WriteSteps.{is_updated}
-use Rattle.c_operate.proofs.Refusing.{made, only_memory, given_is}
-use Rattle.c_operate.proofs.Steps.{passed_on}
+use Rattle.c_terms.proofs.Refusing.{made, only_memory, given_is}
+use Rattle.c_tables.proofs.Steps.{passed_on}
 use Rattle.c_operate.proofs.writes.compound.Goals as goal
 
 pub returns-in_err-value : goal.returns-in_err-value

@@ -6,10 +6,10 @@ use Rattle.c_typed.specs.Views.{expression_of, place_of}
 use Rattle.type_rules.specs.Rows.{bytes_of}
 use Rattle.type_rules.specs.Terms.{value_term}
 use Rattle.type_rules.specs.Writes as rule
-use Rattle.c_operate.specs.Tables.{types_in}
-use Rattle.c_operate.specs.Terms.{operand_of, valued}
+use Rattle.c_tables.specs.Tables.{types_in}
+use Rattle.c_terms.specs.Terms.{operand_of, valued}
 use Rattle.c_operate.proofs.WriteSteps.{is_copied}
-use Rattle.c_operate.proofs.Refusing.{made}
+use Rattle.c_terms.proofs.Refusing.{made}
 use Rattle.c_operate.proofs.writes.copied.Goals as goal
 
 pub returns : goal.returns

@@ -1,7 +1,7 @@
 use Rattle.std.proofs.Common.{sym, ap, ◌∙◌}
 use Rattle.type_rules.specs.Rows.{bytes_of, is_complete}
 use Rattle.type_rules.specs.Writes as rule
-use Rattle.c_operate.specs.Tables.{types_in}
+use Rattle.c_tables.specs.Tables.{types_in}
 use Rattle.c_operate.proofs.WriteSteps.{counts_pointer, no_count}
 use Rattle.c_operate.proofs.writes.counted.Goals as goal
 

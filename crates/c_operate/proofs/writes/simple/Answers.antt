@@ -6,12 +6,12 @@ use Rattle.c_typed.specs.Views.{expression_of, place_of}
 use Rattle.type_rules.specs.Conversions.{assigned}
 use Rattle.type_rules.specs.Terms.{value_term}
 use Rattle.type_rules.specs.Writes as rule
-use Rattle.c_operate.specs.Answers.{Refuses}
-use Rattle.c_operate.specs.Tables.{types_in}
-use Rattle.c_operate.specs.Terms.{operand_of, valued}
+use Rattle.c_tables.specs.Answers.{Refuses}
+use Rattle.c_tables.specs.Tables.{types_in}
+use Rattle.c_terms.specs.Terms.{operand_of, valued}
 use Rattle.c_operate.proofs.WriteSteps.{not_assigned, is_assigned}
-use Rattle.c_operate.proofs.Refusing.{made}
-use Rattle.c_operate.proofs.Steps.{passed_on}
+use Rattle.c_terms.proofs.Refusing.{made}
+use Rattle.c_tables.proofs.Steps.{passed_on}
 use Rattle.c_operate.proofs.writes.simple.Goals as goal
 
 pub returns-in_err-value : goal.returns-in_err-value

@@ -2,11 +2,11 @@ use Rattle.std.proofs.Common.{sym, ap, ◌∙◌}
 use Rattle.c_typed.specs.Trees as typed
 use Rattle.c_typed.specs.Views.{place_of}
 use Rattle.type_rules.specs.Writes as rule
-use Rattle.c_operate.specs.Tables.{types_in}
-use Rattle.c_operate.specs.Terms.{term_of}
+use Rattle.c_tables.specs.Tables.{types_in}
+use Rattle.c_terms.specs.Terms.{term_of}
 use Rattle.c_operate.proofs.PlaceSteps.{valued_as}
 use Rattle.c_operate.proofs.WriteSteps.{is_stepped}
-use Rattle.c_operate.proofs.Refusing.{made}
+use Rattle.c_terms.proofs.Refusing.{made}
 use Rattle.c_operate.proofs.writes.stepped.Goals as goal
 
 pub returns : goal.returns

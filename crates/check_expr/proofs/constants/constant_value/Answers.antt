@@ -4,7 +4,7 @@ use Rattle.c_nodes.specs.Views.{cond_of}
 use Rattle.type_rules.specs.Constants.{number_of}
 use Rattle.type_rules.specs.Expressions.{judged}
 use Rattle.type_rules.specs.Terms.{used}
-use Rattle.c_operate.specs.Tables.{known_of}
+use Rattle.c_tables.specs.Tables.{known_of}
 use Rattle.check_expr.proofs.Answering.{goes, stops, ends, in_parts}
 use Rattle.check_expr.proofs.constants.constant_value.Goals as goal
 

@@ -3,9 +3,9 @@ use Rattle.std.proofs.lemmas.Result.{err_from_is_err_and}
 use Rattle.c_nodes.specs.Lists.{suffixes_of, more_members, more_params, more_enumerators}
 use Rattle.c_nodes.specs.Views.{cond_of, declarator_of, member_of, next_declarator_of, next_param_of, param_of, spec_of, specs_of, struct_body_of, suffix_of, enumerator_of, next_enumerator_of}
 use Rattle.c_nodes.specs.Words.{named, type_named, spell_pointers, spell_tag}
+use Rattle.c_tables.specs.Tables.{known_of}
 use Rattle.c_nodes.specs.declared.expression.Binary.TheViews.{out-Declarator, out-Member, out-Specs, out-StructBody, out-EnumBody}
 use Rattle.c_nodes.proofs.Shapes.{show_declarator, show_member, show_param_named, show_param_unnamed, show_spec_word, show_spec_reference, show_spec_body, show_spec_type_name, show_spec_enum_reference, show_spec_enum_body, show_enum_body, show_specs, show_struct_body, show_suffix_array, show_suffix_array_unsized, show_suffix_empty, show_suffix_params, show_suffix_void}
-use Rattle.c_operate.specs.Tables.{known_of}
 use Rattle.type_rules.specs.Declarators.{members, spec_rule, specified}
 use Rattle.type_rules.specs.Faults as kind
 use Rattle.type_rules.specs.Known.{wanted}
@@ -14,8 +14,9 @@ use Rattle.type_rules.specs.Rows.{tagged}
 use Rattle.type_rules.specs.TypeNames.{enum_of}
 use Rattle.type_rules.specs.Specifiers.{named_base, nothing_gathered, specs_line}
 use Rattle.check_expr.specs.Lists.{body_rule}
-use Rattle.check_expr.specs.Views as views
-use Rattle.check_expr.specs.Views.{context_of, made_of, outline_of, specified_of}
+use Rattle.c_outline.specs.Views as views
+use Rattle.check_expr.specs.Views.{context_of}
+use Rattle.c_outline.specs.Views.{made_of, outline_of, specified_of}
 use Rattle.check_expr.proofs.Declaring as steps
 use Rattle.check_expr.proofs.declarator.+declarator.Goals as goal
 
@@ -25,7 +26,7 @@ field-returns-in_err-outline t c =
     rw (p.1, p.2) (steps.field_refused (declarator_of c.args.declarator.now) (spell_pointers (out-Declarator c.args.declarator.now).pointers.items) (named (out-Declarator c.args.declarator.now).name) (suffixes_of (map suffix_of (out-Declarator c.args.declarator.now).suffixes.items)) (specified_of c.args.specified) c.args.structure (known_of c.args.checker.now) c.in_err-outline.field-0.0 (show_declarator c.args.declarator.now) c.in_err-outline.ensures)
 
 pub field-returns : goal.field-returns
-field-returns t c = rw (steps.field_put (declarator_of c.args.declarator.now) (spell_pointers (out-Declarator c.args.declarator.now).pointers.items) (named (out-Declarator c.args.declarator.now).name) (suffixes_of (map suffix_of (out-Declarator c.args.declarator.now).suffixes.items)) (specified_of c.args.specified) (outline_of c.in_ok-outline.outline) c.args.structure c.line_of-line.result c.deref.result.now (known_of c.args.checker.now) (known_of c.outline.new.checker) (show_declarator c.args.declarator.now) c.deref.ensures.value c.line_of-line.ensures c.in_ok-outline.ensures) (c.add_field.ensures (known_of c.outline.new.checker))
+field-returns t c = rw (steps.field_put (declarator_of c.args.declarator.now) (spell_pointers (out-Declarator c.args.declarator.now).pointers.items) (named (out-Declarator c.args.declarator.now).name) (suffixes_of (map suffix_of (out-Declarator c.args.declarator.now).suffixes.items)) (specified_of c.args.specified) (outline_of c.in_ok-outline.outline) c.args.structure c.declarator_line-line.result c.deref.result.now (known_of c.args.checker.now) (known_of c.outline.new.checker) (show_declarator c.args.declarator.now) c.deref.ensures.value c.declarator_line-line.ensures c.in_ok-outline.ensures) (c.add_field.ensures (known_of c.outline.new.checker))
 
 pub members-returns-in_err-specified : goal.members-returns-in_err-specified
 members-returns-in_err-specified t c =
@@ -83,7 +84,7 @@ specified-loop-spec-preserved t c = steps.left_more (steps.finish_specs (context
 pub specified-returns : goal.specified-returns
 specified-returns t c =
     let ends = steps.left_ends (steps.finish_specs (context_of c.args.context) (specs_line (specs_of c.args.specs.now))) (steps.rest_specs (map spec_of (drop c.loop-spec.spec-index c.deref-spec-items.result.now)) (context_of c.args.context)) c.loop-spec.words (known_of c.loop-spec.checker) (specified (specs_of c.args.specs.now) (context_of c.args.context) (known_of c.args.checker.now)) (steps.specs_end c.deref-spec-items.result.now c.loop-spec.spec-index (context_of c.args.context) c.loop-spec-test.false) c.loop-spec.invariant in
-    rw ends (rw c.line_of.ensures at (c.finished.ensures c.loop-spec.invariant.gathered (known_of c.loop-spec.checker) c.loop-spec.invariant.kept (c.is_file-in_file.ensures (known_of c.loop-spec.checker))))
+    rw ends (rw c.specs_line.ensures at (c.finished.ensures c.loop-spec.invariant.gathered (known_of c.loop-spec.checker) c.loop-spec.invariant.kept (c.is_file-in_file.ensures (known_of c.loop-spec.checker))))
 
 pub specifier-returns-in-Word : goal.specifier-returns-in-Word
 specifier-returns-in-Word t c g e = steps.word_given (spec_of c.args.spec.now) c.in-Word.word (context_of c.args.context) g c.args.words c.with_word.result (known_of c.args.checker.now) (rw c.in-Word.is (show_spec_word c.in-Word.word)) c.with_word.ensures e
@@ -236,7 +237,7 @@ param-returns-in_err-outline-in-Named t c =
     rw (p.1, p.2, c.in-Named.is, show_param_named c.in-Named.specs c.in-Named.declarator, show_declarator c.in-Named.declarator, steps.param_named (specs_of c.in-Named.specs) (spell_pointers (out-Declarator c.in-Named.declarator).pointers.items) (named (out-Declarator c.in-Named.declarator).name) (suffixes_of (map suffix_of (out-Declarator c.in-Named.declarator).suffixes.items)) c.args.bodies (map views.param_of c.args.list.now.params.items) (known_of c.args.checker.now)) (steps.param_unlined (steps.named_shape (specs_of c.in-Named.specs) (spell_pointers (out-Declarator c.in-Named.declarator).pointers.items) (named (out-Declarator c.in-Named.declarator).name) (suffixes_of (map suffix_of (out-Declarator c.in-Named.declarator).suffixes.items))) c.args.bodies (map views.param_of c.args.list.now.params.items) (specified_of c.in_ok-specified-in-Named.specified) c.in_ok-base-in-Named.base (map made_of c.in_ok-made-in-Named.made.items) (known_of c.args.checker.now) _ _ _ c.in_err-outline-in-Named.field-0.0 (rw c.param_context.ensures at c.in_ok-specified-in-Named.ensures) (rw c.deref.ensures.value at c.in_ok-base-in-Named.ensures) (rw c.deref-in-Named.ensures.value at c.in_ok-made-in-Named.ensures) (rw c.object-object.ensures at (c.in_err-outline-in-Named.ensures (known_of c.suffixes.new.checker))))
 
 pub param-returns-in_ok-outline-in-Named : goal.param-returns-in_ok-outline-in-Named
-param-returns-in_ok-outline-in-Named t c = rw (c.in-Named.is, show_param_named c.in-Named.specs c.in-Named.declarator, show_declarator c.in-Named.declarator, steps.param_named (specs_of c.in-Named.specs) (spell_pointers (out-Declarator c.in-Named.declarator).pointers.items) (named (out-Declarator c.in-Named.declarator).name) (suffixes_of (map suffix_of (out-Declarator c.in-Named.declarator).suffixes.items)) c.args.bodies (map views.param_of c.args.list.now.params.items) (known_of c.args.checker.now), steps.param_whole (steps.named_shape (specs_of c.in-Named.specs) (spell_pointers (out-Declarator c.in-Named.declarator).pointers.items) (named (out-Declarator c.in-Named.declarator).name) (suffixes_of (map suffix_of (out-Declarator c.in-Named.declarator).suffixes.items))) c.args.bodies (map views.param_of c.args.list.now.params.items) (specified_of c.in_ok-specified-in-Named.specified) c.in_ok-base-in-Named.base (map made_of c.in_ok-made-in-Named.made.items) (outline_of c.in_ok-outline-in-Named.outline) (known_of c.args.checker.now) _ _ _ (known_of (record c.suffixes.new.checker { types = c.param_outlined.new.types })) (rw c.param_context.ensures at c.in_ok-specified-in-Named.ensures) (rw c.deref.ensures.value at c.in_ok-base-in-Named.ensures) (rw c.deref-in-Named.ensures.value at c.in_ok-made-in-Named.ensures) (rw c.object-object.ensures at (c.in_ok-outline-in-Named.ensures (known_of c.suffixes.new.checker)))) (rw (c.deref-in-Named-2.ensures.value, c.line_of-line.ensures, show_declarator c.in-Named.declarator) at c.add_param.ensures)
+param-returns-in_ok-outline-in-Named t c = rw (c.in-Named.is, show_param_named c.in-Named.specs c.in-Named.declarator, show_declarator c.in-Named.declarator, steps.param_named (specs_of c.in-Named.specs) (spell_pointers (out-Declarator c.in-Named.declarator).pointers.items) (named (out-Declarator c.in-Named.declarator).name) (suffixes_of (map suffix_of (out-Declarator c.in-Named.declarator).suffixes.items)) c.args.bodies (map views.param_of c.args.list.now.params.items) (known_of c.args.checker.now), steps.param_whole (steps.named_shape (specs_of c.in-Named.specs) (spell_pointers (out-Declarator c.in-Named.declarator).pointers.items) (named (out-Declarator c.in-Named.declarator).name) (suffixes_of (map suffix_of (out-Declarator c.in-Named.declarator).suffixes.items))) c.args.bodies (map views.param_of c.args.list.now.params.items) (specified_of c.in_ok-specified-in-Named.specified) c.in_ok-base-in-Named.base (map made_of c.in_ok-made-in-Named.made.items) (outline_of c.in_ok-outline-in-Named.outline) (known_of c.args.checker.now) _ _ _ (known_of (record c.suffixes.new.checker { types = c.param_outlined.new.types })) (rw c.param_context.ensures at c.in_ok-specified-in-Named.ensures) (rw c.deref.ensures.value at c.in_ok-base-in-Named.ensures) (rw c.deref-in-Named.ensures.value at c.in_ok-made-in-Named.ensures) (rw c.object-object.ensures at (c.in_ok-outline-in-Named.ensures (known_of c.suffixes.new.checker)))) (rw (c.deref-in-Named-2.ensures.value, c.declarator_line-line.ensures, show_declarator c.in-Named.declarator) at c.add_param.ensures)
 
 pub param-returns-in_err-specified-in-Unnamed : goal.param-returns-in_err-specified-in-Unnamed
 param-returns-in_err-specified-in-Unnamed t c =

@@ -1,10 +1,11 @@
 use Rattle.std.proofs.Common.{◌≡◌, drop, map}
 use Rattle.c_nodes.specs.Views.{spec_of, specs_of, member_of, struct_body_of, next_declarator_of, suffix_of, next_param_of}
-use Rattle.c_operate.specs.Tables.{known_of}
+use Rattle.c_tables.specs.Tables.{known_of}
 use Rattle.type_rules.specs.Declarators.{specified, members}
 use Rattle.type_rules.specs.Specifiers.{specs_line}
 use Rattle.check_expr.specs.Lists.{body_rule}
-use Rattle.check_expr.specs.Views.{context_of, made_of, param_of, specified_of}
+use Rattle.check_expr.specs.Views.{context_of}
+use Rattle.c_outline.specs.Views.{made_of, param_of, specified_of}
 use Rattle.check_expr.proofs.Declaring.{Left, finish_specs, rest_specs, rest_members, close, rest_fields, rest_suffixes, fronted, rest_params}
 use Rattle.type_rules.specs.Known.{go_on}
 use Rattle.check_expr.proofs.declarator.+declarator.Given as goal

@@ -1,7 +1,7 @@
 use Rattle.std.proofs.Common.{sym}
 use Rattle.std.proofs.lemmas.Bool.{not-true, not-false}
 use Rattle.c_nodes.specs.Words.{spell_tag}
-use Rattle.c_operate.specs.Tables.{types_in}
+use Rattle.c_tables.specs.Tables.{types_in}
 use Rattle.check_expr.specs.Views.{context_of}
 use Rattle.check_expr.proofs.Declaring.{opened_again, opened_inside, opened_well}
 use Rattle.check_expr.proofs.declarator.opened.Goals as goal

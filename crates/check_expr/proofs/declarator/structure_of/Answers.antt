@@ -1,4 +1,4 @@
-use Rattle.c_operate.specs.Tables.{types_in}
+use Rattle.c_tables.specs.Tables.{types_in}
 use Rattle.check_expr.specs.Views.{context_of}
 use Rattle.check_expr.proofs.declarator.structure_of.Goals as goal
 

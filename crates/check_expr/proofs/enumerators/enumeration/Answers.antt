@@ -5,7 +5,7 @@ use Rattle.c_nodes.specs.Views.{enum_body_of, enumerator_of, next_enumerator_of}
 use Rattle.c_nodes.specs.Words.{spell_tag}
 use Rattle.c_nodes.specs.declared.expression.Binary.TheViews.{out-EnumBody}
 use Rattle.c_nodes.proofs.Shapes.{show_enum_body}
-use Rattle.c_operate.specs.Tables.{known_of}
+use Rattle.c_tables.specs.Tables.{known_of}
 use Rattle.check_expr.proofs.Enumerating.{unopened, first_unnumbered, rest_unnumbered, enumeration_closes}
 use Rattle.check_expr.proofs.enumerators.enumeration.Goals as goal
 

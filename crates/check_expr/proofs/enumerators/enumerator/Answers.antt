@@ -4,7 +4,7 @@ use Rattle.std.proofs.lemmas.Result.{err_from_is_err_and}
 use Rattle.c_nodes.specs.Views.{cond_of}
 use Rattle.c_nodes.specs.Words.{named}
 use Rattle.c_nodes.proofs.Shapes.{show_enumerator_bare, show_enumerator_valued}
-use Rattle.c_operate.specs.Tables.{known_of}
+use Rattle.c_tables.specs.Tables.{known_of}
 use Rattle.check_expr.proofs.Enumerating.{kept_number, valued_given, valued_refused}
 use Rattle.check_expr.proofs.enumerators.enumerator.Goals as goal
 

@@ -2,7 +2,7 @@ use Rattle.std.proofs.Common.{refl, map, to_z, of_z, w64}
 use Rattle.std.proofs.lemmas.Int.{to_z-of_z}
 use Rattle.std.proofs.lemmas.Result.{err_from_is_err_and}
 use Rattle.c_nodes.specs.Views.{next_enumerator_of, enumerator_of}
-use Rattle.c_operate.specs.Tables.{known_of}
+use Rattle.c_tables.specs.Tables.{known_of}
 use Rattle.check_expr.proofs.Enumerating.{rest_enumerators, enumerators_more, enumerators_refused, enumerators_end}
 use Rattle.check_expr.proofs.enumerators.enumerators.Goals as goal
 

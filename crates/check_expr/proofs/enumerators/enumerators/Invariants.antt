@@ -1,6 +1,6 @@
 use Rattle.std.proofs.Common.{◌≡◌, drop, map}
 use Rattle.c_nodes.specs.Views.{next_enumerator_of}
-use Rattle.c_operate.specs.Tables.{known_of}
+use Rattle.c_tables.specs.Tables.{known_of}
 use Rattle.check_expr.proofs.Enumerating.{rest_enumerators}
 use Rattle.check_expr.proofs.enumerators.enumerators.Given as goal
 

@@ -2,7 +2,7 @@ use Rattle.std.proofs.Common.{sym, w64}
 use Rattle.std.proofs.lemmas.Int.{to_z-of_z}
 use Rattle.std.proofs.lemmas.Result.{err_from_is_err_and}
 use Rattle.c_nodes.specs.Words.{named}
-use Rattle.c_operate.specs.Tables.{known_of}
+use Rattle.c_tables.specs.Tables.{known_of}
 use Rattle.check_expr.proofs.Enumerating.{number_again, number_wide, number_unbound, number_given, next_kept}
 use Rattle.check_expr.proofs.enumerators.numbered.Goals as goal
 

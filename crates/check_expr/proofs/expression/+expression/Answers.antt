@@ -3,9 +3,9 @@ use Rattle.std.proofs.lemmas.Result.{err_from_is_err_and}
 use Rattle.c_token.specs.declared.token.TokKind.TheVariants as kinds
 use Rattle.c_nodes.specs.Words.{signed, named, spell_constant}
 use Rattle.c_nodes.specs.Views.{assign_of, binary_of, choice_of, cond_of, expr_of, next_assign_of, next_operand_of, operand_of as tree_operand_of, postfix_suffix_of, prefix_of, primary_of, target_of, type_name_of}
+use Rattle.c_tables.specs.Tables.{known_of}
+use Rattle.c_terms.specs.Terms.{operand_of, term_of}
 use Rattle.c_nodes.proofs.Shapes.{show_assign, show_binary_operand, show_binary_chain, show_cast, show_choice, show_cond, show_expr, show_operand_postfix, show_operand_sizeof_type, show_postfix, show_postfix_suffix_index, show_postfix_suffix_call_bare, show_postfix_suffix_call, show_postfix_suffix_member, show_postfix_suffix_step, show_primary_name, show_primary_constant, show_primary_group}
-use Rattle.c_operate.specs.Tables.{known_of}
-use Rattle.c_operate.specs.Terms.{operand_of, term_of}
 use Rattle.check_expr.specs.Folds.{barely, sequenced_from, combined_from, arguments_from, arguments_read, sides_from, choices_from}
 use Rattle.check_expr.specs.Kept.{side_in, choice_in, operands_in}
 use Rattle.check_expr.proofs.Answering.{goes, stops, ends, refuses_as, refuses_bare, answers_bare, next_of, pushed}

@@ -1,7 +1,7 @@
 use Rattle.std.proofs.Common.{◌≡◌, [], ◌∷◌, drop, map}
 use Rattle.c_nodes.specs.Views.{choice_of, next_assign_of, next_operand_of, postfix_suffix_of, target_of}
-use Rattle.c_operate.specs.Tables.{known_of}
-use Rattle.c_operate.specs.Terms.{operand_of, term_of}
+use Rattle.c_tables.specs.Tables.{known_of}
+use Rattle.c_terms.specs.Terms.{operand_of, term_of}
 use Rattle.check_expr.specs.Folds.{sequenced_from, combined_from, posted_from, arguments_from, sides_from, choices_from}
 use Rattle.check_expr.specs.Kept.{side_in, choice_in}
 use Rattle.check_expr.proofs.expression.+expression.Given as goal

@@ -1,7 +1,7 @@
 use Rattle.std.proofs.Common.{map, sym, ◌∙◌}
 use Rattle.std.proofs.lemmas.Result.{err_from_is_err_and}
-use Rattle.c_operate.specs.Tables.{known_of}
-use Rattle.c_operate.specs.Terms.{term_of}
+use Rattle.c_tables.specs.Tables.{known_of}
+use Rattle.c_terms.specs.Terms.{term_of}
 use Rattle.check_expr.specs.Folds.{applied_back}
 use Rattle.check_expr.specs.Kept.{applied_of}
 use Rattle.check_expr.proofs.Answering.{goes, stops, last_of}

@@ -1,6 +1,6 @@
 use Rattle.std.proofs.Common.{◌≡◌, length, map}
-use Rattle.c_operate.specs.Tables.{known_of}
-use Rattle.c_operate.specs.Terms.{term_of}
+use Rattle.c_tables.specs.Tables.{known_of}
+use Rattle.c_terms.specs.Terms.{term_of}
 use Rattle.check_expr.specs.Folds.{applied_back}
 use Rattle.check_expr.specs.Kept.{applied_of}
 use Rattle.check_expr.proofs.expression.apply_all.Given as goal

@@ -1,7 +1,7 @@
 use Rattle.std.proofs.Common.{map, sym, ◌∙◌}
 use Rattle.std.proofs.lemmas.Result.{err_from_is_err_and}
-use Rattle.c_operate.specs.Tables.{known_of}
-use Rattle.c_operate.specs.Terms.{operand_of, term_of}
+use Rattle.c_tables.specs.Tables.{known_of}
+use Rattle.c_terms.specs.Terms.{operand_of, term_of}
 use Rattle.type_rules.specs.Terms.{used}
 use Rattle.type_rules.specs.Operators.{choice}
 use Rattle.check_expr.specs.Folds.{chosen_back}

@@ -1,6 +1,6 @@
 use Rattle.std.proofs.Common.{◌≡◌, length, map}
-use Rattle.c_operate.specs.Tables.{known_of}
-use Rattle.c_operate.specs.Terms.{term_of}
+use Rattle.c_tables.specs.Tables.{known_of}
+use Rattle.c_terms.specs.Terms.{term_of}
 use Rattle.check_expr.specs.Folds.{chosen_back}
 use Rattle.check_expr.specs.Kept.{choice_in}
 use Rattle.check_expr.proofs.expression.choose_all.Given as goal

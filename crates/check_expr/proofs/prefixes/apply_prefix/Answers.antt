@@ -1,6 +1,6 @@
 use Rattle.std.proofs.Common.{sym, ap}
-use Rattle.c_operate.specs.Tables.{known_of}
-use Rattle.c_operate.specs.Terms.{term_of}
+use Rattle.c_tables.specs.Tables.{known_of}
+use Rattle.c_terms.specs.Terms.{term_of}
 use Rattle.check_expr.specs.Folds.{applied_by}
 use Rattle.check_expr.specs.Kept.{applied_of}
 use Rattle.check_expr.proofs.Answering.{ends}

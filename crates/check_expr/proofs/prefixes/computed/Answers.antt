@@ -1,6 +1,6 @@
 use Rattle.std.proofs.Common.{sym, ap}
-use Rattle.c_operate.specs.Tables.{known_of}
-use Rattle.c_operate.specs.Terms.{operand_of, term_of}
+use Rattle.c_tables.specs.Tables.{known_of}
+use Rattle.c_terms.specs.Terms.{operand_of, term_of}
 use Rattle.check_expr.specs.Folds.{computed}
 use Rattle.check_expr.proofs.Answering.{ends}
 use Rattle.check_expr.proofs.prefixes.computed.Goals as goal

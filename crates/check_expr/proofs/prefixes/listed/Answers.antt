@@ -1,7 +1,7 @@
 use Rattle.std.proofs.Common.{◌+◌, drop, map, refl}
 use Rattle.std.proofs.lemmas.Result.{err_from_is_err_and}
 use Rattle.c_nodes.specs.Views.{prefix_of}
-use Rattle.c_operate.specs.Tables.{known_of}
+use Rattle.c_tables.specs.Tables.{known_of}
 use Rattle.check_expr.specs.Folds.{applied_from}
 use Rattle.check_expr.specs.Kept.{applied_of}
 use Rattle.check_expr.proofs.Answering.{goes, stops, next_of, pushed}

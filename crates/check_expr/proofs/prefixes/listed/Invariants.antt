@@ -1,6 +1,6 @@
 use Rattle.std.proofs.Common.{◌≡◌, [], drop, map}
 use Rattle.c_nodes.specs.Views.{prefix_of}
-use Rattle.c_operate.specs.Tables.{known_of}
+use Rattle.c_tables.specs.Tables.{known_of}
 use Rattle.check_expr.specs.Folds.{applied_from}
 use Rattle.check_expr.specs.Kept.{applied_of}
 use Rattle.check_expr.proofs.prefixes.listed.Given as goal

@@ -1,8 +1,8 @@
 use Rattle.std.proofs.Common.{sym, ap}
 use Rattle.c_token.specs.declared.token.TokKind.TheVariants as kinds
 use Rattle.type_rules.specs.Expressions.{signed}
-use Rattle.c_operate.specs.Tables.{known_of}
-use Rattle.c_operate.specs.Terms.{term_of}
+use Rattle.c_tables.specs.Tables.{known_of}
+use Rattle.c_terms.specs.Terms.{term_of}
 use Rattle.check_expr.proofs.Answering.{ends}
 use Rattle.check_expr.proofs.prefixes.prefixed.Goals as goal
 

@@ -4,7 +4,7 @@ use Rattle.c_nodes.specs.Trees as tree
 use Rattle.c_nodes.specs.Views.{prefix_of, type_name_of}
 use Rattle.c_nodes.proofs.Shapes.{show_prefix_operator, show_prefix_sizeof, show_prefix_cast}
 use Rattle.type_rules.specs.Known.{given}
-use Rattle.c_operate.specs.Tables.{known_of}
+use Rattle.c_tables.specs.Tables.{known_of}
 use Rattle.check_expr.specs.Folds.{AppliedCast, type_before}
 use Rattle.check_expr.proofs.Answering.{goes, stops}
 use Rattle.check_expr.proofs.prefixes.with_type.Goals as goal

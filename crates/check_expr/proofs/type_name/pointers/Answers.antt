@@ -1,7 +1,7 @@
 use Rattle.std.proofs.Common.{◌∙◌}
 use Rattle.std.proofs.lemmas.Result.{err_from_is_err_and}
-use Rattle.c_operate.specs.Tables.{known_of}
-use Rattle.check_expr.proofs.Outlining.{pointers_more, pointers_err}
+use Rattle.c_tables.specs.Tables.{known_of}
+use Rattle.check_expr.proofs.Pointers.{pointers_more, pointers_err}
 use Rattle.check_expr.proofs.type_name.pointers.Goals as goal
 
 pub returns-in_err-pointer_to : goal.returns-in_err-pointer_to

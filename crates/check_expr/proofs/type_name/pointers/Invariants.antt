@@ -1,7 +1,7 @@
 use Rattle.std.proofs.Common.{◌≡◌, drop}
 use Rattle.c_nodes.specs.Words.{spell_pointers}
 use Rattle.type_rules.specs.TypeNames.{with_pointers}
-use Rattle.c_operate.specs.Tables.{known_of}
+use Rattle.c_tables.specs.Tables.{known_of}
 use Rattle.check_expr.proofs.type_name.pointers.Given as goal
 
 abbrev pub invariant-loop-pointer : goal.invariant-loop-pointer

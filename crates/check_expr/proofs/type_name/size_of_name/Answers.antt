@@ -1,4 +1,4 @@
-use Rattle.c_operate.specs.Tables.{known_of}
+use Rattle.c_tables.specs.Tables.{known_of}
 use Rattle.check_expr.proofs.type_name.size_of_name.Goals as goal
 
 pub returns : goal.returns

@@ -1,7 +1,7 @@
 use Rattle.std.proofs.Common.{drop, map}
 use Rattle.c_nodes.specs.Views.{spec_of, specs_of, type_name_of}
 use Rattle.c_nodes.specs.Words.{spell_pointers}
-use Rattle.c_operate.specs.Tables.{known_of}
+use Rattle.c_tables.specs.Tables.{known_of}
 use Rattle.type_rules.specs.TypeNames.{type_named}
 use Rattle.check_expr.proofs.Declaring.{Left, finish_name, rest_names}
 use Rattle.check_expr.proofs.type_name.type_named.Given as goal

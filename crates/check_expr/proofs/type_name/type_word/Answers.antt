@@ -3,7 +3,7 @@ use Rattle.std.proofs.lemmas.Result.{err_from_is_err_and}
 use Rattle.c_nodes.specs.Views.{spec_of}
 use Rattle.c_nodes.specs.declared.expression.Binary.TheViews.{out-EnumBody, out-StructBody}
 use Rattle.c_nodes.proofs.Shapes.{show_spec_word, show_spec_reference, show_spec_body, show_struct_body, show_spec_type_name, show_spec_enum_reference, show_spec_enum_body, show_enum_body}
-use Rattle.c_operate.specs.Tables.{known_of}
+use Rattle.c_tables.specs.Tables.{known_of}
 use Rattle.type_rules.specs.Faults as kind
 use Rattle.type_rules.specs.Faults.{Kind}
 use Rattle.type_rules.specs.Known.{wanted}

@@ -1,5 +1,0 @@
-use Rattle.c_operate.proofs.Sights.{all_read}
-use Rattle.c_operate.proofs.types.rows_of.Goals as goal
-
-pub returns : goal.returns
-returns c = all_read c.loop-target.listed.items c.loop-target.target-iterator c.args.targets.keys c.in-None.ensures.steps.0 c.loop-target.invariant

@@ -1,0 +1,4 @@
+pub mod Gathering
+pub mod Outlining
+pub mod Parting
+mod Taken

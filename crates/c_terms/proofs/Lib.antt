@@ -1,0 +1,4 @@
+pub mod Operating
+pub mod PlacesRead
+pub mod Starts
+pub mod Refusing

@@ -1,6 +1,0 @@
-use Rattle.std.proofs.Common.{ap}
-use Rattle.check_expr.specs.Views.{declared_of}
-use Rattle.check_expr.proofs.outline.array_outline.Goals as goal
-
-pub returns-in-Object : goal.returns-in-Object
-returns-in-Object c known = rw c.in-Object.is (rw c.in-Object.is at (c.array_or_part.ensures known (ap declared_of c.in-Object.is)))
