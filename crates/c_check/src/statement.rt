@@ -21,8 +21,6 @@ use crate::values::{
 use c_ints::IntTy;
 use c_nodes::expression::Expr;
 use c_nodes::statement::{Arm, Block, ForHead, IfChain, Otherwise, Statement, SwitchItem};
-use c_operate::checker::Checker;
-use c_operate::error::CheckError;
 use c_outline::flow::Flow;
 use c_tables::checker::Checker;
 use c_tables::error::CheckError;

@@ -15,8 +15,6 @@ ghost use Rattle.c_check.specs.StatementViews.{body_of, case_rule, default_rule,
 use c_ints::{IntTy, convert};
 use c_nodes::expression::Cond;
 use c_nodes::statement::Label;
-use c_operate::checker::Checker;
-use c_operate::error::{CheckError, Kind, refused};
 use c_tables::checker::Checker;
 use c_tables::error::{CheckError, Kind, refused};
 use c_typed::{TCase, TExpr, TStmt};
