@@ -17,10 +17,10 @@ use Rattle.type_rules.specs.Outlines.{Param, Declared, ObjectDeclared, FunctionD
 use Rattle.type_rules.specs.Specifiers.{Specified}
 use Rattle.type_rules.specs.Statements.{body_statements}
 use Rattle.type_rules.specs.Units.{defined_in, variable_of, function_body, function_declared, function, functions_of, program_from, program_in, judged_unit}
-use Rattle.sound_types.specs.Files.{Files, Turns}
-use Rattle.sound_types.proofs.Files.{IsFresh, turns_on, turns_given, declaration_turns}
-use Rattle.sound_types.proofs.Functions.{function_turns}
-use Rattle.sound_types.proofs.Lists.{none_is, got_either, within}
+use Rattle.typed_laws.specs.Files.{Files, Turns}
+use Rattle.typed_laws.proofs.Files.{IsFresh, turns_on, turns_given, declaration_turns}
+use Rattle.typed_laws.proofs.Functions.{function_turns}
+use Rattle.typed_laws.proofs.Lists.{none_is, got_either, within}
 use Rattle.typed_names.specs.Named.{AreWords, HaveWords, AreNamed, Held, Stays}
 use Rattle.typed_names.proofs.Declarations.{function_rule_stays, file_declaration_stays}
 use Rattle.typed_names.proofs.Declarators.{specified_stays, outline_stays}
