@@ -40,7 +40,7 @@ use Rattle.paired_skips.specs.Laws as skips
 use Rattle.paired_skips.proofs.Whole.{blocks_can_select}
 use Rattle.named_targets.proofs.Placing.{all_is_there}
 use Rattle.named_targets.proofs.Whole as targets
-use Rattle.object_counts.proofs.Sized.{objects_few}
+use Rattle.program_laws.proofs.Sized.{objects_few}
 use Rattle.image_links.specs.Addressed.{BlocksHaveOperands, BlocksStandInside}
 use Rattle.image_links.proofs.Addressed.{lean_keeps_operands, operands_have_addresses, selects_keep_operands}
 use Rattle.image_links.proofs.FewCopies.{copies_few}
