@@ -2,7 +2,7 @@
 use Rattle.std.proofs.Common.{ℕ, List, refl, arith}
 use Rattle.std.proofs.lemmas.Option.{slice_get_within}
 use Rattle.bank_page.specs.Links.{price_in}
-use Rattle.bank_prices.specs.Prices.{AreSelected}
+use Rattle.bank_trace.specs.SelectPrices.{AreSelected}
 use Rattle.c_typed.specs.Trees.{Program}
 use Rattle.call_graph.specs.Numbers.{handler_at}
 use Rattle.call_graph.specs.declared.types.FnCopy.{FnCopy}

@@ -1,7 +1,7 @@
 -- The block of a helper's copy, with its selects, has at most the words that are stated of the routine.
 use Rattle.std.proofs.Common.{◌≡◌, ℕ, ◌≤◌, Bool, true, false, not, ◌&&◌, ◌||◌, if◌then◌else◌, List, [], ◌∷◌, ◌++◌, Option, Some, None, refl, sym, ap, ◌∙◌, subst, append-nil, arith}
-use Rattle.bank_prices.proofs.Whole.{leaves_blocks, routines_are_priced}
-use Rattle.bank_prices.specs.Prices.{AreSelected}
+use Rattle.bank_trace.proofs.WholePrices.{leaves_blocks, routines_are_priced}
+use Rattle.bank_trace.specs.SelectPrices.{AreSelected}
 use Rattle.c_typed.specs.declared.calls.Helper.{Helper}
 use Rattle.c_typed.specs.declared.calls.Helper.TheVariants.{Mul2, Mul4, Divu2, Divs2, Remu2, Rems2, Divu4, Divs4, Remu4, Rems4, Shl2, Shru2, Shrs2, Shl4, Shru4, Shrs4}
 use Rattle.math_helpers.proofs.Shapes.{words_fit}

@@ -17,7 +17,7 @@ use Rattle.math_helpers.specs.Routines.{helper_code}
 use Rattle.math_helpers.specs.Shape.{ArePriced}
 use Rattle.select_wide.specs.Links.{AreDear}
 use Rattle.bank_page.specs.Links.{price_in}
-use Rattle.bank_prices.proofs.Whole.{blocks_are_dear, routines_are_priced}
+use Rattle.bank_trace.proofs.WholePrices.{blocks_are_dear, routines_are_priced}
 use Rattle.lean_code.proofs.Checking.{test_is_right}
 use Rattle.lean_code.proofs.Shrinking.{carried_is_cheaper}
 use Rattle.lean_code.proofs.Weighed.{lean_weighed}
@@ -28,8 +28,8 @@ use Rattle.lean_code.specs.Links.{carried, is_clear}
 use Rattle.lean_code.specs.Rows.{Lean, olds, puts}
 use Rattle.lean_code.specs.Steady.{are_steady}
 use Rattle.lean_pass.specs.Made.{IsAsGiven, Kept, Made}
-use Rattle.lean_prices.proofs.Blocks.{lean_blocks_are_dear, lean_routines_are_priced}
-use Rattle.lean_prices.proofs.Named.{blocks_are_steady}
+use Rattle.bank_trace.proofs.LeanBlocks.{lean_blocks_are_dear, lean_routines_are_priced}
+use Rattle.bank_trace.proofs.LeanNames.{blocks_are_steady}
 use Rattle.lean_links.proofs.Counted.{surely, surely_is, marked_counts}
 use Rattle.lean_links.proofs.Named.{kept_named}
 use Rattle.lean_links.specs.Links.{setting_by, program_by, CodeFollows, AreFollowed, LeanBlocksFollow}

@@ -21,7 +21,7 @@ use Rattle.math_helpers.specs.Routines.{helper_code}
 use Rattle.math_helpers.specs.Shape.{frame_size, ArePriced}
 use Rattle.select_wide.specs.Links.{AreDear}
 use Rattle.bank_page.specs.Links.{price_in}
-use Rattle.bank_prices.specs.Prices.{AreSelected}
+use Rattle.bank_trace.specs.SelectPrices.{AreSelected}
 use Rattle.lean_code.specs.Clear.{IsClear}
 use Rattle.lean_code.specs.Links.{is_open}
 use Rattle.lean_pass.specs.Made.{IsLean}
