@@ -11,7 +11,7 @@ use Rattle.core_code.specs.declared.code.FirstByte.{FirstByte}
 use Rattle.lower_stmt.specs.Programs.{core_of}
 use Rattle.select_wide.specs.Links.{IsFirst}
 use Rattle.sym_code.specs.declared.code.BlockName.TheVariants.{Start}
-use Rattle.start_trace.specs.Starting.{held_in}
+use Rattle.chip_trace.specs.Starting.{held_in}
 use Rattle.image_links.specs.Assembly.{BeginningIsHad}
 use Rattle.image_links.proofs.Selects.{selects_had}
 use Rattle.image_links.proofs.Laid.{layout_is}

@@ -23,7 +23,7 @@ use Rattle.chip_trace.specs.Arriving.{IsAssembled}
 use Rattle.code_place.specs.Layouts.{layout_of}
 use Rattle.program_code.specs.Passed.{IsPassed}
 use Rattle.program_code.specs.Translated.{HasCalls, IsSpread, IsImage}
-use Rattle.start_trace.specs.Starting.{held_in}
+use Rattle.chip_trace.specs.Starting.{held_in}
 use Rattle.headline_trace.specs.Linked.{full_setting}
 use Rattle.image_links.specs.Selection.{limit_of}
 

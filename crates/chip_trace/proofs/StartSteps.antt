@@ -37,11 +37,11 @@ use Rattle.bank_page.specs.declared.known.Known.{Known}
 use Rattle.chip_trace.proofs.Ranges.{IsRanged}
 use Rattle.chip_trace.proofs.Relations.{page_row}
 use Rattle.chip_trace.proofs.Sound.{left_of, right_of}
-use Rattle.start_trace.proofs.Knows as selects
-use Rattle.start_trace.proofs.Knows.{Knows}
-use Rattle.start_trace.proofs.Numbers.{IsGeneral, number_at, byte_general, number_is, small}
-use Rattle.start_trace.proofs.Rows.{Goes, S, with_status, with_pclath, movlw_goes, movwf_goes, clrf_goes, bsf_status, bcf_status, bsf_pclath, bcf_pclath}
-use Rattle.start_trace.proofs.Stores.{number_of, w_after, ram_after}
+use Rattle.chip_trace.proofs.StartKnows as selects
+use Rattle.chip_trace.proofs.StartKnows.{Knows}
+use Rattle.chip_trace.proofs.StartNumbers.{IsGeneral, number_at, byte_general, number_is, small}
+use Rattle.chip_trace.proofs.StartRows.{Goes, S, with_status, with_pclath, movlw_goes, movwf_goes, clrf_goes, bsf_status, bcf_status, bsf_pclath, bcf_pclath}
+use Rattle.chip_trace.proofs.StartStores.{number_of, w_after, ram_after}
 
 pub data Kind : Type 0 where
   OfRp0 : Bool → Kind

@@ -30,12 +30,12 @@ use Rattle.chip_trace.proofs.Ranges.{IsRanged, raised_ranged}
 use Rattle.chip_trace.proofs.Relations.{Ground, Means, page_row}
 use Rattle.chip_trace.proofs.Sound.{left_of, right_of}
 use Rattle.chip_trace.proofs.Vectors.{is_image}
-use Rattle.start_trace.proofs.Early as moments
-use Rattle.start_trace.proofs.Early.{Early, after_flags}
-use Rattle.start_trace.proofs.Knows as selects
-use Rattle.start_trace.proofs.Knows.{Knows}
-use Rattle.start_trace.proofs.Steps.{Kind, OfRp0, OfRp1, OfPage, Load, Store, Clear, sym_of, InSize, ins_of, step}
-use Rattle.start_trace.proofs.Stores.{w_after, ram_after, ram_behind}
+use Rattle.chip_trace.proofs.StartEarly as moments
+use Rattle.chip_trace.proofs.StartEarly.{Early, after_flags}
+use Rattle.chip_trace.proofs.StartKnows as selects
+use Rattle.chip_trace.proofs.StartKnows.{Knows}
+use Rattle.chip_trace.proofs.StartSteps.{Kind, OfRp0, OfRp1, OfPage, Load, Store, Clear, sym_of, InSize, ins_of, step}
+use Rattle.chip_trace.proofs.StartStores.{w_after, ram_after, ram_behind}
 
 -- ---- instructions of these kinds
 pub record Fine (placed : Placed) (x : Sym) : Type 0 where

@@ -40,15 +40,15 @@ use Rattle.chip_trace.specs.Arriving.{IsAssembled, IsStarted}
 use Rattle.chip_trace.proofs.Blocks.{some_eq, Found, have_address, room, behind_first, words_append, words_cons, words_behind, label_stands, label_behind}
 use Rattle.chip_trace.proofs.Moments.{moment_ranged}
 use Rattle.chip_trace.proofs.Sound.{left_of, right_of}
-use Rattle.start_trace.specs.Starting.{held_in, IsBeginning}
-use Rattle.start_trace.proofs.Early as moments
-use Rattle.start_trace.proofs.Early.{Early}
-use Rattle.start_trace.proofs.Jumps.{Jumped, jump}
-use Rattle.start_trace.proofs.Parts.{Split, split, no_label, pass_both, fine_bare, all_fine}
-use Rattle.start_trace.proofs.Stores.{number_of, ram_behind, bare_ram, AllStored, all_stored}
-use Rattle.start_trace.proofs.Numbers.{small, once}
-use Rattle.start_trace.proofs.Walk as walks
-use Rattle.start_trace.proofs.Walk.{AreFine, state_behind, At, Walked, walk}
+use Rattle.chip_trace.specs.Starting.{held_in, IsBeginning}
+use Rattle.chip_trace.proofs.StartEarly as moments
+use Rattle.chip_trace.proofs.StartEarly.{Early}
+use Rattle.chip_trace.proofs.StartJumps.{Jumped, jump}
+use Rattle.chip_trace.proofs.StartParts.{Split, split, no_label, pass_both, fine_bare, all_fine}
+use Rattle.chip_trace.proofs.StartStores.{number_of, ram_behind, bare_ram, AllStored, all_stored}
+use Rattle.chip_trace.proofs.StartNumbers.{small, once}
+use Rattle.chip_trace.proofs.StartWalk as walks
+use Rattle.chip_trace.proofs.StartWalk.{AreFine, state_behind, At, Walked, walk}
 
 no_some : {A : Type 0} (x : A) → None ≡ Some x → ⊥
 no_some x e = cc

@@ -6,7 +6,7 @@ use Rattle.sym_code.specs.declared.code.BlockName.{BlockName}
 use Rattle.bank_page.specs.declared.known.Known.{Known}
 use Rattle.chip_trace.proofs.Ranges.{IsRanged}
 use Rattle.chip_trace.proofs.StatusBits.{set_5, clear_5, set_6, clear_6, low_set, low_clear, high_set, high_clear}
-use Rattle.start_trace.proofs.Rows.{S}
+use Rattle.chip_trace.proofs.StartRows.{S}
 
 -- where a block's page is known to be selected, PCLATH has its bits
 pub record Knows (pages : BlockName → ℕ) (k : Known) (s : State) : Type 0 where

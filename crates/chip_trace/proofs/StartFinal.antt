@@ -8,8 +8,8 @@ use Rattle.sym_code.specs.declared.code.SymBlock.{SymBlock}
 use Rattle.chip_trace.specs.Arriving.{IsAssembled, IsStarted}
 use Rattle.chip_trace.proofs.Moments.{inputs_small}
 use Rattle.chip_trace.proofs.Placing.{G}
-use Rattle.start_trace.specs.Starting.{held_in, IsBeginning, Starting}
-use Rattle.start_trace.proofs.Whole.{started}
+use Rattle.chip_trace.specs.Starting.{held_in, IsBeginning, Starting}
+use Rattle.chip_trace.proofs.StartWhole.{started}
 
 -- a setting is made of what is known of it
 setting_is : (blocks : List SymBlock) (at : List ℕ) (placed : Placed) (handler : Option ℕ) (c : chip.Setting) (g : Setting) → IsAssembled blocks at placed handler c.image c.watch g → G blocks at placed handler c.image c.watch g.limit ≡ g

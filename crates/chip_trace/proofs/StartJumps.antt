@@ -26,10 +26,10 @@ use Rattle.bank_page.specs.declared.known.Known.{Known}
 use Rattle.chip_trace.specs.Arriving.{IsAssembled}
 use Rattle.chip_trace.proofs.Blocks.{some_eq, Found, found, have_address, names_same}
 use Rattle.chip_trace.proofs.Sound.{left_of, right_of}
-use Rattle.start_trace.proofs.Early as moments
-use Rattle.start_trace.proofs.Early.{Early, after_flags}
-use Rattle.start_trace.proofs.Rows.{goto_goes}
-use Rattle.start_trace.proofs.Walk.{g, LS, pages, At, get_at, take_words, past_on, level_on}
+use Rattle.chip_trace.proofs.StartEarly as moments
+use Rattle.chip_trace.proofs.StartEarly.{Early, after_flags}
+use Rattle.chip_trace.proofs.StartRows.{goto_goes}
+use Rattle.chip_trace.proofs.StartWalk.{g, LS, pages, At, get_at, take_words, past_on, level_on}
 
 page_is : (o : Option BlockName) (m : BlockName) → is_page o m ≡ true → o ≡ Some m
 page_is None m e = absurd (cc)

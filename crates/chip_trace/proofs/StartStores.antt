@@ -18,7 +18,7 @@ use Rattle.sym_code.specs.declared.code.Operand.TheVariants as operands
 use Rattle.sym_code.specs.declared.code.Sym.{Sym}
 use Rattle.sym_code.specs.declared.code.Sym.TheVariants as syms
 use Rattle.isr_save.specs.Start.{byte_code, object_code, objects_code}
-use Rattle.start_trace.specs.Starting.{held_in}
+use Rattle.chip_trace.specs.Starting.{held_in}
 
 set_length : (xs : List ℕ) (k v : ℕ) → length (slice_set xs k v) ≡ length xs
 set_length [] k v = refl

@@ -23,9 +23,9 @@ use Rattle.bank_page.specs.Selected.{all_pass, seen}
 use Rattle.bank_page.specs.declared.known.Known.{Known}
 use Rattle.bank_page.specs.declared.selecting.State.{State as Selecting}
 use Rattle.chip_trace.proofs.Sound.{left_of, right_of}
-use Rattle.start_trace.specs.Starting.{held_in}
-use Rattle.start_trace.proofs.Steps.{OfRp0, OfRp1, OfPage, Load, Store, Clear, sym_of}
-use Rattle.start_trace.proofs.Walk.{Fine, AreFine, state_behind}
+use Rattle.chip_trace.specs.Starting.{held_in}
+use Rattle.chip_trace.proofs.StartSteps.{OfRp0, OfRp1, OfPage, Load, Store, Clear, sym_of}
+use Rattle.chip_trace.proofs.StartWalk.{Fine, AreFine, state_behind}
 
 -- ---- lists without selects
 pub record Split (xs ys : List Sym) (z : Sym) (zs : List Sym) : Type 0 where

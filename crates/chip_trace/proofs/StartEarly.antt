@@ -15,7 +15,7 @@ use Rattle.pic_world.specs.declared.Event.TheVariants as events
 use Rattle.chip_trace.specs.Arriving.{arrived_before}
 use Rattle.chip_trace.proofs.Fetch.{performs, accesses_are}
 use Rattle.chip_trace.proofs.Moments.{unmet}
-use Rattle.start_trace.proofs.Rows.{Goes}
+use Rattle.chip_trace.proofs.StartRows.{Goes}
 
 -- nothing of what is watched has come yet, but perhaps main's address
 pub record Early (c : Setting) (k : ℕ) (has_met : Bool) (s : State) : Type 0 where

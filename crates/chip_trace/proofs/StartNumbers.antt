@@ -8,7 +8,7 @@ use Rattle.pic_chip.specs.Address as chip
 use Rattle.pic_chip.specs.Address.{Place, Pcl, Status, Fsr, Pclath, Intcon, Pir1, Pie1, General, Device, Nothing, place, in_every_bank}
 use Rattle.sym_code.specs.Layout.{DataLayout, object, address_of, general_at, general_in, is_whole, lies_in, IsLaidOut, no_range}
 use Rattle.chip_trace.proofs.Sound.{both, left_of, right_of}
-use Rattle.start_trace.proofs.Stores.{number_of}
+use Rattle.chip_trace.proofs.StartStores.{number_of}
 
 abbrev in_region : ℕ → Bool
 in_region a = (nat_le 0x20 a && nat_lt a 0x70) || (nat_le 0xa0 a && nat_lt a 0xf0) || (nat_le 0x110 a && nat_lt a 0x170) || (nat_le 0x190 a && nat_lt a 0x1f0)
