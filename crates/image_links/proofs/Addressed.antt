@@ -20,8 +20,8 @@ use Rattle.core_code.specs.declared.code.CoreProgram.{CoreProgram}
 use Rattle.code_place.specs.Addresses.{frame_byte, file_address}
 use Rattle.code_place.specs.Layouts.{layout_of}
 use Rattle.isr_save.specs.Start.{start_code}
-use Rattle.lean_blocks.specs.Leaner.{IsLeaner}
-use Rattle.lean_blocks.proofs.Whole.{blocks_are_leaner}
+use Rattle.program_code.specs.Leaner.{IsLeaner}
+use Rattle.program_code.proofs.LeanerBlocks.{blocks_are_leaner}
 use Rattle.lean_code.specs.Rows.{Keeps, Drops, Puts, Narrows, narrowed, Clears, cleared, Reads, Tests, FlagName, tests_flag, operand_before, reads_before, Row, At, olds, puts}
 use Rattle.lower_stmt.specs.Bodies.{body_code, code_of as lowered_of, body_of, bodies_of, first_bytes}
 use Rattle.lower_stmt.specs.FirstBytes.{items_of}
@@ -49,14 +49,14 @@ use Rattle.sym_code.specs.declared.code.Sym.TheVariants as syms
 use Rattle.sym_code.specs.declared.code.SymBlock.{SymBlock}
 use Rattle.bank_page.specs.Selected.{bare_lists}
 use Rattle.flow_facts.proofs.Kept.{thinning_keeps}
-use Rattle.word_bounds.proofs.Placed.{programs_keep_sizes}
-use Rattle.word_bounds.proofs.Routines.{routines_keep_there}
-use Rattle.word_bounds.proofs.Starting.{start_keeps_there}
-use Rattle.word_bounds.proofs.There.{placed_have_addresses, placed_stand_inside}
-use Rattle.word_bounds.proofs.Whole.{others_keep_there}
-use Rattle.word_bounds.specs.Bounds.{IsCodeOf}
-use Rattle.word_bounds.specs.Naming.{TreesLie, SymsLie}
-use Rattle.word_bounds.specs.There.{memory_of, HasOperand, HaveOperands}
+use Rattle.program_code.proofs.Placed.{programs_keep_sizes}
+use Rattle.program_code.proofs.Routines.{routines_keep_there}
+use Rattle.program_code.proofs.Starting.{start_keeps_there}
+use Rattle.program_code.proofs.There.{placed_have_addresses, placed_stand_inside}
+use Rattle.program_code.proofs.StatedWords.{others_keep_there}
+use Rattle.program_code.specs.Bounds.{IsCodeOf}
+use Rattle.program_code.specs.Naming.{TreesLie, SymsLie}
+use Rattle.program_code.specs.There.{memory_of, HasOperand, HaveOperands}
 use Rattle.image_links.specs.Addressed.{BlocksHaveOperands, BlocksStandInside, LeanKeepsOperands, OperandsHaveAddresses, SelectsKeepOperands, MadeHaveOperands}
 use Rattle.image_links.specs.Passed.{code_of}
 use Rattle.image_links.proofs.Blocks.{is_of}

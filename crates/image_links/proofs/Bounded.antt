@@ -45,9 +45,9 @@ use Rattle.sym_code.specs.declared.code.Sym.{Sym}
 use Rattle.sym_code.specs.declared.code.SymBlock.{SymBlock}
 use Rattle.bank_page.specs.Selected.{IsExact, IsWithin}
 use Rattle.code_place.specs.Layouts.{layout_of}
-use Rattle.word_bounds.proofs.Placed.{programs_keep_sizes}
-use Rattle.word_bounds.proofs.Whole.{words_are_stated}
-use Rattle.word_bounds.specs.Bounds.{IsBlockOf, HasFrame}
+use Rattle.program_code.proofs.Placed.{programs_keep_sizes}
+use Rattle.program_code.proofs.StatedWords.{words_are_stated}
+use Rattle.program_code.specs.Bounds.{IsBlockOf, HasFrame}
 use Rattle.image_links.specs.Bounded.{words_of_copy, words_for, IsStated, BlocksAreStated}
 use Rattle.image_links.specs.Passed.{code_of}
 use Rattle.image_links.proofs.Blocks.{is_of}

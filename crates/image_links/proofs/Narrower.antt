@@ -26,8 +26,8 @@ use Rattle.program_code.proofs.Bodies.{is_from, becomes}
 use Rattle.select_wide.specs.Blocks.{is_user, body_at}
 use Rattle.select_wide.specs.Links.{IsBody, all_set_bytes}
 use Rattle.src_rules.specs.Parts.{IsRunnable}
-use Rattle.word_bounds.proofs.Naming.{lies_less}
-use Rattle.word_bounds.specs.Naming.{Memory, answer_bytes, count_bytes, TreeLies, TreesLie}
+use Rattle.program_code.proofs.Naming.{lies_less}
+use Rattle.program_code.specs.Naming.{Memory, answer_bytes, count_bytes, TreeLies, TreesLie}
 use Rattle.image_links.specs.Plain.{is_given, all_given}
 use Rattle.image_links.proofs.Lowered.{EndsOrNone, each_given, each_ends, body_there}
 use Rattle.image_links.proofs.Stated.{all_sets}

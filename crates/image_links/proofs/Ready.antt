@@ -11,8 +11,8 @@ use Rattle.core_code.specs.View.{trees_in}
 use Rattle.core_code.specs.declared.code.Body.{Body}
 use Rattle.core_code.specs.declared.code.CoreProgram.{CoreProgram}
 use Rattle.isr_save.specs.Start.{start_code}
-use Rattle.lean_blocks.specs.Leaner.{IsLeaner}
-use Rattle.lean_blocks.proofs.Whole.{blocks_are_leaner}
+use Rattle.program_code.specs.Leaner.{IsLeaner}
+use Rattle.program_code.proofs.LeanerBlocks.{blocks_are_leaner}
 use Rattle.lean_code.specs.Admissible.{is_byte_act, puts_bytes, ends_by_word}
 use Rattle.lean_code.specs.Rows.{Keeps, Drops, Puts, Narrows, narrowed, Clears, cleared, Reads, Tests, FlagName, tests_flag, reads_before, Row, At, olds, puts}
 use Rattle.lower_stmt.specs.Programs.{core_of}

@@ -20,8 +20,8 @@ use Rattle.src_rules.specs.Numbers.{ProgramHasNumbers}
 use Rattle.sym_code.specs.declared.code.SymBlock.{SymBlock}
 use Rattle.bank_page.specs.Selected.{bare_lists}
 use Rattle.flow_facts.specs.Thin.{IsThinned}
-use Rattle.lean_blocks.specs.Leaner.{IsLeaner}
-use Rattle.word_bounds.specs.There.{HaveOperands, StandInside}
+use Rattle.program_code.specs.Leaner.{IsLeaner}
+use Rattle.program_code.specs.There.{HaveOperands, StandInside}
 
 abbrev pub BlocksHaveOperands : Placed → List SymBlock → Type 0
 BlocksHaveOperands placed blocks = (k : ℕ) (block : SymBlock) → slice_get blocks k ≡ Some block → HaveOperands placed block.list.items
