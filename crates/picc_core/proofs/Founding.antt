@@ -41,11 +41,11 @@ use Rattle.program_code.proofs.AllSkips.{blocks_can_select}
 use Rattle.program_code.proofs.PlacedTargets.{all_is_there}
 use Rattle.program_code.proofs.AllTargets as targets
 use Rattle.program_laws.proofs.Sized.{objects_few}
-use Rattle.image_links.specs.Addressed.{BlocksHaveOperands, BlocksStandInside}
-use Rattle.image_links.proofs.Addressed.{lean_keeps_operands, operands_have_addresses, selects_keep_operands}
-use Rattle.image_links.proofs.FewCopies.{copies_few}
-use Rattle.image_links.proofs.Laid.{frames_whole}
-use Rattle.image_links.proofs.Standing.{translations_fit}
+use Rattle.headline_trace.specs.Addressed.{BlocksHaveOperands, BlocksStandInside}
+use Rattle.headline_trace.proofs.Addressed.{lean_keeps_operands, operands_have_addresses, selects_keep_operands}
+use Rattle.headline_trace.proofs.FewCopies.{copies_few}
+use Rattle.headline_trace.proofs.Laid.{frames_whole}
+use Rattle.headline_trace.proofs.Standing.{translations_fit}
 use Rattle.picc_core.specs.Blocks.{HasBlocks}
 use Rattle.picc_core.specs.Coded.{IsRoomy, AsGiven, Seen, IsSymbolic}
 use Rattle.picc_core.specs.Founded.{IsFounded}

@@ -19,7 +19,7 @@ use Rattle.program_code.specs.Passed.{IsPassed}
 use Rattle.program_code.specs.Translated.{IsTranslated, AreOthers}
 use Rattle.ram_place.specs.Placement.{IsPlacing}
 use Rattle.program_laws.specs.Named.{AreNamed}
-use Rattle.image_links.proofs.Written.{maps_written}
+use Rattle.headline_trace.proofs.Written.{maps_written}
 use Rattle.picc_core.specs.Coded.{IsCoded}
 use Rattle.picc_core.specs.Founded.{IsFounded}
 use Rattle.picc_core.specs.declared.known.Built.{Built}

@@ -8,7 +8,7 @@
 //! that are there, which have addresses where frames and objects are placed; so do the routines and the start block. Each target of a jump, a
 //! call and a select of a page is there. Before a block has selects, a skip and what it skips can run with no select between them, so selects can
 //! be put into each. Each leaner block is what rows make of the given block; rows leave no label out. picc_core's `joined` promises such
-//! blocks and its `compile` such an image and map, and what links ask for is shown of them (image_links).
+//! blocks and its `compile` such an image and map, and what links ask for is shown of them (headline_trace).
 #![tactic(auto)]
 
 mod leaner;
