@@ -18,3 +18,23 @@ mod Hops
 mod Following
 mod Premises
 pub mod Chosen
+mod Puts
+mod Straight
+mod Dear
+mod Pairs
+pub mod Tight
+pub mod Owned
+mod Meets
+mod Chained
+mod Early
+mod Tracks
+mod Near
+pub mod WholePrices
+pub mod Cheaper
+mod LeanRows
+mod LeanWords
+mod LeanStretches
+pub mod LeanWhole
+mod LeanRoutines
+pub mod LeanNames
+pub mod LeanBlocks

@@ -1,0 +1,2 @@
+pub mod SelectPrices
+pub mod LeanPrices

@@ -35,10 +35,10 @@ use Rattle.type_rules.specs.Outlines.{Param}
 use Rattle.type_rules.specs.Specifiers.{Specified}
 use Rattle.type_rules.specs.Statements as statements
 use Rattle.type_rules.specs.Units as rule
-use Rattle.sound_types.proofs.Units.{judged_sound}
-use Rattle.typed_size.specs.Sizes.{size_of}
-use Rattle.typed_size.proofs.Counts.{size_counts}
-use Rattle.typed_size.proofs.Units.{judged_bounded}
+use Rattle.typed_laws.proofs.Units.{judged_sound}
+use Rattle.typed_laws.specs.Sizes.{size_of}
+use Rattle.typed_laws.proofs.Counts.{size_counts}
+use Rattle.typed_laws.proofs.UnitSizes.{judged_bounded}
 use Rattle.c_tables.specs.Answers.{Refuses}
 use Rattle.c_tables.specs.Tables.{known_of}
 use Rattle.c_tables.specs.declared.checker.Checker.{Checker}

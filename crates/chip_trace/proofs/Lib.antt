@@ -33,3 +33,14 @@ pub mod Placing
 pub mod Quick
 pub mod Vectors
 pub mod Final
+mod StartRows
+mod StartStores
+mod StartNumbers
+mod StartKnows
+mod StartEarly
+mod StartSteps
+mod StartWalk
+mod StartJumps
+mod StartParts
+mod StartWhole
+pub mod StartFinal

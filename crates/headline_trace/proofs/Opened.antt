@@ -15,7 +15,7 @@ use Rattle.sym_code.specs.declared.code.Sym.{Sym}
 use Rattle.select_wide.specs.Direct as wide
 use Rattle.select_wide.specs.Links.{AreShown, ReachesLent}
 use Rattle.lean_code.specs.Links as lean
-use Rattle.value_trace.proofs.Whole.{open_law}
+use Rattle.select_trace.proofs.Whole.{open_law}
 use Rattle.headline_trace.specs.Opened.{SelectionOpens}
 
 -- ---- pointers in byte code

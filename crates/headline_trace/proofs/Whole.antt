@@ -41,7 +41,7 @@ use Rattle.bank_page.specs.Links.{price_in}
 use Rattle.bank_trace.proofs.Chosen.{flows_keep}
 use Rattle.chip_trace.specs.Arriving.{IsStarted, Arrives, one_each}
 use Rattle.chip_trace.proofs.Final.{arriving}
-use Rattle.start_trace.proofs.Final.{starting}
+use Rattle.chip_trace.proofs.StartFinal.{starting}
 use Rattle.headline.specs.Headline.{Source, Follows, setting_of}
 use Rattle.headline.specs.SourceOf as sources
 use Rattle.headline.specs.SourceOf.{source_of}

@@ -1,3 +1,13 @@
 pub mod Carried
 pub mod Linked
 pub mod Opened
+pub mod LeanLinks
+pub mod Passed
+pub mod Plain
+pub mod Selection
+pub mod Assembly
+pub mod Translations
+pub mod Bounded
+pub mod Faithful
+pub mod Written
+pub mod Addressed

@@ -43,7 +43,7 @@ use Rattle.lean_code.specs.Links.{is_open}
 use Rattle.narrow_code.specs.Links.{reaches_lent}
 use Rattle.flow_facts.specs.Links.{HasFlow}
 use Rattle.chip_trace.specs.Arriving.{IsAssembled}
-use Rattle.start_trace.specs.Starting.{IsBeginning, held_in}
+use Rattle.chip_trace.specs.Starting.{IsBeginning, held_in}
 use Rattle.headline.specs.Headline.{Follows, setting_of}
 use Rattle.headline.specs.SourceOf.{source_of}
 use Rattle.headline_trace.specs.Carried.{frame_of}

@@ -1,8 +1,8 @@
 -- Events of a run of the source, as a map of the program shows them, have names in it.
 use Rattle.std.proofs.Common.{◌≡◌, ℕ, ◌<◌, Option, Some, None, List, [], ◌∷◌, map, length, sym, ◌∙◌, subst, arith, option_map}
 use Rattle.c_typed.specs.Trees.{Program}
-use Rattle.event_names.proofs.Traces.{taken_named}
-use Rattle.event_names.specs.Names.{AllNamed, IsNamed, IsNamedCell, IsNamedIfAny, MakesNamed}
+use Rattle.program_laws.proofs.Traces.{taken_named}
+use Rattle.program_laws.specs.EventNames.{AllNamed, IsNamed, IsNamedCell, IsNamedIfAny, MakesNamed}
 use Rattle.pic_map.specs.EventText.{CanBeShown, HasName}
 use Rattle.pic_map.specs.MapContent.{MapContent}
 use Rattle.pic_world.specs.World.{Happening, ReadOf, WriteOf, Ended}

@@ -15,7 +15,7 @@ use Rattle.c_typed.specs.declared.program.Typed.{Typed}
 use Rattle.call_graph.specs.Copies.{AreCopies}
 use Rattle.call_graph.specs.Levels.{IsAcyclic}
 use Rattle.call_graph.specs.declared.types.FnCopy.{FnCopy}
-use Rattle.event_names.proofs.Traces.{traces_named}
+use Rattle.program_laws.proofs.Traces.{traces_named}
 use Rattle.headline.specs.SourceOf.{setting_of}
 use Rattle.host_io.specs.Host.{Kind, Contents, IsRead, PrintsPrefix}
 use Rattle.pic_map.specs.MapContent.{MapContent, ObjectLine, FrameLine}

@@ -12,7 +12,7 @@ use Rattle.call_graph.proofs.Additions.{number_once}
 use Rattle.call_graph.proofs.Results.{one_below}
 use Rattle.call_graph.specs.Copies.{AreCopies, IsCopy, StandsBefore, root_place}
 use Rattle.call_graph.specs.declared.types.FnCopy.{FnCopy}
-use Rattle.map_names.proofs.Lines.{not_before}
+use Rattle.program_laws.proofs.Lines.{not_before}
 use Rattle.pic_world.specs.declared.Root.{Root}
 use Rattle.pic_world.specs.declared.Root.TheVariants.{Main, Isr}
 use Rattle.program_code.specs.Stated.{sizes, copy_words}

@@ -16,8 +16,8 @@ use Rattle.core_code.specs.declared.code.Byte.{Byte}
 use Rattle.core_code.specs.declared.code.Byte.TheVariants as bytes
 use Rattle.core_code.specs.declared.code.CoreProgram.{CoreProgram}
 use Rattle.lower_stmt.specs.Bodies.{body_of, bodies_of, first_bytes}
-use Rattle.lean_blocks.specs.Leaner.{IsLeaner}
-use Rattle.lean_blocks.proofs.Whole.{blocks_are_leaner}
+use Rattle.program_code.specs.Leaner.{IsLeaner}
+use Rattle.program_code.proofs.LeanerBlocks.{blocks_are_leaner}
 use Rattle.lower_stmt.specs.FirstBytes.{items_of}
 use Rattle.lower_stmt.specs.Programs.{core_of}
 use Rattle.pic_map.specs.MapView.{object_of, frame_of}
@@ -35,17 +35,17 @@ use Rattle.program_code.proofs.Bodies.{statics_kept}
 use Rattle.program_code.specs.Passed.{AreBlocks, AsLowered}
 use Rattle.ram_place.specs.Placement.{IsPlacing, LiveFramesAreDisjoint, FramesAreClear, ObjectsAreDisjoint}
 use Rattle.src_rules.specs.Numbers.{ProgramHasNumbers}
-use Rattle.word_bounds.specs.There as there
-use Rattle.paired_skips.specs.Laws as skips
-use Rattle.paired_skips.proofs.Whole.{blocks_can_select}
-use Rattle.named_targets.proofs.Placing.{all_is_there}
-use Rattle.named_targets.proofs.Whole as targets
-use Rattle.object_counts.proofs.Sized.{objects_few}
-use Rattle.image_links.specs.Addressed.{BlocksHaveOperands, BlocksStandInside}
-use Rattle.image_links.proofs.Addressed.{lean_keeps_operands, operands_have_addresses, selects_keep_operands}
-use Rattle.image_links.proofs.FewCopies.{copies_few}
-use Rattle.image_links.proofs.Laid.{frames_whole}
-use Rattle.image_links.proofs.Standing.{translations_fit}
+use Rattle.program_code.specs.There as there
+use Rattle.program_code.specs.Skips as skips
+use Rattle.program_code.proofs.AllSkips.{blocks_can_select}
+use Rattle.program_code.proofs.PlacedTargets.{all_is_there}
+use Rattle.program_code.proofs.AllTargets as targets
+use Rattle.program_laws.proofs.Sized.{objects_few}
+use Rattle.headline_trace.specs.Addressed.{BlocksHaveOperands, BlocksStandInside}
+use Rattle.headline_trace.proofs.Addressed.{lean_keeps_operands, operands_have_addresses, selects_keep_operands}
+use Rattle.headline_trace.proofs.FewCopies.{copies_few}
+use Rattle.headline_trace.proofs.Laid.{frames_whole}
+use Rattle.headline_trace.proofs.Standing.{translations_fit}
 use Rattle.picc_core.specs.Blocks.{HasBlocks}
 use Rattle.picc_core.specs.Coded.{IsRoomy, AsGiven, Seen, IsSymbolic}
 use Rattle.picc_core.specs.Founded.{IsFounded}

@@ -17,8 +17,8 @@ use Rattle.pic_map.specs.MapText.{AreInRange}
 use Rattle.pic_map.specs.MapView.{content_of, object_of, frame_of}
 use Rattle.program_code.specs.Translated.{IsTranslated}
 use Rattle.ram_place.specs.Placement.{IsPlacing, LiveFramesAreDisjoint, FramesAreClear, ObjectsAreDisjoint, addresses_covered}
-use Rattle.image_links.proofs.Faithful.{translations_faithful}
-use Rattle.image_links.proofs.FewCopies.{copies_few}
+use Rattle.headline_trace.proofs.Faithful.{translations_faithful}
+use Rattle.headline_trace.proofs.FewCopies.{copies_few}
 use Rattle.picc_core.specs.Blocks.{HasBlocks, HasWords}
 use Rattle.picc_core.specs.Compiled.{IsPlaced, IsWithinDepth, IsCompiledTo}
 use Rattle.picc_core.specs.Decided.{IsAcceptedText}

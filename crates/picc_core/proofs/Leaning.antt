@@ -15,7 +15,7 @@ use Rattle.call_graph.specs.declared.types.FnCopy.{FnCopy}
 use Rattle.code_place.specs.Layouts.{layout_of}
 use Rattle.code_place.specs.Sizes.{Fit}
 use Rattle.core_code.specs.declared.code.CoreProgram.{CoreProgram}
-use Rattle.image_links.proofs.Laid.{frame_few}
+use Rattle.headline_trace.proofs.Laid.{frame_few}
 use Rattle.lean_pass.specs.Made.{IsAsGiven, IsLean, Kept}
 use Rattle.lean_pass.specs.Views.{variables_of}
 use Rattle.lower_stmt.specs.Programs.{core_of, size_or_none, function_at, function_in}

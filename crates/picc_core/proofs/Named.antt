@@ -10,9 +10,9 @@ use Rattle.c_parse.specs.Marks.{marked}
 use Rattle.c_typed.specs.Trees.{Program}
 use Rattle.parse_expr.specs.Reader.{symbols_in}
 use Rattle.parse_expr.specs.declared.error.ParseError.{ParseError}
-use Rattle.token_words.proofs.Marked.{tokens_words}
-use Rattle.typed_names.proofs.Units.{judged_named}
-use Rattle.typed_names.specs.Named.{AreWords, AreNamed}
+use Rattle.program_laws.proofs.Marked.{tokens_words}
+use Rattle.program_laws.proofs.Units.{judged_named}
+use Rattle.program_laws.specs.Named.{AreWords, AreNamed}
 use Rattle.picc_core.specs.Texts.{longest, behind_directives, behind_tokens, tokens_left, limited, within_limits}
 use Rattle.picc_core.specs.Typed.{IsTypedAs}
 use Rattle.picc_core.specs.declared.refusal.CompileError.{CompileError}

@@ -19,7 +19,7 @@ use Rattle.call_graph.specs.declared.types.FnCopy.{FnCopy}
 use Rattle.pic_world.specs.declared.Root.{Root}
 use Rattle.pic_world.specs.declared.Root.TheVariants.{Main, Isr}
 use Rattle.code_place.specs.Pages.{AreWithinPages}
-use Rattle.image_links.proofs.SameNumbers.{same_counted, same_numbers, map_up}
+use Rattle.headline_trace.proofs.SameNumbers.{same_counted, same_numbers, map_up}
 use Rattle.program_code.specs.Order.{rank}
 use Rattle.program_code.specs.Stated.{copy_words, sizes}
 use Rattle.ram_place.specs.Sizes.{block_words}

@@ -8,7 +8,7 @@ use Rattle.c_typed.specs.Trees.{Program}
 use Rattle.c_typed.specs.Views.{program_of}
 use Rattle.c_typed.specs.declared.program.Typed.{Typed}
 use Rattle.call_graph.specs.declared.types.FnCopy.{FnCopy}
-use Rattle.map_names.proofs.Lines.{lines_named}
+use Rattle.program_laws.proofs.Lines.{lines_named}
 use Rattle.pic_map.specs.MapContent as content
 use Rattle.pic_map.specs.MapText.{AreInRange}
 use Rattle.pic_map.specs.MapView.{content_of, object_of, frame_of}
@@ -18,8 +18,8 @@ use Rattle.pic_map.specs.declared.Placed.{Placed}
 use Rattle.program_code.specs.Passed.{IsPassed}
 use Rattle.program_code.specs.Translated.{IsTranslated, AreOthers}
 use Rattle.ram_place.specs.Placement.{IsPlacing}
-use Rattle.typed_names.specs.Named.{AreNamed}
-use Rattle.image_links.proofs.Written.{maps_written}
+use Rattle.program_laws.specs.Named.{AreNamed}
+use Rattle.headline_trace.proofs.Written.{maps_written}
 use Rattle.picc_core.specs.Coded.{IsCoded}
 use Rattle.picc_core.specs.Founded.{IsFounded}
 use Rattle.picc_core.specs.declared.known.Built.{Built}

@@ -3,3 +3,13 @@ pub mod Order
 pub mod Passed
 pub mod Stated
 pub mod Translated
+pub mod Counting
+pub mod Naming
+pub mod Bounds
+pub mod There
+pub mod Leaner
+pub mod Calling
+pub mod Targets
+pub mod Paired
+pub mod Close
+pub mod Skips

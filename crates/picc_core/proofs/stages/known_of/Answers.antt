@@ -2,7 +2,7 @@ use Rattle.std.proofs.Common.{map}
 use Rattle.std.proofs.lemmas.Result.{err_from_is_err_and}
 use Rattle.c_typed.specs.Views.{program_of}
 use Rattle.pic_map.specs.MapView.{object_of, frame_of}
-use Rattle.object_counts.proofs.ObjectBytes.{start_within}
+use Rattle.program_laws.proofs.ObjectBytes.{start_within}
 use Rattle.picc_core.proofs.Founding.{founded_on}
 use Rattle.picc_core.proofs.Told.{code_refused, accepted}
 use Rattle.picc_core.proofs.stages.known_of.Goals as goal

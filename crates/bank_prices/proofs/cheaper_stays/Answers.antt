@@ -1,8 +1,0 @@
-use Rattle.bank_prices.proofs.Cheaper.{cheaper_is_dear, cheaper_is_priced}
-use Rattle.bank_prices.proofs.cheaper_stays.Goals as goal
-
-pub returns-clause-dear : goal.returns-clause-dear
-returns-clause-dear c = cheaper_is_dear
-
-pub returns-clause-priced : goal.returns-clause-priced
-returns-clause-priced c = cheaper_is_priced

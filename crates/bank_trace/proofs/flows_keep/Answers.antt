@@ -1,5 +1,0 @@
-use Rattle.bank_trace.proofs.Chosen.{flows_keep}
-use Rattle.bank_trace.proofs.flows_keep.Goals as goal
-
-pub returns : goal.returns
-returns c = flows_keep

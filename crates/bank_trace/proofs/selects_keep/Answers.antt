@@ -1,5 +1,0 @@
-use Rattle.bank_trace.proofs.Chosen.{chooses}
-use Rattle.bank_trace.proofs.selects_keep.Goals as goal
-
-pub returns : goal.returns
-returns c = chooses

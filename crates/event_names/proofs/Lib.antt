@@ -1,4 +1,0 @@
-pub mod Spots
-pub mod Touched
-pub mod Steps
-pub mod Traces

@@ -1,0 +1,47 @@
+-- Each block of what the passes make of a program has room where it is put: with its selects, and without those that flow facts make needless.
+use Rattle.std.proofs.Common.{◌≡◌, ℕ, suc, ◌≤◌, List, Some, slice_get, sym, ap, ◌∙◌, subst, arith}
+use Rattle.std.specs.List.{AllZip}
+use Rattle.c_typed.specs.Trees.{Program}
+use Rattle.c_typed.specs.Views.{program_of}
+use Rattle.call_graph.specs.Numbers.{handler_at}
+use Rattle.call_graph.specs.declared.types.FnCopy.{FnCopy}
+use Rattle.flow_facts.proofs.Kept.{thinning_keeps}
+use Rattle.flow_facts.specs.Facts.{Facts}
+use Rattle.flow_facts.specs.Laws.{IsShorter}
+use Rattle.flow_facts.specs.Thin.{IsThin}
+use Rattle.sym_code.specs.Words.{words_in}
+use Rattle.sym_code.specs.declared.code.SymBlock.{SymBlock}
+use Rattle.headline_trace.specs.Bounded.{AreInOrder, IsStated, TranslationsFit, words_for}
+use Rattle.headline_trace.proofs.Bounded.{blocks_stated, zip_at}
+use Rattle.headline_trace.proofs.Fitting.{blocks_fit}
+use Rattle.headline_trace.proofs.Ranked.{blocks_in_order}
+use Rattle.headline_trace.proofs.Statics.{some_is}
+
+module _ (p : Program) (copies : List FnCopy) (facts : Facts) (whole made : List SymBlock) (each : AllZip (IsThin facts) whole made) where
+  thin_in_order : (order : List FnCopy) → AreInOrder copies order whole → AreInOrder copies order made
+  thin_in_order order stands =
+      record {
+        first = λ block is. let g = zip_at (IsThin facts) whole made each 0 block is in g.2.name ∙ stands.first g.0 g.1;
+        behind = λ k block is.
+            let g = zip_at (IsThin facts) whole made each (suc k) block is in
+            let at = stands.behind k g.0 g.1 in
+            record { number = at.number; copy = at.copy; named = g.2.name ∙ at.named; there = at.there; in_order = at.in_order };
+      }
+
+  thin_stated : AllZip IsShorter whole made → ((k : ℕ) (block : SymBlock) → slice_get whole k ≡ Some block → IsStated p copies block) → (k : ℕ) (block : SymBlock) → slice_get made k ≡ Some block → IsStated p copies block
+  thin_stated shorter stated k block is =
+      let g = zip_at (IsThin facts) whole made each k block is in
+      let h = zip_at IsShorter whole made shorter k block is in
+      let same : h.0 ≡ g.0 = some_is h.0 g.0 (sym h.1 ∙ g.1) in
+      let fewer : words_in block.list.items ≤ words_in g.0.list.items = subst (λ (x : SymBlock). IsShorter x block) same h.2 in
+      let few : words_in g.0.list.items ≤ words_for p copies g.0.name = stated k g.0 g.1 in
+      let name = ap (words_for p copies) g.2.name in
+      let words : words_in block.list.items ≤ words_for p copies block.name = omega (arith, fewer, few, name) in
+      words
+
+pub translations_fit : TranslationsFit
+translations_fit typed copies core given whole made placed at blocks bodies thinned has placing statics paged =
+    let p = program_of typed in
+    let kept = thinning_keeps placed (handler_at copies) at whole made thinned blocks.apart blocks.reaches in
+    blocks_fit p copies made at paged (thin_in_order p copies thinned.facts whole made thinned.each paged.order (blocks_in_order typed copies core given whole placed at blocks has paged))
+    (thin_stated p copies thinned.facts whole made thinned.each kept.shorter (blocks_stated typed copies core given whole placed blocks bodies has placing statics))

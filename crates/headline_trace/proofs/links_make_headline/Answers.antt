@@ -1,5 +1,0 @@
-use Rattle.headline_trace.proofs.Whole.{makes_headline}
-use Rattle.headline_trace.proofs.links_make_headline.Goals as goal
-
-pub returns : goal.returns
-returns c = makes_headline

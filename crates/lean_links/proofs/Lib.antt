@@ -1,3 +1,0 @@
-mod Counted
-mod Named
-pub mod Followed

@@ -1,2 +1,0 @@
-pub mod ObjectBytes
-pub mod Sized

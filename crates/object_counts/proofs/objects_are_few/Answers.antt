@@ -1,8 +1,0 @@
-use Rattle.object_counts.proofs.Sized.{objects_few, starts_fit}
-use Rattle.object_counts.proofs.objects_are_few.Goals as goal
-
-pub returns-clause-few : goal.returns-clause-few
-returns-clause-few c = objects_few
-
-pub returns-clause-start : goal.returns-clause-start
-returns-clause-start c = starts_fit

@@ -1,3 +1,0 @@
-pub mod Paired
-pub mod Close
-pub mod Laws

@@ -1,0 +1,16 @@
+pub mod Tables
+pub mod Terms
+pub mod Going
+pub mod Meets
+pub mod Spreading
+pub mod Chains
+pub mod Living
+pub mod Objects
+pub mod Files
+pub mod Soundness
+pub mod Sizes
+pub mod Weights
+pub mod Nodes
+pub mod Firsts
+pub mod Parts
+pub mod SizesAndFaults

@@ -1,4 +1,0 @@
-pub mod Counting
-pub mod Naming
-pub mod Bounds
-pub mod There
