@@ -1,12 +1,11 @@
 //! Symbolic code: a line for each instruction.
 
+use crate::listing::Listing;
 use crate::operations::put_byte;
-use std::alloc::AllocError;
 use sym_code::{
     BankBit, BitOperation, BlockName, FileOperation, Into, Label, Literal, LiteralOperation,
     Operand, PageBit, PlainOperation, Register, Saved, Sym, SymBlock, SymProgram, Target,
 };
-use typed_text::listing::Listing;
 
 fn of_file(op: FileOperation) -> &'static str {
     match op {
@@ -97,7 +96,7 @@ fn of_page(bit: PageBit) -> &'static str {
     }
 }
 
-fn put_operand(out: &mut Listing, operand: Operand) -> Result<(), AllocError> {
+fn put_operand(out: &mut Listing, operand: Operand) {
     match operand {
         Operand::Byte(byte) => put_byte(out, byte),
         Operand::Register(register) => out.word(of_register(register)),
@@ -105,30 +104,30 @@ fn put_operand(out: &mut Listing, operand: Operand) -> Result<(), AllocError> {
     }
 }
 
-fn put_literal(out: &mut Listing, value: Literal) -> Result<(), AllocError> {
+fn put_literal(out: &mut Listing, value: Literal) {
     match value {
         Literal::Number(number) => out.number(number as u64),
         Literal::Low(byte) => {
-            out.open("Low")?;
-            put_byte(out, byte)?;
-            out.close()
+            out.open("Low");
+            put_byte(out, byte);
+            out.close();
         }
         Literal::High(byte) => {
-            out.open("High")?;
-            put_byte(out, byte)?;
-            out.close()
+            out.open("High");
+            put_byte(out, byte);
+            out.close();
         }
     }
 }
 
-fn put_name(out: &mut Listing, name: BlockName) -> Result<(), AllocError> {
+fn put_name(out: &mut Listing, name: BlockName) {
     match name {
         BlockName::Start => out.word("Start"),
         BlockName::Copy(copy) => out.numbered("Copy", copy as u64),
     }
 }
 
-fn put_label(out: &mut Listing, label: Label) -> Result<(), AllocError> {
+fn put_label(out: &mut Listing, label: Label) {
     match label {
         Label::Inner(number) => out.numbered("Inner", number as u64),
         Label::Halt => out.word("Halt"),
@@ -137,7 +136,7 @@ fn put_label(out: &mut Listing, label: Label) -> Result<(), AllocError> {
 }
 
 /// The front of a block is told by its name, and a label as itself.
-fn put_target(out: &mut Listing, target: Target) -> Result<(), AllocError> {
+fn put_target(out: &mut Listing, target: Target) {
     match target {
         Target::Block(name) => put_name(out, name),
         Target::Label(label) => put_label(out, label),
@@ -160,41 +159,41 @@ fn head_of(sym: Sym) -> &'static str {
     }
 }
 
-fn put_fields(out: &mut Listing, sym: Sym) -> Result<(), AllocError> {
+fn put_fields(out: &mut Listing, sym: Sym) {
     match sym {
         Sym::File { op, file, into } => {
-            out.word(of_file(op))?;
-            put_operand(out, file)?;
-            out.word(of_into(into))
+            out.word(of_file(op));
+            put_operand(out, file);
+            out.word(of_into(into));
         }
         Sym::Movwf(file) | Sym::Clrf(file) => put_operand(out, file),
         Sym::Bit { op, file, bit } => {
-            out.word(of_bit(op))?;
-            put_operand(out, file)?;
-            out.number(bit as u64)
+            out.word(of_bit(op));
+            put_operand(out, file);
+            out.number(bit as u64);
         }
         Sym::Literal { op, value } => {
-            out.word(of_literal(op))?;
-            put_literal(out, value)
+            out.word(of_literal(op));
+            put_literal(out, value);
         }
         Sym::Plain(op) => out.word(of_plain(op)),
         Sym::Call(target) | Sym::Goto(target) => put_target(out, target),
         Sym::Label(label) => put_label(out, label),
         Sym::SelectBank(bit, value) => {
-            out.word(of_bank(bit))?;
-            out.number(value as u64)
+            out.word(of_bank(bit));
+            out.number(value as u64);
         }
         Sym::SelectPage(bit, target) => {
-            out.word(of_page(bit))?;
-            put_target(out, target)
+            out.word(of_page(bit));
+            put_target(out, target);
         }
     }
 }
 
-fn put_instruction(out: &mut Listing, sym: Sym) -> Result<(), AllocError> {
-    out.begin(2, head_of(sym))?;
-    put_fields(out, sym)?;
-    out.end()
+fn put_instruction(out: &mut Listing, sym: Sym) {
+    out.begin(2, head_of(sym));
+    put_fields(out, sym);
+    out.end();
 }
 
 fn own_copy(name: BlockName) -> Option<u16> {
@@ -204,29 +203,22 @@ fn own_copy(name: BlockName) -> Option<u16> {
     }
 }
 
-fn put_block(out: &mut Listing, block: &SymBlock, at: u16) -> Result<(), AllocError> {
+fn put_block(out: &mut Listing, block: &SymBlock, at: u16) {
     out.own = own_copy(block.name);
-    out.begin(1, "Block")?;
-    put_name(out, block.name)?;
-    out.numbered("at", at as u64)?;
-    out.end()?;
+    out.begin(1, "Block");
+    put_name(out, block.name);
+    out.numbered("at", at as u64);
+    out.end();
     for sym in &block.list {
-        put_instruction(out, *sym)?;
+        put_instruction(out, *sym);
     }
-    Ok(())
 }
 
 /// The blocks of a program under a head, with the addresses at which they stand.
-pub fn put_symbolic(
-    out: &mut Listing,
-    head: &str,
-    program: &SymProgram,
-    at: &[u16],
-) -> Result<(), AllocError> {
-    out.begin(0, head)?;
-    out.end()?;
+pub fn put_symbolic(out: &mut Listing, head: &str, program: &SymProgram, at: &[u16]) {
+    out.begin(0, head);
+    out.end();
     for (block, at) in program.blocks.iter().zip(at) {
-        put_block(out, block, *at)?;
+        put_block(out, block, *at);
     }
-    Ok(())
 }

@@ -4,7 +4,6 @@ use crate::listing::{Listing, inside};
 use crate::names::{of_binary, of_logical, of_step, of_unary};
 use crate::types::{put_qualified, put_type};
 use c_typed::{Object, TExpr, TPlace};
-use std::alloc::AllocError;
 
 fn head_of(expr: &TExpr) -> &'static str {
     match expr {
@@ -29,14 +28,14 @@ fn head_of(expr: &TExpr) -> &'static str {
 }
 
 /// What a node has besides its parts, its type and its line.
-fn put_fields(out: &mut Listing, expr: &TExpr) -> Result<(), AllocError> {
+fn put_fields(out: &mut Listing, expr: &TExpr) {
     match expr {
         TExpr::Constant { value, .. } => out.signed(value.number()),
         TExpr::Unary { op, .. } => out.word(of_unary(*op)),
         TExpr::Binary { op, .. } => out.word(of_binary(*op)),
         TExpr::Offset { op, size, .. } => {
-            out.word(of_binary(*op))?;
-            out.number(*size)
+            out.word(of_binary(*op));
+            out.number(*size);
         }
         TExpr::Difference { size, .. } | TExpr::StructAssign { size, .. } => out.number(*size),
         TExpr::Logical { op, .. } => out.word(of_logical(*op)),
@@ -46,9 +45,9 @@ fn put_fields(out: &mut Listing, expr: &TExpr) -> Result<(), AllocError> {
             size,
             ..
         } => {
-            out.word(of_binary(*op))?;
-            put_type(out, *operation)?;
-            out.number(*size)
+            out.word(of_binary(*op));
+            put_type(out, *operation);
+            out.number(*size);
         }
         TExpr::Step {
             op,
@@ -56,24 +55,24 @@ fn put_fields(out: &mut Listing, expr: &TExpr) -> Result<(), AllocError> {
             size,
             ..
         } => {
-            out.word(of_step(*op))?;
-            put_type(out, *operation)?;
-            out.number(*size)
+            out.word(of_step(*op));
+            put_type(out, *operation);
+            out.number(*size);
         }
         TExpr::Call { function, .. } => out.number(*function as u64),
-        _ => Ok(()),
+        _ => {}
     }
 }
 
-fn put_node(out: &mut Listing, expr: &TExpr, depth: u32) -> Result<(), AllocError> {
-    out.begin(depth, head_of(expr))?;
-    put_fields(out, expr)?;
-    put_type(out, expr.ty())?;
-    out.number(expr.line() as u64)?;
-    out.end()
+fn put_node(out: &mut Listing, expr: &TExpr, depth: u32) {
+    out.begin(depth, head_of(expr));
+    put_fields(out, expr);
+    put_type(out, expr.ty());
+    out.number(expr.line() as u64);
+    out.end();
 }
 
-fn put_object(out: &mut Listing, object: Object) -> Result<(), AllocError> {
+fn put_object(out: &mut Listing, object: Object) {
     match object {
         Object::Static(number) => out.numbered("Static", number as u64),
         Object::Param(number) => out.numbered("Param", number as u64),
@@ -82,17 +81,17 @@ fn put_object(out: &mut Listing, object: Object) -> Result<(), AllocError> {
     }
 }
 
-fn put_place_node(out: &mut Listing, place: &TPlace, depth: u32) -> Result<(), AllocError> {
+fn put_place_node(out: &mut Listing, place: &TPlace, depth: u32) {
     match place {
         TPlace::Name { object, ty, .. } => {
-            out.begin(depth, "Name")?;
-            put_object(out, *object)?;
-            put_qualified(out, *ty)?;
+            out.begin(depth, "Name");
+            put_object(out, *object);
+            put_qualified(out, *ty);
         }
         TPlace::Bit { register, bit, .. } => {
-            out.begin(depth, "Bit")?;
-            out.number(*register as u64)?;
-            out.number(*bit as u64)?;
+            out.begin(depth, "Bit");
+            out.number(*register as u64);
+            out.number(*bit as u64);
         }
         TPlace::Member {
             member,
@@ -100,28 +99,28 @@ fn put_place_node(out: &mut Listing, place: &TPlace, depth: u32) -> Result<(), A
             ty,
             ..
         } => {
-            out.begin(depth, "Member")?;
-            out.number(*member as u64)?;
-            out.number(*offset)?;
-            put_qualified(out, *ty)?;
+            out.begin(depth, "Member");
+            out.number(*member as u64);
+            out.number(*offset);
+            put_qualified(out, *ty);
         }
         TPlace::Deref { ty, .. } => {
-            out.begin(depth, "Deref")?;
-            put_qualified(out, *ty)?;
+            out.begin(depth, "Deref");
+            put_qualified(out, *ty);
         }
     }
-    out.number(place.line() as u64)?;
-    out.end()
+    out.number(place.line() as u64);
+    out.end();
 }
 
 /// An expression, so many steps to the right.
 #[cycle(expression)]
-pub fn put_expression(out: &mut Listing, expr: &TExpr, depth: u32) -> Result<(), AllocError> {
-    put_node(out, expr, depth)?;
+pub fn put_expression(out: &mut Listing, expr: &TExpr, depth: u32) {
+    put_node(out, expr, depth);
     match expr {
-        TExpr::Constant { .. } => Ok(()),
+        TExpr::Constant { .. } => {}
         TExpr::Read { place, .. } | TExpr::Address { place, .. } | TExpr::Step { place, .. } => {
-            put_place(out, place, inside(depth))
+            put_place(out, place, inside(depth));
         }
         TExpr::Convert { operand, .. }
         | TExpr::Cast { operand, .. }
@@ -131,8 +130,8 @@ pub fn put_expression(out: &mut Listing, expr: &TExpr, depth: u32) -> Result<(),
         | TExpr::Difference { left, right, .. }
         | TExpr::Logical { left, right, .. }
         | TExpr::Comma { left, right, .. } => {
-            put_expression(out, left, inside(depth))?;
-            put_expression(out, right, inside(depth))
+            put_expression(out, left, inside(depth));
+            put_expression(out, right, inside(depth));
         }
         TExpr::Conditional {
             condition,
@@ -140,17 +139,17 @@ pub fn put_expression(out: &mut Listing, expr: &TExpr, depth: u32) -> Result<(),
             otherwise,
             ..
         } => {
-            put_expression(out, condition, inside(depth))?;
-            put_expression(out, then, inside(depth))?;
-            put_expression(out, otherwise, inside(depth))
+            put_expression(out, condition, inside(depth));
+            put_expression(out, then, inside(depth));
+            put_expression(out, otherwise, inside(depth));
         }
         TExpr::Assign { place, value, .. } | TExpr::Update { place, value, .. } => {
-            put_place(out, place, inside(depth))?;
-            put_expression(out, value, inside(depth))
+            put_place(out, place, inside(depth));
+            put_expression(out, value, inside(depth));
         }
         TExpr::StructAssign { place, from, .. } => {
-            put_place(out, place, inside(depth))?;
-            put_place(out, from, inside(depth))
+            put_place(out, place, inside(depth));
+            put_place(out, from, inside(depth));
         }
         TExpr::Call { arguments, .. } => put_arguments(out, arguments, inside(depth)),
     }
@@ -158,30 +157,29 @@ pub fn put_expression(out: &mut Listing, expr: &TExpr, depth: u32) -> Result<(),
 
 /// A place, so many steps to the right.
 #[cycle(expression)]
-pub fn put_place(out: &mut Listing, place: &TPlace, depth: u32) -> Result<(), AllocError> {
-    put_place_node(out, place, depth)?;
+pub fn put_place(out: &mut Listing, place: &TPlace, depth: u32) {
+    put_place_node(out, place, depth);
     match place {
-        TPlace::Name { .. } | TPlace::Bit { .. } => Ok(()),
+        TPlace::Name { .. } | TPlace::Bit { .. } => {}
         TPlace::Member { whole, .. } => put_place(out, whole, inside(depth)),
         TPlace::Deref { pointer, .. } => put_expression(out, pointer, inside(depth)),
     }
 }
 
 #[cycle(expression)]
-fn put_arguments(out: &mut Listing, arguments: &[TExpr], depth: u32) -> Result<(), AllocError> {
+fn put_arguments(out: &mut Listing, arguments: &[TExpr], depth: u32) {
     for argument in arguments {
-        put_expression(out, argument, depth)?;
+        put_expression(out, argument, depth);
     }
-    Ok(())
 }
 
 /// An expression that may be missing.
-pub fn put_any(out: &mut Listing, expr: &Option<TExpr>, depth: u32) -> Result<(), AllocError> {
+pub fn put_any(out: &mut Listing, expr: &Option<TExpr>, depth: u32) {
     match expr {
         Some(expr) => put_expression(out, expr, depth),
         None => {
-            out.begin(depth, "None")?;
-            out.end()
+            out.begin(depth, "None");
+            out.end();
         }
     }
 }

@@ -3,6 +3,7 @@
 use c_ints::{BinOp, IntTy, UnOp};
 use c_typed::{Helper, LogicalOp, LoopForm, StepOp};
 use pic_world::Root;
+use picc_core::Kind;
 
 /// The name of a root: `Main` or `Isr`.
 pub fn of_root(root: Root) -> &'static str {
@@ -105,5 +106,26 @@ pub fn of_helper(helper: Helper) -> &'static str {
         Helper::Shl4 => "Shl4",
         Helper::Shru4 => "Shru4",
         Helper::Shrs4 => "Shrs4",
+    }
+}
+
+/// The name of a kind, such as `Again`.
+pub fn of_kind(kind: Kind) -> &'static str {
+    match kind {
+        Kind::Name => "Name",
+        Kind::Again => "Again",
+        Kind::Declare => "Declare",
+        Kind::Size => "Size",
+        Kind::Incomplete => "Incomplete",
+        Kind::Constant => "Constant",
+        Kind::Initializer => "Initializer",
+        Kind::Member => "Member",
+        Kind::Call => "Call",
+        Kind::Address => "Address",
+        Kind::Assign => "Assign",
+        Kind::Operand => "Operand",
+        Kind::Convert => "Convert",
+        Kind::Return => "Return",
+        Kind::Jump => "Jump",
     }
 }
