@@ -39,7 +39,7 @@ fn operators_give_the_worked_values(rt: HostRuntime) -> Result<(), Fail> {
         (BinOp::Ge, IntTy::Int, 0xffff, 0, Some(0)),
     ];
     for (op, ty, a, b, wanted) in cases {
-        assert_eq!(rt; applied(op, ty, a, b), wanted);
+        assert!(rt; applied(op, ty, a, b) == wanted);
     }
     Ok(())
 }
@@ -47,30 +47,39 @@ fn operators_give_the_worked_values(rt: HostRuntime) -> Result<(), Fail> {
 #[test]
 fn conversions_give_the_worked_values(rt: HostRuntime) -> Result<(), Fail> {
     let long = Value::new(IntTy::Long, 0xffff_ff38);
-    assert_eq!(rt; long.number(), -200);
-    assert_eq!(rt; long.bits(), 0xffff_ff38);
-    assert_eq!(rt; convert(long, IntTy::SChar).number(), 56);
-    assert_eq!(rt; convert(long, IntTy::UInt).number(), 65_336);
-    assert_eq!(rt;
+    let numbers = [
+        long.number(),
+        convert(long, IntTy::SChar).number(),
+        convert(long, IntTy::UInt).number(),
         unary(UnOp::Minus, Value::new(IntTy::Int, 0x8000)).number(),
-        -32_768
-    );
-    assert_eq!(rt;
         unary(UnOp::Not, Value::new(IntTy::UInt, 1)).number(),
-        65_534
-    );
-    assert_eq!(rt; unary(UnOp::Bang, long).number(), 0);
-    assert_eq!(rt;
+        unary(UnOp::Bang, long).number(),
+    ];
+    assert!(rt; numbers == [-200, 56, 65_336, -32_768, 65_534, 0]);
+    assert!(rt; long.bits() == 0xffff_ff38);
+    let sizes = [
+        size(constant(40_000, 10, false, false)),
+        size(constant(0x9c40, 16, false, false)),
+    ];
+    assert!(rt; sizes == [4, 2]);
+    let types = [
         unary(UnOp::Plus, Value::new(IntTy::SChar, 0x80)).ty(),
-        IntTy::Int
-    );
-    assert_eq!(rt; size(constant(40_000, 10, false, false)), 4);
-    assert_eq!(rt; size(constant(0x9c40, 16, false, false)), 2);
-    assert_eq!(rt; constant(0x8000_0000, 10, false, false), IntTy::ULong);
-    assert_eq!(rt; constant(1, 8, false, true), IntTy::Long);
-    assert_eq!(rt; constant(65_536, 10, true, false), IntTy::ULong);
-    assert_eq!(rt; usual(IntTy::UInt, IntTy::Long), IntTy::Long);
-    assert_eq!(rt; usual(IntTy::UShort, IntTy::SChar), IntTy::UInt);
-    assert_eq!(rt; usual(IntTy::Long, IntTy::ULong), IntTy::ULong);
+        constant(0x8000_0000, 10, false, false),
+        constant(1, 8, false, true),
+        constant(65_536, 10, true, false),
+        usual(IntTy::UInt, IntTy::Long),
+        usual(IntTy::UShort, IntTy::SChar),
+        usual(IntTy::Long, IntTy::ULong),
+    ];
+    let wanted = [
+        IntTy::Int,
+        IntTy::ULong,
+        IntTy::Long,
+        IntTy::ULong,
+        IntTy::Long,
+        IntTy::UInt,
+        IntTy::ULong,
+    ];
+    assert!(rt; types == wanted);
     Ok(())
 }
