@@ -35,7 +35,7 @@ words() {
 
 # C text: the words of its functions, of every copy, and those that save and restore the handler's context
 own_words() {
-    "$show" "$1" | awk '
+    "$show" code "$1" | awk '
         /^[^ ]/ { part = $1 }
         part == "Copies" && $1 == "Copy" { helper["Copy(" copies++ + 0 ")"] = $3 ~ /^Helper/ }
         part != "Selected" { next }

@@ -1,9 +1,10 @@
 #!/bin/sh
 # The rules on names and types, run as definitions (type_rules) on texts, and compared with what the checker says of the same texts: the typed
 # tree node by node, or the kind and the line of the first broken rule. checks/lib/trees.py reads the texts, checks/lib/interpreter.py runs
-# the definitions, and tree_show prints what the checker says. The texts: those of check_tests, of examples/ and of checks/cases/, and 200
-# changed ones from seed 1. `rules.sh COUNT [SEED]` runs so many changed ones, of the texts of all crates of examples.
-# TREE_SHOW names a program in place of tree_show; PROCESSES says how many processes work at the same time.
+# the definitions, and picc_show prints what the checker says. The texts: those of front_tests that the checker takes or refuses, those of
+# examples/ and of checks/cases/, and 200 changed ones from seed 1. `rules.sh COUNT [SEED]` runs so many changed ones, of the texts of all
+# crates of examples.
+# PICC_SHOW names a program in place of picc_show; PROCESSES says how many processes work at the same time.
 set -u
 . "$(dirname -- "$0")/lib/common.sh" || exit 1
 if ! command -v python3 >/dev/null; then
@@ -11,15 +12,15 @@ if ! command -v python3 >/dev/null; then
     exit 0
 fi
 . "$top/checks/lib/show.sh" || exit 1
-show=${TREE_SHOW:-$(program_of tree_show)}
+show=${PICC_SHOW:-$(program_of picc_show)}
 [ -x "$show" ] || {
-    wrong 'tree_show was not built'
+    wrong 'picc_show was not built'
     exit 1
 }
 count=${1:-200}
 seed=${2:-1}
 if [ $# -eq 0 ]; then
-    set -- "$top"/crates/check_tests/src/*.rt
+    set -- "$top"/crates/front_tests/src/rules.rt "$top"/crates/front_tests/src/typed_trees.rt
 else
     set -- "$top"/crates/*_tests/src/*.rt
 fi

@@ -4,7 +4,6 @@ of programs."""
 import json
 import os
 import random
-import re
 import subprocess
 import sys
 import tempfile
@@ -16,6 +15,7 @@ from machines import FLAGS, Chip, Core, Source, Symbolic, layout_of, marked_pric
 from interpreter import REACHED, definition
 from links import unfollowed
 import programs
+from tables import texts
 
 STEPS, EVENTS = 40000, 150
 CHIP_STEPS = 2500
@@ -241,7 +241,7 @@ def one(job):
         name = os.path.join(folder, 'a.c')
         with open(name, 'w', encoding='latin-1') as file:
             file.write(text)
-        ran = subprocess.run([show, name], stdout=subprocess.PIPE, timeout=120)
+        ran = subprocess.run([show, 'code', name], stdout=subprocess.PIPE, timeout=120)
         if ran.returncode == 1:
             return {'refused': 1}, None
         if ran.returncode != 0:
@@ -268,9 +268,7 @@ def one(job):
 
 def literals(source):
     """The string literals of a source text that are C programs."""
-    for found in re.finditer(r'"((?:[^"\\]|\\.)*)"', source, re.S):
-        text = re.sub(r'\\\n\s*', '', found.group(1))
-        text = re.sub(r'\\(.)', lambda m: {'n': '\n', 't': '\t', 'r': '\r', '0': '\0'}.get(m.group(1), m.group(1)), text)
+    for text in texts(source):
         if 'main(' in text:
             yield text
 

@@ -1,5 +1,5 @@
 """Runs the rules on names and types, as type_rules has them, and compares what they say of a text with what the checker says of it: the
-typed tree, node by node, or the kind and the line of the first broken rule. Arguments: the program tree_show, how many changed texts, the
+typed tree, node by node, or the kind and the line of the first broken rule. Arguments: the program picc_show, how many changed texts, the
 seed, how many processes (0: none but this one, and what was never reached is told), and the files of texts. A changed text is one of these
 files' texts in which a few tokens were replaced, dropped or doubled, with its lines broken elsewhere. Texts without a tree are passed over,
 and each that the compiler's parser and the one of checks/lib/trees.py judge otherwise is told."""
@@ -16,6 +16,7 @@ from concurrent.futures import ProcessPoolExecutor
 import programs
 from code_text import lines_in, program
 from interpreter import REACHED, definition
+from tables import texts
 from trees import KEYWORDS, NoTree, tokens_of, unit_of
 
 KINDS = 'name again declare size incomplete constant initializer member call address assign operand convert return jump'.split()
@@ -31,18 +32,12 @@ WHOLE = [
     ['', '[0]', '()', '(1)', '.a', '->a', '++', '--', '+1', '-1', ',1', '?1:0', '?p:0', '==0', '-=p', '+=1L', '<<1L', '&&p'], ['', '={1}', '={1,2}', '=0', '="ab"', '=x', '=&x']]
 
 
-def unescaped(text):
-    text = re.sub(r'\\\n\s*', '', text)
-    return re.sub(r'\\(.)', lambda m: {'n': '\n', 't': '\t', 'r': '\r', '0': '\0'}.get(m.group(1), m.group(1)), text)
-
-
 def texts_in(name):
-    """The C texts of a file with what is wanted of each, or None: it is one, or has them as literals, or as members of JSON objects, one a line."""
+    """The C texts of a file with what is wanted of each, or None: it is one, or has them as literals or in tables, or as members of JSON objects, one a line."""
     with open(name, encoding='latin-1' if name.endswith('.c') else 'utf-8') as file:
         content = file.read()
     if name.endswith('.rt'):
-        found = (unescaped(m.group(1)) for m in re.finditer(r'"((?:[^"\\]|\\.)*)"', content, re.S))
-        return [(text, None) for text in found if ';' in text or '{' in text]
+        return [(text, None) for text in texts(content) if ';' in text or '{' in text]
     if name.endswith('.jsonl'):
         cases = (json.loads(line) for line in content.splitlines())
         return [(case['text'], case.get('want')) for case in cases if case.get('text')]
@@ -54,12 +49,12 @@ def shown(show, folder, text):
     name = os.path.join(folder, 'a.c')
     with open(name, 'w', encoding='latin-1') as file:
         file.write(text)
-    ran = subprocess.run([show, name], stdout=subprocess.PIPE, timeout=120)
+    ran = subprocess.run([show, 'tree', name], stdout=subprocess.PIPE, timeout=120)
     printed = ran.stdout.decode('latin-1')
     if ran.returncode == 0:
         return 'Ok', program(lines_in(printed)[0])
     if ran.returncode != 1:
-        raise OSError('tree_show ends with %d' % ran.returncode)
+        raise OSError('picc_show ends with %d' % ran.returncode)
     if not printed:
         return None
     kind, line = lines_in(printed)[0].parts

@@ -28,5 +28,5 @@ pub use known::{Built, Front};
 pub use refusal::{CompileError, LimitKind, Refusal};
 pub use run_compare::Agreed;
 pub use src_machine::Undef;
-pub use stages::front;
+pub use stages::{front, typed_of};
 pub use typing::one_typing;

@@ -77,9 +77,12 @@ fn parsed(alloc: Global, text: &[u8], toks: &[Tok]) -> Result<Unit, CompileError
     Ok(parse(alloc, text, toks)?)
 }
 
+/// The typed program of a text, or the first refusal of it up to the rules on names and types.
 #[tactic(auto, using(crate::proofs::FewFunctions::tree_few, crate::proofs::Told::typed_told, crate::proofs::Told::check_told))]
-fn typed_of(alloc: Global, text: &[u8]) -> Result<Typed, CompileError>
+pub fn typed_of(alloc: Global, text: &[u8]) -> Result<Typed, CompileError>
+    // What is accepted has the typed program that the rules on names and types give to it, and a refusal tells what it says of the text.
     ensures answer { MatchResult result (λ typed. IsTypedAs text.now (program_of typed)) (TellsError text.now) }
+    // A text over 262,144 bytes is refused so.
     ensures long { 262144 < length text.now → result ≡ Err (Refused (refusals.Limit kinds.Text 0)) }
 {
     let unit = tree_of(alloc, text)?;

@@ -1,2 +1,0 @@
-unsigned char ticks;
-void main(void){ticks++;}
