@@ -1,5 +1,5 @@
-//! Cases of what stands outside the compiler: files of images, maps and scripts, hosts that hold files, and boards that answer the
-//! chip.
+//! Cases of what stands outside the compiler: files of images, maps and scripts, cut off anywhere too; hosts that hold files; and
+//! boards that answer the chip, with anything too.
 //!
 //! In: texts, and boards and hosts made for a case. Out: nothing; these are tests of hex_image, pic_map, schedule, host_io and pic_sim.
 #![tactic(auto)]
@@ -7,10 +7,10 @@
 #[cfg(test)]
 mod boards;
 #[cfg(test)]
+mod cuts;
+#[cfg(test)]
 mod hosts;
 #[cfg(test)]
-mod images;
+mod runs;
 #[cfg(test)]
-mod maps;
-#[cfg(test)]
-mod scripts;
+mod texts;

@@ -1,20 +1,20 @@
 //! Cases of the passes over byte code and below it, each by itself: the operations and instructions that it makes, written out by hand.
 //!
-//! In: byte code, and blocks of symbolic code. Out: nothing; these are tests of narrow_pass, select_code, math_helpers, isr_save,
-//! lean_pass, bank_page and flow_facts.
+//! In: byte code, and blocks of symbolic code, as texts. Out: nothing; these are tests of narrow_pass, select_code, select_wide,
+//! math_helpers, isr_save, lean_pass, bank_page, flow_facts and code_place.
 #![tactic(auto)]
 
 #[cfg(test)]
-mod banks;
+mod bench;
 #[cfg(test)]
-mod bytes;
-#[cfg(test)]
-mod flow;
+mod cases;
 #[cfg(test)]
 mod helpers;
 #[cfg(test)]
-mod leaner;
+mod lean_cases;
 #[cfg(test)]
 mod narrow;
 #[cfg(test)]
-mod starting;
+mod operations;
+#[cfg(test)]
+mod reading;

@@ -1,7 +1,7 @@
 use Rattle.std.proofs.Common.{refl}
 use Rattle.c_typed.specs.Folding.{bits, constant_value}
 use Rattle.c_typed.specs.Types.{is_constant}
-use Rattle.rule_tests.proofs.worked_rules.Goals as goal
+use Rattle.spec_tests.proofs.worked_rules.Goals as goal
 use Rattle.type_rules.specs.Declarators.{specified, more_specs, spec_rule, members, more_members, more_fields, field, suffixes, suffix, more_params, param}
 use Rattle.type_rules.specs.Expressions.{judged, judged_behind}
 use Rattle.type_rules.specs.Initializers.{begins, more_begins}

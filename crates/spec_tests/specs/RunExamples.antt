@@ -6,7 +6,7 @@ use Rattle.pic_world.specs.declared.Arrival.{Arrival}
 use Rattle.pic_world.specs.declared.Cell.TheVariants.{Device, Static}
 use Rattle.pic_world.specs.declared.Flag.TheVariants.{Intf}
 use Rattle.pic_world.specs.declared.Root.TheVariants.{Main}
-use Rattle.source_tests.specs.Programs as programs
+use Rattle.spec_tests.specs.Programs as programs
 use Rattle.src_rules.specs.Runs.{Fault, moment, steps_by, after, fault_after, is_idle_after, main_steps_after, runs_after}
 use Rattle.src_values.specs.Memory.{Setting}
 use Rattle.src_values.specs.declared.objects.Byte.{Byte}

@@ -2,7 +2,7 @@ use Rattle.std.proofs.Common.{refl}
 use Rattle.text_lines.specs.Text.{split_lines, without_cr, bytes_of}
 use Rattle.pic_world.specs.Control.{is_due}
 use Rattle.hex_image.specs.HexFile.{given_by, from_address, byte_at}
-use Rattle.chip_tests.proofs.worked_examples.Goals as goal
+use Rattle.spec_tests.proofs.worked_examples.Goals as goal
 
 pub returns : goal.returns
 unfolding is_due split_lines without_cr bytes_of given_by from_address byte_at

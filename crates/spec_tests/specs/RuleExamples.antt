@@ -12,7 +12,7 @@ use Rattle.c_typed.specs.declared.types.Ty.TheVariants as types
 use Rattle.type_rules.specs.Faults as kind
 use Rattle.type_rules.specs.Faults.{Kind, Fault}
 use Rattle.type_rules.specs.Units.{judged_unit}
-use Rattle.rule_tests.specs.Units as units
+use Rattle.spec_tests.specs.Units as units
 
 abbrev pub breaks : Kind → ℕ → Result Program Fault
 breaks kind line = Err (record { kind = kind; line = line })

@@ -2,7 +2,7 @@ use Rattle.std.proofs.Common.{refl}
 use Rattle.pic_world.specs.Control.{stored, with_stored, raised_by, is_due, entered, left}
 use Rattle.pic_world.specs.World as world
 use Rattle.pic_world.specs.World.{arrived, device_value, after_device_read, after_device_write, sets_gie}
-use Rattle.source_tests.proofs.worked_runs.Goals as goal
+use Rattle.spec_tests.proofs.worked_runs.Goals as goal
 use Rattle.src_values.specs.Control.{active}
 use Rattle.src_values.specs.Counting.{counted_line}
 use Rattle.src_rules.specs.Runs.{run, steps_by, ready_within, ready, take, after, fault_after, is_idle_after, main_steps_after, runs_after}

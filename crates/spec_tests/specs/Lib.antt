@@ -1,0 +1,5 @@
+pub mod Units
+pub mod RuleExamples
+pub mod Programs
+pub mod RunExamples
+pub mod ChipExamples
