@@ -1,118 +1,94 @@
-//! Builds: what the files that they leave do on the chip, and what is left where a call of the outside fails.
+//! Builds and refusals: the printed lines, and texts at each limit. Words of blocks and bytes of objects were added up by hand.
 
-use crate::commands::{
-    LED, USAGE, check_built, check_refused, files_of, host_with, is_file, is_front, run, simulated,
-    words_of,
-};
-use host_io::Fail;
-use std::alloc::{AllocError, Global};
-use std::process::Abort;
-use std::test::Fail as Failure;
+use crate::commands::check_all;
+use std::test::Fail;
 
-// A text that is built, and the events of what was built.
-fn check_build(rt: &impl Abort, alloc: Global, text: &str, events: &str) -> Result<(), AllocError> {
-    check_built(rt, alloc, text)?;
-    let printed = simulated(rt, alloc, text, "", 1000)?;
-    assert!(rt;
-        printed.as_slice() == events.as_bytes(),
-        "the run of {text}"
-    );
-    Ok(())
-}
-
-#[test]
-fn programs_are_built(rt: HostRuntime) -> Result<(), Failure> {
-    let alloc = rt.alloc();
-    for (text, events) in [
-        (LED, "W PORTB 05\nEnd\n"),
-        ("void main(void){}\n", "End\n"),
-        // a number is cut to the byte of the register
-        ("void main(void){PORTB=256;}", "W PORTB 00\nEnd\n"),
-        // a number that begins with 0 is octal
-        ("void main(void){PORTB=05;}", "W PORTB 05\nEnd\n"),
-        ("void main(void){PORTB=5;}\n\n", "W PORTB 05\nEnd\n"),
-        (" void main(void){}", "End\n"),
-    ] {
-        check_build(&rt, alloc, text, events)?;
-    }
-    Ok(())
-}
-
-// Main's frame has the temporary bytes of the assignment: one of the constant, and two of the address.
-#[test]
-fn a_map_has_its_lines(rt: HostRuntime) -> Result<(), Failure> {
-    let alloc = rt.alloc();
-    let whole = files_of(&rt, alloc, LED)?;
-    let map = whole.map.as_slice();
-    assert!(rt; map.starts_with(b"picc map 1\nmain ".as_slice()));
-    assert!(rt; map.ends_with(b"\nframe main main 0020 3\nend\n".as_slice()));
-    assert_eq!(rt; map.iter().filter(|c| **c == b'\n').count(), 5);
-    Ok(())
-}
+const BUILDS: &str = "\
+build a.c a.hex a.map;sim a.hex a.map a.s 1000@0@W PORTB 05$End$@a.c=void main(void){PORTB=5;}@a.s=
+build a.c a.hex a.map;sim a.hex a.map a.s 1000@0@End$@a.c=void main(void){}$@a.s=
+# a number is cut to the byte of the register
+build a.c a.hex a.map;sim a.hex a.map a.s 1000@0@W PORTB 00$End$@a.c=void main(void){PORTB=256;}@a.s=
+# a number that begins with 0 is octal
+build a.c a.hex a.map;sim a.hex a.map a.s 1000@0@W PORTB 05$End$@a.c=void main(void){PORTB=05;}@a.s=
+build a.c a.hex a.map;sim a.hex a.map a.s 1000@0@W PORTB 05$End$@a.c=void main(void){PORTB=5;}$$@a.s=
+build a.c a.hex a.map;sim a.hex a.map a.s 1000@0@End$@a.c= void main(void){}@a.s=
+build a.c a.hex a.map@1@a.c: error 7: roots none$@a.c=
+build a.c a.hex a.map@1@a.c: error 7: roots main$@a.c=void main(int a){}
+build a.c a.hex a.map@1@a.c:1: error 2: excluded word$@a.c=float f;
+build a.c a.hex a.map@1@a.c:2: error 3: bad directive$@a.c=$#pragma config X
+build a.c a.hex a.map@1@a.c:1: error 4: syntax$@a.c=void main(void){PORTB=;}
+build a.c a.hex a.map@1@a.c:1: error 5: name$@a.c=void main(void){y=1;}
+build a.c a.hex a.map@1@a.c:1: error 1: bad token$@a.c=void main(void){PORTB=09;}
+build a.c a.hex a.map@1@a.c:1: error 1: bad token$@a.c=void main(void){PORTB=4294967296;}
+build a.c a.hex a.map@1@a.c:1: error 1: bad token$@a.c=/*
+build a.c a.hex a.map@1@a.c:1: error 5: size$@a.c=int a[40000];
+build a.c a.hex a.map@1@a.c: error 6: recursion f$@a.c=void g(void);void f(void){g();}void g(void){f();}void main(void){}
+build a.c a.hex a.map@0@@a.c=unsigned char a[80],b[80],c[96],d[96];void main(void){}
+build a.c a.hex a.map@1@a.c: error 9: ram x$@a.c=unsigned char a[80],b[80],c[96],d[96];unsigned char x;void main(void){}
+build a.c a.hex a.map@1@a.c: error 9: ram a$@a.c=unsigned char a[97];void main(void){}
+build a.c a.hex a.map@0@@a.c=void main(void){PORTB=PORTA;}
+build a.c a.hex a.map@0@@a.c=void main(void){PORTB=5;}$$
+build a.c a.hex a.map@3@cannot read a.c$
+@2@usage: picc build IN OUT MAP | trace IN SCRIPT M | sim HEX MAP SCRIPT N | agree IN SCRIPT N | gen K$@a.c=void main(void){PORTB=5;}
+build a.c a.c a.map@2@usage: picc build IN OUT MAP | trace IN SCRIPT M | sim HEX MAP SCRIPT N | agree IN SCRIPT N | gen K$@a.c=void main(void){PORTB=5;}
+build a.c a.hex@2@usage: picc build IN OUT MAP | trace IN SCRIPT M | sim HEX MAP SCRIPT N | agree IN SCRIPT N | gen K$@a.c=void main(void){PORTB=5;}
+build a.c a.hex a.map b@2@usage: picc build IN OUT MAP | trace IN SCRIPT M | sim HEX MAP SCRIPT N | agree IN SCRIPT N | gen K$@a.c=void main(void){PORTB=5;}
+build a.c -o a.map@2@usage: picc build IN OUT MAP | trace IN SCRIPT M | sim HEX MAP SCRIPT N | agree IN SCRIPT N | gen K$@a.c=void main(void){PORTB=5;}
+sim a.c a.hex a.map@2@usage: picc build IN OUT MAP | trace IN SCRIPT M | sim HEX MAP SCRIPT N | agree IN SCRIPT N | gen K$@a.c=void main(void){PORTB=5;}
+";
 
 #[test]
-fn refusals_are_printed(rt: HostRuntime) -> Result<(), Failure> {
-    let alloc = rt.alloc();
-    let build = "build a.c a.hex a.map";
-    check_refused(&rt, alloc, build, None, 3, "cannot read a.c\n")?;
-    for line in [
-        "",
-        "build a.c a.c a.map",
-        "build a.c a.hex",
-        "build a.c a.hex a.map b",
-        "build a.c -o a.map",
-        "sim a.c a.hex a.map",
-    ] {
-        check_refused(&rt, alloc, line, Some(LED), 2, USAGE)?;
-    }
-    Ok(())
+fn each_refusal_has_its_line(rt: HostRuntime) -> Result<(), Fail> {
+    Ok(check_all(&rt, rt.alloc(), BUILDS, "", 29)?)
 }
 
-// The function is stated at 4 words, and each assignment at 14: with 146 of them it is 2,048 words, a whole page.
-#[test]
-fn a_page_holds_146_assignments(rt: HostRuntime) -> Result<(), Failure> {
-    let alloc = rt.alloc();
-    let words = words_of(alloc, "build a.c a.hex a.map")?;
-    for (count, status) in [(146, 0), (147, 1)] {
-        let mut text = String::from_str(alloc, "void main(void){")?;
-        for _ in 0..count {
-            text.push_str("PORTB=5;")?;
-        }
-        text.push_str("}")?;
-        let mut host = host_with(alloc, Some(text.as_str()), Vec::new(alloc))?;
-        assert_eq!(rt;
-            run(alloc, &words, &mut host)?,
-            status,
-            "{count} assignments"
-        );
-    }
-    Ok(())
-}
+// The chain goes on to f8 or f9; the handler takes a word more, and a quotient of two ints is a call.
+const CALLS: &str = "\
+build a.c a.hex a.map@0@@a.c=void f8(void){}void f7(void){f8();}
+build a.c a.hex a.map@1@a.c: error 8: depth 9$@a.c=void f9(void){}void f8(void){f9();}void f7(void){f8();}
+build a.c a.hex a.map@0@@a.c=void interrupt h(void){}void f7(void){}
+build a.c a.hex a.map@1@a.c: error 8: depth 9$@a.c=void interrupt h(void){}void f8(void){}void f7(void){f8();}
+build a.c a.hex a.map@1@a.c: error 8: depth 9$@a.c=void f8(void){int a=1,b=1;a/b;}void f7(void){f8();}
+";
+
+/// A chain of calls from main: it calls f1, f1 calls f2, and so on to f7.
+const CALLERS: &str =
+    "void f6(void){f7();}void f5(void){f6();}void f4(void){f5();}void f3(void){f4();}void f2(void){f3();}void f1(void){f2();}void main(void){f1();}";
 
 #[test]
-fn each_fault_leaves_the_outputs_whole_or_begun(rt: HostRuntime) -> Result<(), Failure> {
-    let alloc = rt.alloc();
-    let words = words_of(alloc, "build a.c a.hex a.map")?;
-    let whole = files_of(&rt, alloc, LED)?;
-    let mut host = host_with(
-        alloc,
-        Some(LED),
-        vec![in alloc; Fail::Create(String::from_str(alloc, "a.map")?)]?,
-    )?;
-    assert_eq!(rt; run(alloc, &words, &mut host)?, 3);
-    assert!(rt; host.printed.as_slice() == "cannot write a.map\n".as_bytes());
-    assert!(rt; is_file(&host, "a.hex", &whole.hex));
-    for k in 0..100u64 {
-        let mut host = host_with(alloc, Some(LED), vec![in alloc; Fail::Call(k)]?)?;
-        let status = run(alloc, &words, &mut host)?;
-        assert!(rt; is_front(&host, "a.hex", &whole.hex), "the HEX at call {k}");
-        assert!(rt; is_front(&host, "a.map", &whole.map), "the map at call {k}");
-        if status == 0 {
-            assert!(rt; k > 5, "{k} calls");
-            return Ok(());
-        }
-        assert_eq!(rt; status, 3, "the status at call {k}");
-    }
-    assert!(rt; false, "some call is the last");
-    Ok(())
+fn calls_are_at_most_eight_deep(rt: HostRuntime) -> Result<(), Fail> {
+    Ok(check_all(&rt, rt.alloc(), CALLS, CALLERS, 5)?)
+}
+
+// A function is stated at 4 words, and each assignment at 14: with 146 of them it is 2,048 words, a whole page. Of two blocks over a page
+// the one is told whose function is defined first, though code has main's before the handler's. Each name a1 to a17 stands for two of the
+// one before, so a16 for 65,536 times `;`.
+const LIMITS: &str = "\
+build a.c a.hex a.map@0@@a.c=void main(void){`146*PORTB=5;`}
+build a.c a.hex a.map@1@a.c: error 11: page main 2062$@a.c=void main(void){`147*PORTB=5;`}
+build a.c a.hex a.map@0@@a.c=void f(void){`146*PORTB=5;`}void main(void){f();}
+build a.c a.hex a.map@1@a.c: error 11: page f 2062$@a.c=void f(void){`147*PORTB=5;`}void main(void){f();}
+build a.c a.hex a.map@0@@a.c=void f(void),g(void),h(void);void main(void){f();g();h();}void f(void){`146*PORTB=5;`}void g(void){`146*PORTB=5;`}void h(void){`146*PORTB=5;`}
+build a.c a.hex a.map@1@a.c: error 10: code 6266$@a.c=void f(void){`146*PORTB=5;`}void g(void){`146*PORTB=5;`}void h(void){`146*PORTB=5;`}void main(void){f();g();h();}
+build a.c a.hex a.map@1@a.c: error 11: page h 2062$@a.c=void interrupt h(void){`147*PORTB=5;`}void main(void){`147*PORTB=5;`}
+build a.c a.hex a.map@1@a.c: error 11: page main 2062$@a.c=void main(void){`147*PORTB=5;`}void interrupt h(void){`148*PORTB=5;`}
+# a function that both roots reach stands in front of them
+build a.c a.hex a.map@1@a.c: error 11: page f 2076$@a.c=void f(void){`148*PORTB=5;`}void interrupt h(void){`147*PORTB=5;`f();}void main(void){`147*PORTB=5;`f();}
+build a.c a.hex a.map@0@@a.c=void main(void){}`262127* `
+build a.c a.hex a.map@1@a.c:0: error 12: limit text$@a.c=void main(void){}`262128* `
+build a.c a.hex a.map@0@@a.c=unsigned char `255*n`;void main(void){}
+build a.c a.hex a.map@1@a.c:1: error 12: limit identifier$@a.c=unsigned char `256*n`;void main(void){}
+build a.c a.hex a.map@0@@a.c=void main(void){PORTB=`63*(`1`63*)`;}
+build a.c a.hex a.map@1@a.c:1: error 12: limit nesting$@a.c=void main(void){PORTB=`64*(`1`64*)`;}
+build a.c a.hex a.map@1@a.c: error 11: page main 114650$@a.c=void main(void){PORTB=`4094*1+`1;}
+build a.c a.hex a.map@1@a.c:1: error 12: limit run$@a.c=void main(void){PORTB=`4095*1+`1;}
+build a.c a.hex a.map@1@a.c: error 11: page main 5104$@a.c=void main(void){`255*for(;;)`;}
+build a.c a.hex a.map@1@a.c:1: error 4: syntax$@a.c=void main(void){`256*for(;;)`;}
+build a.c a.hex a.map@0@@a.c=#define a0 ;$#define a1 a0 a0$#define a2 a1 a1$#define a3 a2 a2$#define a4 a3 a3$#define a5 a4 a4$#define a6 a5 a5$#define a7 a6 a6$#define a8 a7 a7$#define a9 a8 a8$#define a10 a9 a9$#define a11 a10 a10$#define a12 a11 a11$#define a13 a12 a12$#define a14 a13 a13$#define a15 a14 a14$#define a16 a15 a15$#define a17 a16 a16$void main(void){a16}
+build a.c a.hex a.map@1@a.c:19: error 12: limit tokens$@a.c=#define a0 ;$#define a1 a0 a0$#define a2 a1 a1$#define a3 a2 a2$#define a4 a3 a3$#define a5 a4 a4$#define a6 a5 a5$#define a7 a6 a6$#define a8 a7 a7$#define a9 a8 a8$#define a10 a9 a9$#define a11 a10 a10$#define a12 a11 a11$#define a13 a12 a12$#define a14 a13 a13$#define a15 a14 a14$#define a16 a15 a15$#define a17 a16 a16$void main(void){a17}
+";
+
+#[test]
+fn texts_at_the_limits(rt: HostRuntime) -> Result<(), Fail> {
+    Ok(check_all(&rt, rt.alloc(), LIMITS, "", 21)?)
 }

@@ -1,170 +1,99 @@
-//! The commands that run the chip, and the one that generates programs. The texts were written out by hand from the
-//! instruction table, the formats and the sizes that are stated.
+//! The commands that run the chip. The texts were written out by hand from the instruction table, the formats and the sizes that are
+//! stated.
 
 ghost use Rattle.std.specs.Prelude.{[], None};
 
-use crate::commands::{
-    Case, LED, LED_HEX, LED_MAP, USAGE, check, host_of, host_with, put, run, words_of,
-};
-use host_io::Fail;
+use crate::commands::{check_all, host_of};
 use pic_sim::Board;
 use pic_world::Script;
 use picc_cli::picc;
-use std::alloc::AllocError;
-use std::test::Fail as Failure;
+use std::alloc::{AllocError, Global};
+use std::test::Fail;
 
-const SIM: &str = "sim a.hex a.map a.s 1000";
+// The first HEX writes 5 to PORTB. 0000: GOTO 5; 0004: RETFIE; 0005: MOVLW 05; BCF STATUS,RP0; MOVWF PORTB; GOTO 8. Others have SLEEP as their
+// first word, or for the jump behind the end.
+const RUNS: &str = "\
+sim a.hex a.map a.s 1000@0@W PORTB 05$End$@a.hex=:020000040000FA$:100000000528FF3FFF3FFF3F0900053083128600B0$:100010000828FF3FFF3FFF3FFF3FFF3FFF3FFF3FFE$:00000001FF$
+sim a.hex a.map a.s 0@0@@a.hex=:020000040000FA$:100000000528FF3FFF3FFF3F0900053083128600B0$:100010000828FF3FFF3FFF3FFF3FFF3FFF3FFF3FFE$:00000001FF$
+# the jump from reset, and two instructions of main
+sim a.hex a.map a.s 3@0@@a.hex=:020000040000FA$:100000000528FF3FFF3FFF3F0900053083128600B0$:100010000828FF3FFF3FFF3FFF3FFF3FFF3FFF3FFE$:00000001FF$
+sim a.hex a.map a.s 4@0@W PORTB 05$End$@a.hex=:020000040000FA$:100000000528FF3FFF3FFF3F0900053083128600B0$:100010000828FF3FFF3FFF3FFF3FFF3FFF3FFF3FFE$:00000001FF$
+sim a.hex a.map a.s 1000001@2@usage: picc build IN OUT MAP | trace IN SCRIPT M | sim HEX MAP SCRIPT N | agree IN SCRIPT N | gen K$@a.hex=:020000040000FA$:100000000528FF3FFF3FFF3F0900053083128600B0$:100010000828FF3FFF3FFF3FFF3FFF3FFF3FFF3FFE$:00000001FF$
+sim a.hex a.map a.s 1000@6@unmodelled 0000$@a.hex=:0200000063009B$:00000001FF$
+sim a.hex a.map a.s 1@6@unmodelled 0000$@a.hex=:0200000063009B$:00000001FF$
+sim a.hex a.map a.s 0@0@@a.hex=:0200000063009B$:00000001FF$
+sim a.hex a.map a.s 1000@6@W PORTB 05$End$unmodelled 0008$@a.hex=:100000000528FF3FFF3FFF3F0900053083128600B0$:100010006300FF3FFF3FFF3FFF3FFF3FFF3FFF3FCB$:00000001FF$
+# each check of a HEX file
+sim a.hex a.map a.s 1000@5@a.hex:1: checksum FE, wanted FF$@a.hex=:00000001FE
+sim a.hex a.map a.s 1000@5@a.hex:1: type 02$@a.hex=:00000002FE
+sim a.hex a.map a.s 1000@5@a.hex:2: bad record$@a.hex=$:0100000100FE
+sim a.hex a.map a.s 1000@5@a.hex:2: outside 00010000$@a.hex=:020000040001F9$:0100000000FF
+sim a.hex a.map a.s 1000@5@a.hex:2: twice 00000000$@a.hex=:0100000000FF$:0100000000FF
+sim a.hex a.map a.s 1000@5@a.hex:0: no end$@a.hex=
+";
 
-const AGREE: &str = "agree a.c a.s 1000";
-
-// The first word is SLEEP.
-const SLEEP_HEX: &str = ":0200000063009B\n:00000001FF\n";
-
-// The program of `LED`, with SLEEP for the jump behind its end.
-const LED_SLEEP_HEX: &str = ":100000000528FF3FFF3FFF3F0900053083128600B0\n\
-:100010006300FF3FFF3FFF3FFF3FFF3FFF3FFF3FCB\n\
-:00000001FF\n";
+// The map of that HEX, an empty script, and the same in C.
+const BESIDE: &str =
+    "@a.map=picc map 1$main 0005$halt 0008$frame main main 0020 3$end$@a.s=@a.c=void main(void){PORTB=5;}";
 
 #[test]
-fn runs_of_the_chip(rt: HostRuntime) -> Result<(), Failure> {
-    let alloc = rt.alloc();
-    let ran = |line, hex, status, printed| Case {
-        line,
-        hex: Some(hex),
-        map: Some(LED_MAP),
-        script: "",
-        status,
-        printed,
-    };
-    for case in [
-        ran(SIM, LED_HEX, 0, "W PORTB 05\nEnd\n"),
-        ran("sim a.hex a.map a.s 0", LED_HEX, 0, ""),
-        // the jump from reset, and two instructions of main
-        ran("sim a.hex a.map a.s 3", LED_HEX, 0, ""),
-        ran("sim a.hex a.map a.s 4", LED_HEX, 0, "W PORTB 05\nEnd\n"),
-        ran("sim a.hex a.map a.s 1000001", LED_HEX, 2, USAGE),
-        ran(SIM, SLEEP_HEX, 6, "unmodelled 0000\n"),
-        ran("sim a.hex a.map a.s 1", SLEEP_HEX, 6, "unmodelled 0000\n"),
-        ran("sim a.hex a.map a.s 0", SLEEP_HEX, 0, ""),
-        ran(SIM, LED_SLEEP_HEX, 6, "W PORTB 05\nEnd\nunmodelled 0008\n"),
-        // each check of a HEX file
-        ran(SIM, ":00000001FE", 5, "a.hex:1: checksum FE, wanted FF\n"),
-        ran(SIM, ":00000002FE", 5, "a.hex:1: type 02\n"),
-        ran(SIM, "\n:0100000100FE", 5, "a.hex:2: bad record\n"),
-        ran(
-            SIM,
-            ":020000040001F9\n:0100000000FF",
-            5,
-            "a.hex:2: outside 00010000\n",
-        ),
-        ran(
-            SIM,
-            ":0100000000FF\n:0100000000FF",
-            5,
-            "a.hex:2: twice 00000000\n",
-        ),
-        ran(SIM, "", 5, "a.hex:0: no end\n"),
-    ] {
-        check(&rt, alloc, LED, case)?;
-    }
-    Ok(())
+fn runs_of_the_chip(rt: HostRuntime) -> Result<(), Fail> {
+    Ok(check_all(&rt, rt.alloc(), RUNS, BESIDE, 15)?)
 }
 
 // The first file in the order of the words that is wanting or wrong ends the command.
-#[test]
-fn files_in_the_order_of_the_words(rt: HostRuntime) -> Result<(), Failure> {
-    let alloc = rt.alloc();
-    let read = |line, hex, map, script, status, printed| Case {
-        line,
-        hex,
-        map,
-        script,
-        status,
-        printed,
-    };
-    for case in [
-        read(SIM, None, Some("x"), "x", 3, "cannot read a.hex\n"),
-        read(SIM, Some(":"), None, "", 5, "a.hex:1: bad record\n"),
-        read(SIM, Some(LED_HEX), None, "x", 3, "cannot read a.map\n"),
-        read(
-            SIM,
-            Some(LED_HEX),
-            Some("picc map 1\nmain 2000\n"),
-            "x",
-            5,
-            "a.map:2: bad line\n",
-        ),
-        read(
-            SIM,
-            Some(LED_HEX),
-            Some(LED_MAP),
-            "\ninput 5",
-            5,
-            "a.s:2: bad line\n",
-        ),
-        read(AGREE, None, None, "", 0, "agree 2\n"),
-        read("agree a.c a.s 0", None, None, "", 0, "agree 0\n"),
-        read(AGREE, None, None, "at 1 GIE", 5, "a.s:1: bad line\n"),
-        read(
-            "agree b.c a.s 1",
-            None,
-            None,
-            "at 1 GIE",
-            3,
-            "cannot read b.c\n",
-        ),
-    ] {
-        check(&rt, alloc, LED, case)?;
-    }
-    let no_script = |status, printed| read(AGREE, None, None, "", status, printed);
-    check(&rt, alloc, "", no_script(1, "a.c: error 7: roots none\n"))?;
-    let divides = "unsigned char x;\nvoid main(void){\nPORTB=1/x;}";
-    check(
-        &rt,
-        alloc,
-        divides,
-        no_script(4, "a.c:3: undefined: division\n"),
-    )?;
-    Ok(())
-}
-
-// What was built runs on the chip with the bytes of the script.
-#[test]
-fn a_built_program_is_run(rt: HostRuntime) -> Result<(), Failure> {
-    let alloc = rt.alloc();
-    let text = "unsigned char t;void main(void){t=PORTA;PORTB=t;}";
-    let mut host = host_with(alloc, Some(text), Vec::new(alloc))?;
-    put(alloc, &mut host, "a.s", Some("input 5A"))?;
-    let build = words_of(alloc, "build a.c a.hex a.map")?;
-    assert_eq!(rt; run(alloc, &build, &mut host)?, 0);
-    let sim = words_of(alloc, SIM)?;
-    assert_eq!(rt; run(alloc, &sim, &mut host)?, 0);
-    let wanted = "R PORTA 5A\nW t.0 5A\nR t.0 5A\nW PORTB 5A\nEnd\n";
-    assert!(rt; host.printed.as_slice() == wanted.as_bytes());
-    Ok(())
-}
+const FILES: &str = "\
+sim a.hex a.map a.s 1000@3@cannot read a.hex$@a.c=void main(void){PORTB=5;}@a.map=x@a.s=x
+sim a.hex a.map a.s 1000@5@a.hex:1: bad record$@a.c=void main(void){PORTB=5;}@a.hex=:@a.s=
+sim a.hex a.map a.s 1000@3@cannot read a.map$@a.c=void main(void){PORTB=5;}@a.hex=:020000040000FA$:100000000528FF3FFF3FFF3F0900053083128600B0$:100010000828FF3FFF3FFF3FFF3FFF3FFF3FFF3FFE$:00000001FF$@a.s=x
+sim a.hex a.map a.s 1000@5@a.map:2: bad line$@a.c=void main(void){PORTB=5;}@a.hex=:020000040000FA$:100000000528FF3FFF3FFF3F0900053083128600B0$:100010000828FF3FFF3FFF3FFF3FFF3FFF3FFF3FFE$:00000001FF$@a.map=picc map 1$main 2000$@a.s=x
+sim a.hex a.map a.s 1000@5@a.s:2: bad line$@a.c=void main(void){PORTB=5;}@a.hex=:020000040000FA$:100000000528FF3FFF3FFF3F0900053083128600B0$:100010000828FF3FFF3FFF3FFF3FFF3FFF3FFF3FFE$:00000001FF$@a.map=picc map 1$main 0005$halt 0008$frame main main 0020 3$end$@a.s=$input 5
+agree a.c a.s 1000@0@agree 2$@a.c=void main(void){PORTB=5;}@a.s=
+agree a.c a.s 0@0@agree 0$@a.c=void main(void){PORTB=5;}@a.s=
+agree a.c a.s 1000@5@a.s:1: bad line$@a.c=void main(void){PORTB=5;}@a.s=at 1 GIE
+agree b.c a.s 1@3@cannot read b.c$@a.c=void main(void){PORTB=5;}@a.s=at 1 GIE
+agree a.c a.s 1000@1@a.c: error 7: roots none$@a.c=@a.s=
+agree a.c a.s 1000@4@a.c:3: undefined: division$@a.c=unsigned char x;$void main(void){$PORTB=1/x;}@a.s=
+sim a.hex a.map a.s 3@0@End$@a.hex=:020000040000FA$:020000000528D1$:00000001FF$`1048532*$`@a.map=picc map 1$main 0005$halt 0006$end$@a.s=
+sim a.hex a.map a.s 3@5@a.hex:0: too long$@a.hex=:020000040000FA$:020000000528D1$:00000001FF$`1048533*$`@a.map=picc map 1$main 0005$halt 0006$end$@a.s=
+# nothing may follow the end of a map
+sim a.hex a.map a.s 3@5@a.map:5: bad line$@a.hex=:020000040000FA$:020000000528D1$:00000001FF$@a.map=picc map 1$main 0005$halt 0006$end$`262109*$`@a.s=
+sim a.hex a.map a.s 3@5@a.map:0: too long$@a.hex=:020000040000FA$:020000000528D1$:00000001FF$@a.map=picc map 1$main 0005$halt 0006$end$`262110*$`@a.s=
+sim a.hex a.map a.s 3@0@End$@a.hex=:020000040000FA$:020000000528D1$:00000001FF$@a.map=picc map 1$main 0005$halt 0006$end$@a.s=`4194304*$`
+sim a.hex a.map a.s 3@5@a.s:0: too long$@a.hex=:020000040000FA$:020000000528D1$:00000001FF$@a.map=picc map 1$main 0005$halt 0006$end$@a.s=`4194305*$`
+gen 2@0@unsigned char s;$unsigned char f0(unsigned char x){return x+0;}$unsigned char f1(unsigned char x){return x+1;}$void main(void){unsigned char x;$x=PORTB;$x=f0(x);$x=f1(x);$PORTC=x;$}$/* gen 2: words 316 ram 14 depth 1 */$
+";
 
 #[test]
-fn a_program_of_two_functions(rt: HostRuntime) -> Result<(), Failure> {
-    let alloc = rt.alloc();
-    let wanted = "unsigned char s;\n\
-unsigned char f0(unsigned char x){return x+0;}\n\
-unsigned char f1(unsigned char x){return x+1;}\n\
-void main(void){unsigned char x;\n\
-x=PORTB;\n\
-x=f0(x);\n\
-x=f1(x);\n\
-PORTC=x;\n\
-}\n\
-/* gen 2: words 316 ram 14 depth 1 */\n";
-    let words = words_of(alloc, "gen 2")?;
-    let mut host = host_with(alloc, None, Vec::new(alloc))?;
-    assert_eq!(rt; run(alloc, &words, &mut host)?, 0);
-    assert!(rt; host.printed.as_slice() == wanted.as_bytes());
-    let mut failing = host_with(alloc, None, vec![in alloc; Fail::Call(0)]?)?;
-    assert_eq!(rt; run(alloc, &words, &mut failing)?, 3);
-    assert_eq!(rt; failing.files.len(), 0);
-    Ok(())
+fn files_in_the_order_of_the_words(rt: HostRuntime) -> Result<(), Fail> {
+    Ok(check_all(&rt, rt.alloc(), FILES, "", 18)?)
+}
+
+// GOTO 5 at 0000h, and all else erased: the chip then goes through ADDLW FFh.
+const HOSTILE: &str = "\
+sim a.hex a.map a.s 3@0@End$@a.hex=:020000040000FA$:020000000528D1$:00000001FF$@a.map=picc map 1$main 0005$halt 0006$end$@a.s=
+# the bytes 02, 05 and 30 need C9 to make the sum 0
+sim a.hex a.map a.s 3@5@a.hex:2: checksum 00, wanted C9$@a.hex=:020000040000FA$:02000000053000$:00000001FF$@a.map=picc map 1$main 0005$halt 0006$end$@a.s=
+sim a.hex a.map a.s 3@5@a.hex:0: no end$@a.hex=:020000040000FA$:020000000528D1$@a.map=picc map 1$main 0005$halt 0006$end$@a.s=
+sim a.hex a.map a.s 3@5@a.hex:1: bad record$@a.hex=:0100000100FE@a.map=picc map 1$main 0005$halt 0006$end$@a.s=
+sim a.hex a.map a.s 3@5@a.hex:1: bad record$@a.hex=:@a.map=picc map 1$main 0005$halt 0006$end$@a.s=
+# the configuration word alone
+sim a.hex a.map a.s 3@0@@a.hex=:02400E00F23F7F$:00000001FF@a.map=picc map 1$main 0005$halt 0006$end$@a.s=
+sim a.hex a.map a.s 3@5@a.map:4: bad line$@a.hex=:020000040000FA$:020000000528D1$:00000001FF$@a.map=picc map 1$main 0005$halt 0006$@a.s=
+sim a.hex a.map a.s 3@5@a.map:1: bad line$@a.hex=:020000040000FA$:020000000528D1$:00000001FF$@a.map=@a.s=
+sim a.hex a.map a.s 3@0@End$@a.hex=:020000040000FA$:020000000528D1$:00000001FF$@a.map=picc map 1$main 0005$halt 0006$end$@a.s=at 4294967295 INTF
+sim a.hex a.map a.s 3@5@a.s:1: bad line$@a.hex=:020000040000FA$:020000000528D1$:00000001FF$@a.map=picc map 1$main 0005$halt 0006$end$@a.s=at 4294967296 INTF
+sim a.hex a.map a.s 3@5@a.s:1: bad line$@a.hex=:020000040000FA$:020000000528D1$:00000001FF$@a.map=picc map 1$main 0005$halt 0006$end$@a.s=input 5
+sim a.hex a.map a.s 3@5@a.s:1: bad line$@a.hex=:020000040000FA$:020000000528D1$:00000001FF$@a.map=picc map 1$main 0005$halt 0006$end$@a.s=at 1 GIE
+sim a.hex a.map a.s 3@0@End$@a.hex=:020000040000FA$:020000000528D1$:00000001FF$@a.map=picc map 1$main 0005$halt 0006$end$@a.s=input
+sim a.hex a.map a.s 3@5@a.s:2: bad line$@a.hex=:020000040000FA$:020000000528D1$:00000001FF$@a.map=picc map 1$main 0005$halt 0006$end$@a.s=at 5 INTF$at 4 INTF
+";
+
+const TEXT: &str = "@a.c=void main(void){PORTB=5;}";
+
+#[test]
+fn hostile_files(rt: HostRuntime) -> Result<(), Fail> {
+    Ok(check_all(&rt, rt.alloc(), HOSTILE, TEXT, 14)?)
 }
 
 /// A board that answers nothing.
@@ -195,27 +124,24 @@ impl Board for Silent {
     }
 }
 
-#[test]
-fn a_board_that_refuses(rt: HostRuntime) -> Result<(), Failure> {
-    let alloc = rt.alloc();
-    let case = |line| Case {
-        line,
-        hex: Some(LED_HEX),
-        map: Some(LED_MAP),
-        script: "",
-        status: 0,
-        printed: "",
-    };
-    for (line, status) in [(SIM, 9), ("sim a.hex a.map a.s 0", 0)] {
-        let mut host = host_of(alloc, LED, &case(line))?;
-        let mut board: Box<dyn Board> = Box::new(alloc, Silent)?;
-        let words = words_of(alloc, line)?;
-        assert_eq!(rt;
-            picc(alloc, &words, &mut host, &mut board),
-            status,
-            "{line}"
-        );
-        assert_eq!(rt; host.printed.len(), 0);
+// The status of a simulation for so many instructions over that board, and whether nothing is printed.
+fn silent_run(alloc: Global, instructions: &str) -> Result<(u8, bool), AllocError> {
+    let hex =
+        "a.hex=:020000040000FA$:100000000528FF3FFF3FFF3F0900053083128600B0$:100010000828FF3FFF3FFF3FFF3FFF3FFF3FFF3FFE$:00000001FF$";
+    let map = "a.map=picc map 1$main 0005$halt 0008$frame main main 0020 3$end$";
+    let mut host = host_of(alloc, &[hex, map, "a.s="], Vec::new(alloc))?;
+    let mut board: Box<dyn Board> = Box::new(alloc, Silent)?;
+    let mut words = Vec::new(alloc);
+    for word in ["sim", "a.hex", "a.map", "a.s", instructions] {
+        words.push(String::from_str(alloc, word)?)?;
     }
+    let status = picc(alloc, &words, &mut host, &mut board);
+    Ok((status, host.printed.is_empty()))
+}
+
+#[test]
+fn a_board_that_refuses(rt: HostRuntime) -> Result<(), Fail> {
+    assert!(rt; silent_run(rt.alloc(), "1000")? == (9, true), "a run");
+    assert!(rt; silent_run(rt.alloc(), "0")? == (0, true), "no instruction");
     Ok(())
 }

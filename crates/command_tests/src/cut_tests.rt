@@ -1,10 +1,45 @@
 //! A text that was cut off after each of its bytes: what is reported of it follows from the line in which the cut lies.
 
-use crate::commands::{host_with, run, words_of};
-use crate::worked_programs::KEY;
+use crate::commands::{BUILD, host_with, run};
 use std::alloc::{AllocError, Global};
 use std::process::Abort;
 use std::test::Fail as Failure;
+
+/// A key with a pause against its bouncing, and a timer.
+pub const KEY: &str = "#include <htc.h>
+#define LED RB1
+#define KEY RB0
+struct counts { unsigned int ticks; unsigned char presses; };
+struct counts n;
+unsigned char stable;
+void interrupt tick(void)
+{
+    if (TMR0IF) { TMR0IF = 0; n.ticks++; }
+}
+void pause(unsigned char k)
+{
+    volatile unsigned char i;
+    for (i = 0; i < k; i++)
+        ;
+}
+void main(void)
+{
+    unsigned char last = 1;
+    TRISB = 0x01;
+    OPTION_REG = 0x07;
+    TMR0IE = 1;
+    GIE = 1;
+    for (;;) {
+        unsigned char now = KEY;
+        pause(20);
+        if (now == KEY && now != last) {
+            last = now;
+            if (!now) { n.presses++; LED = !LED; }
+        }
+        stable = last;
+    }
+}
+";
 
 /// The lines with whose end a declaration, a function or a directive ends, up to main.
 const WHOLE: [usize; 8] = [1, 2, 3, 4, 5, 6, 10, 16];
@@ -12,15 +47,8 @@ const WHOLE: [usize; 8] = [1, 2, 3, 4, 5, 6, 10, 16];
 /// The lines of directives. After them no line is one.
 const DIRECTIVES: usize = 3;
 
-/// What is wrong with a text.
-#[derive(Clone, Copy, PartialEq, Eq, Debug)]
-enum Fault {
-    Nothing,
-    BadToken,
-    BadDirective,
-    Syntax,
-    NoMain,
-}
+/// What is wrong with a text that ends before main does.
+const NO_MAIN: &str = "error 7: roots none";
 
 fn line_of(text: &[u8], number: usize) -> &[u8] {
     text.split(|c| *c == b'\n')
@@ -28,69 +56,57 @@ fn line_of(text: &[u8], number: usize) -> &[u8] {
         .unwrap_or(b"".as_slice())
 }
 
-// A directive of which this is left: `#` alone is one, and a name may be defined as nothing.
-fn directive_fault(whole: &[u8], part: &[u8]) -> Fault {
-    let defined = b"#define ".as_slice();
-    if part == whole || part.len() <= 1 || part.starts_with(defined) {
-        Fault::NoMain
-    } else {
-        Fault::BadDirective
-    }
-}
-
-// What is wrong with the front of a text whose last token stands on a line of this number.
-fn fault_of(text: &[u8], front: &[u8], number: usize) -> Fault {
+// What is wrong with the front of a text whose last token stands on a line of this number; nothing where the front is the whole.
+// Of a directive `#` alone may be left, which is one, and a name may be defined as nothing.
+fn fault_of(text: &[u8], front: &[u8], number: usize) -> &'static str {
     let (whole, part) = (line_of(text, number), line_of(front, number));
     if front.len() == text.trim_ascii_end().len() {
-        Fault::Nothing
+        ""
     } else if number <= DIRECTIVES {
-        directive_fault(whole, part)
+        if part == whole || part.len() <= 1 || part.starts_with(b"#define ".as_slice()) {
+            NO_MAIN
+        } else {
+            "error 3: bad directive"
+        }
     } else if part == whole && WHOLE.contains(&number) {
-        Fault::NoMain
+        NO_MAIN
     } else if part.ends_with(b"0x".as_slice()) {
-        Fault::BadToken
+        "error 1: bad token"
     } else {
-        Fault::Syntax
+        "error 4: syntax"
     }
 }
 
-fn wanted(alloc: Global, fault: Fault, number: usize) -> Result<String, AllocError> {
-    match fault {
-        Fault::Nothing => Ok(String::new(alloc)),
-        Fault::BadToken => format!(in alloc; "a.c:{number}: error 1: bad token\n"),
-        Fault::BadDirective => format!(in alloc; "a.c:{number}: error 3: bad directive\n"),
-        Fault::Syntax => format!(in alloc; "a.c:{number}: error 4: syntax\n"),
-        Fault::NoMain => format!(in alloc; "a.c: error 7: roots none\n"),
+// The line that reports the fault.
+fn reported(alloc: Global, fault: &str, number: usize) -> Result<String, AllocError> {
+    if fault.is_empty() {
+        Ok(String::new(alloc))
+    } else if fault == NO_MAIN {
+        format!(in alloc; "a.c: {fault}\n")
+    } else {
+        format!(in alloc; "a.c:{number}: {fault}\n")
     }
 }
 
-fn check_cut(rt: &impl Abort, alloc: Global, length: usize) -> Result<(), AllocError> {
-    let Some(cut) = KEY.get(..length) else {
-        assert!(rt; false, "{length} bytes");
-        return Ok(());
-    };
+fn check_cut(rt: &impl Abort, alloc: Global, cut: &str) -> Result<(), AllocError> {
     let front = cut.as_bytes().trim_ascii_end();
-    let number = front
-        .iter()
-        .filter(|c| **c == b'\n')
-        .count()
-        .saturating_add(1);
+    let ends = front.iter().filter(|c| **c == b'\n').count();
+    let number = ends.saturating_add(1);
     let fault = fault_of(KEY.as_bytes(), front, number);
-    let mut host = host_with(alloc, Some(cut), Vec::new(alloc))?;
-    let status = run(alloc, &words_of(alloc, "build a.c a.hex a.map")?, &mut host)?;
-    assert_eq!(rt;
-        status,
-        if fault == Fault::Nothing { 0 } else { 1 },
-        "{length} bytes"
-    );
-    let text = wanted(alloc, fault, number)?;
+    let text = reported(alloc, fault, number)?;
+    let mut host = host_with(alloc, cut, "")?;
+    let status = run(alloc, BUILD, &mut host)?;
+    let length = cut.len();
     assert!(rt;
         host.printed.as_slice() == text.as_bytes(),
         "{length} bytes"
     );
-    assert_eq!(rt;
-        host.files.len(),
-        if status == 0 { 3 } else { 1 },
+    assert!(rt;
+        status == if fault.is_empty() { 0 } else { 1 },
+        "{length} bytes"
+    );
+    assert!(rt;
+        host.files.len() == if fault.is_empty() { 4 } else { 2 },
         "{length} bytes"
     );
     Ok(())
@@ -100,7 +116,10 @@ fn check_cut(rt: &impl Abort, alloc: Global, length: usize) -> Result<(), AllocE
 fn a_text_is_cut_anywhere(rt: HostRuntime) -> Result<(), Failure> {
     let alloc = rt.alloc();
     for length in 0..=KEY.len() {
-        check_cut(&rt, alloc, length)?;
+        match KEY.get(..length) {
+            Some(cut) => check_cut(&rt, alloc, cut)?,
+            None => assert!(rt; false, "{length} bytes"),
+        }
     }
     Ok(())
 }

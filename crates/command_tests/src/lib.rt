@@ -1,7 +1,7 @@
 //! The commands over a host in memory: worked programs with their files, traces, refusals and statuses, hostile files, and a
 //! host of which each call fails in turn.
 //!
-//! In: words, texts and files written out by hand. Out: nothing; these are tests.
+//! In: words, texts and files written out by hand, most of them as the lines of tables. Out: nothing; these are tests.
 #![tactic(auto)]
 
 #[cfg(test)]
@@ -11,15 +11,13 @@ mod chip_tests;
 #[cfg(test)]
 mod commands;
 #[cfg(test)]
+mod comparison_tests;
+#[cfg(test)]
 mod cut_tests;
 #[cfg(test)]
+mod fault_tests;
+#[cfg(test)]
 mod generating_tests;
-#[cfg(test)]
-mod hostile_tests;
-#[cfg(test)]
-mod refusal_tests;
-#[cfg(test)]
-mod step_tests;
 #[cfg(test)]
 mod trace_tests;
 #[cfg(test)]

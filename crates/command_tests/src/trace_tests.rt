@@ -1,253 +1,95 @@
-//! Traces over a host in memory. Events and numbers of steps were worked out by hand.
+//! Traces: what each ends in, and how many steps it takes. Events and numbers of steps were worked out by hand.
 
-ghost use Rattle.std.specs.Prelude.{◌≡◌, IfOk};
-ghost use Rattle.host_io.specs.Host.{Closed};
-ghost use Rattle.host_io.specs.Memory.{open_of};
+use crate::commands::check_all;
+use std::test::Fail;
 
-use crate::commands::{LED, USAGE, host_with, run, words_of};
-use host_io::{Fail, MemoryHost};
-use std::alloc::{AllocError, Global};
-use std::process::Abort;
-use std::test::Fail as Failure;
-
-/// A command, the contents of a.c and a.s where they are there, the status and what is printed.
-#[derive(Clone, Copy)]
-struct Case {
-    line: &'static str,
-    text: Option<&'static str>,
-    script: Option<&'static str>,
-    status: u8,
-    printed: &'static str,
-}
-
-fn host_of(
-    alloc: Global,
-    text: Option<&str>,
-    script: Option<&[u8]>,
-    fails: Vec<Fail>,
-) -> Result<MemoryHost, AllocError>
-    ensures { IfOk result (λ host. open_of host.current ≡ Closed) }
-{
-    let mut host = host_with(alloc, text, fails)?;
-    if let Some(script) = script {
-        host.files
-            .insert(String::from_str(alloc, "a.s")?, script.to_vec(alloc)?)?;
-    }
-    Ok(host)
-}
-
-fn is_content(host: &MemoryHost, name: &str, content: Option<&[u8]>) -> bool {
-    match (host.files.get(name), content) {
-        (Some(found), Some(content)) => found.as_slice() == content,
-        (None, None) => true,
-        _ => false,
-    }
-}
-
-fn check(rt: &impl Abort, alloc: Global, case: Case) -> Result<(), AllocError> {
-    let script = match case.script {
-        Some(script) => Some(script.as_bytes()),
-        None => None,
-    };
-    let text = match case.text {
-        Some(text) => Some(text.as_bytes()),
-        None => None,
-    };
-    let mut host = host_of(alloc, case.text, script, Vec::new(alloc))?;
-    let words = words_of(alloc, case.line)?;
-    let line = case.line;
-    assert_eq!(rt;
-        run(alloc, &words, &mut host)?,
-        case.status,
-        "the status of {line}"
-    );
-    assert!(rt;
-        host.printed.as_slice() == case.printed.as_bytes(),
-        "the text of {line}"
-    );
-    assert!(rt; is_content(&host, "a.c", text));
-    assert!(rt; is_content(&host, "a.s", script));
-    Ok(())
-}
-
-const TRACE: &str = "trace a.c a.s 1000";
-
-const DIVIDES: &str = "unsigned char x;\nvoid main(void){\nPORTB=1/x;}";
-
-// Each command with what it ends in.
-#[test]
-fn each_status_comes(rt: HostRuntime) -> Result<(), Failure> {
-    let alloc = rt.alloc();
-    let ran = |line, text, script, status, printed| Case {
-        line,
-        text: Some(text),
-        script: Some(script),
-        status,
-        printed,
-    };
-    let cases = [
-        ran(TRACE, LED, "", 0, "W PORTB 05\nEnd\n"),
-        ran("trace a.c a.s 0", LED, "", 0, ""),
-        // a statement begins, `=`, a byte is written, main ends
-        ran("trace a.c a.s 3", LED, "", 0, "W PORTB 05\n"),
-        ran("trace a.c a.s 0000000002", LED, "", 0, ""),
-        ran("trace a.c a.s 1000000", LED, "", 0, "W PORTB 05\nEnd\n"),
-        // refusals, behind the script
-        ran(TRACE, "", "", 1, "a.c: error 7: roots none\n"),
-        ran(
-            TRACE,
-            "void main(void){y=1;}",
-            "",
-            1,
-            "a.c:1: error 5: name\n",
-        ),
-        ran(TRACE, "", "at 5 INTF\nat 4 INTF", 5, "a.s:2: bad line\n"),
-        ran(TRACE, LED, "input 5", 5, "a.s:1: bad line\n"),
-        // an undefined step, which is the third, and isn't taken
-        ran(
-            TRACE,
-            DIVIDES,
-            "",
-            4,
-            "R x.0 00\na.c:3: undefined: division\n",
-        ),
-        ran("trace a.c a.s 2", DIVIDES, "", 0, "R x.0 00\n"),
-        ran(
-            "trace a.c a.s 3",
-            DIVIDES,
-            "",
-            4,
-            "R x.0 00\na.c:3: undefined: division\n",
-        ),
-        // words of no form
-        ran("trace a.c a.s 1000001", LED, "", 2, USAGE),
-        ran("trace a.c a.s 00000000002", LED, "", 2, USAGE),
-        ran("trace a.c a.s -1", LED, "", 2, USAGE),
-        ran("trace a.c a.s 1x", LED, "", 2, USAGE),
-        ran("trace a.c a.s", LED, "", 2, USAGE),
-        ran("trace -a.c a.s 1", LED, "", 2, USAGE),
-        // the names may be one
-        ran("trace a.c a.c 1", LED, "", 5, "a.c:1: bad line\n"),
-        // files that aren't there
-        Case {
-            line: TRACE,
-            text: None,
-            script: Some("at"),
-            status: 3,
-            printed: "cannot read a.c\n",
-        },
-        Case {
-            line: TRACE,
-            text: Some(""),
-            script: None,
-            status: 3,
-            printed: "cannot read a.s\n",
-        },
-    ];
-    for case in cases {
-        check(&rt, alloc, case)?;
-    }
-    Ok(())
-}
-
-// The handler leaves its flag set, so that it runs again and again: INTCON is written by the third step, and each run has
-// five steps, the fourth of which writes. The last of 1,000 steps is the fourth of its run or one behind it: 199 runs.
-#[test]
-fn a_flag_that_stays_set(rt: HostRuntime) -> Result<(), Failure> {
-    let alloc = rt.alloc();
-    let text = "void interrupt h(void){PORTB=1;}void main(void){INTCON=0x90;for(;;);}";
-    let mut host = host_of(alloc, Some(text), Some(b"at 1 INTF"), Vec::new(alloc))?;
-    assert_eq!(rt; run(alloc, &words_of(alloc, TRACE)?, &mut host)?, 0);
-    let mut wanted = String::from_str(alloc, "W INTCON 90\n")?;
-    for _ in 0..199 {
-        wanted.push_str("W PORTB 01\n")?;
-    }
-    assert!(rt; host.printed.as_slice() == wanted.as_bytes());
-    Ok(())
-}
+const ENDS: &str = "\
+trace a.c a.s 1000@0@W PORTB 05$End$@a.c=void main(void){PORTB=5;}@a.s=
+trace a.c a.s 0@0@@a.c=void main(void){PORTB=5;}@a.s=
+# a statement begins, `=`, a byte is written, main ends
+trace a.c a.s 3@0@W PORTB 05$@a.c=void main(void){PORTB=5;}@a.s=
+trace a.c a.s 0000000002@0@@a.c=void main(void){PORTB=5;}@a.s=
+trace a.c a.s 1000000@0@W PORTB 05$End$@a.c=void main(void){PORTB=5;}@a.s=
+# refusals, behind the script
+trace a.c a.s 1000@1@a.c: error 7: roots none$@a.c=@a.s=
+trace a.c a.s 1000@1@a.c:1: error 5: name$@a.c=void main(void){y=1;}@a.s=
+trace a.c a.s 1000@5@a.s:2: bad line$@a.c=@a.s=at 5 INTF$at 4 INTF
+trace a.c a.s 1000@5@a.s:1: bad line$@a.c=void main(void){PORTB=5;}@a.s=input 5
+# an undefined step, which is the third, and isn't taken
+trace a.c a.s 1000@4@R x.0 00$a.c:3: undefined: division$@a.c=unsigned char x;$void main(void){$PORTB=1/x;}@a.s=
+trace a.c a.s 2@0@R x.0 00$@a.c=unsigned char x;$void main(void){$PORTB=1/x;}@a.s=
+trace a.c a.s 3@4@R x.0 00$a.c:3: undefined: division$@a.c=unsigned char x;$void main(void){$PORTB=1/x;}@a.s=
+# words of no form
+trace a.c a.s 1000001@2@usage: picc build IN OUT MAP | trace IN SCRIPT M | sim HEX MAP SCRIPT N | agree IN SCRIPT N | gen K$@a.c=void main(void){PORTB=5;}@a.s=
+trace a.c a.s 00000000002@2@usage: picc build IN OUT MAP | trace IN SCRIPT M | sim HEX MAP SCRIPT N | agree IN SCRIPT N | gen K$@a.c=void main(void){PORTB=5;}@a.s=
+trace a.c a.s -1@2@usage: picc build IN OUT MAP | trace IN SCRIPT M | sim HEX MAP SCRIPT N | agree IN SCRIPT N | gen K$@a.c=void main(void){PORTB=5;}@a.s=
+trace a.c a.s 1x@2@usage: picc build IN OUT MAP | trace IN SCRIPT M | sim HEX MAP SCRIPT N | agree IN SCRIPT N | gen K$@a.c=void main(void){PORTB=5;}@a.s=
+trace a.c a.s@2@usage: picc build IN OUT MAP | trace IN SCRIPT M | sim HEX MAP SCRIPT N | agree IN SCRIPT N | gen K$@a.c=void main(void){PORTB=5;}@a.s=
+trace -a.c a.s 1@2@usage: picc build IN OUT MAP | trace IN SCRIPT M | sim HEX MAP SCRIPT N | agree IN SCRIPT N | gen K$@a.c=void main(void){PORTB=5;}@a.s=
+# the names may be one
+trace a.c a.c 1@5@a.c:1: bad line$@a.c=void main(void){PORTB=5;}@a.s=
+# files that aren't there
+trace a.c a.s 1000@3@cannot read a.c$@a.s=at
+trace a.c a.s 1000@3@cannot read a.s$@a.c=
+trace a.c a.s 1000@0@W INTCON 90$`199*W PORTB 01$`@a.c=void interrupt h(void){PORTB=1;}void main(void){INTCON=0x90;for(;;);}@a.s=at 1 INTF
+trace a.c a.s 1000@0@W PORTB 05$End$@a.c=void main(void){PORTB=5;}@a.s=`4194304*$`
+trace a.c a.s 1000@5@a.s:0: too long$@a.c=void main(void){PORTB=5;}@a.s=`4194305*$`
+trace a.c a.s 1000@0@R PIE1 00$W PIE1 01$R INTCON 00$W INTCON 40$R INTCON 40$W INTCON C0$R PIR1 01$W PIR1 00$W PORTB 01$W PORTA 02$End$@a.c=void interrupt h(void){TMR1IF=0;PORTB=1;}void main(void){TMR1IE=1;PEIE=1;GIE=1;PORTA=2;}@a.s=at 6 TMR1IF
+trace a.c a.s 1000@0@R PIE1 00$W PIE1 01$R INTCON 00$W INTCON 80$W PORTA 02$End$@a.c=void interrupt h(void){TMR1IF=0;PORTB=1;}void main(void){TMR1IE=1;GIE=1;PORTA=2;}@a.s=at 4 TMR1IF
+";
 
 #[test]
-fn scripts_have_a_limit(rt: HostRuntime) -> Result<(), Failure> {
-    let alloc = rt.alloc();
-    let words = words_of(alloc, TRACE)?;
-    for (length, status, printed) in [
-        (4_194_304, 0, "W PORTB 05\nEnd\n"),
-        (4_194_305, 5, "a.s:0: too long\n"),
-    ] {
-        let script = vec![in alloc; b'\n'; length]?;
-        let mut host = host_of(alloc, Some(LED), Some(&script), Vec::new(alloc))?;
-        assert_eq!(rt; run(alloc, &words, &mut host)?, status, "{length} bytes");
-        assert!(rt;
-            host.printed.as_slice() == printed.as_bytes(),
-            "{length} bytes"
-        );
-    }
-    Ok(())
+fn each_status_comes(rt: HostRuntime) -> Result<(), Fail> {
+    Ok(check_all(&rt, rt.alloc(), ENDS, "", 26)?)
 }
 
-// Whichever call fails, what is printed is a front of the trace, or tells which file can't be read.
-#[test]
-fn each_fault_ends_a_trace(rt: HostRuntime) -> Result<(), Failure> {
-    let alloc = rt.alloc();
-    let words = words_of(alloc, TRACE)?;
-    let whole = "R x.0 00\na.c:3: undefined: division\n";
-    let mut broken = 0u8;
-    for k in 0..100u64 {
-        let fails = vec![in alloc; Fail::Call(k)]?;
-        let mut host = host_of(alloc, Some(DIVIDES), Some(b"input 01"), fails)?;
-        let status = run(alloc, &words, &mut host)?;
-        if status == 4 {
-            assert!(rt;
-                broken == 2,
-                "the printing of both lines failed, one by one"
-            );
-            assert!(rt; k > 8, "{k} calls");
-            return Ok(());
-        }
-        assert_eq!(rt; status, 3, "the status at call {k}");
-        let printed = host.printed.as_slice();
-        if printed != b"cannot read a.c\n".as_slice()
-            && printed != b"cannot read a.s\n".as_slice()
-        {
-            assert!(rt;
-                whole.as_bytes().starts_with(printed),
-                "the text at call {k}"
-            );
-            broken = broken.saturating_add(1);
-        }
-        assert_eq!(rt; host.files.len(), 2);
-    }
-    assert!(rt; false, "some call is the last");
-    Ok(())
-}
+// An operator, an access to a byte, a statement and a call are a step each.
+const STEPS: &str = "\
+# a statement begins, `=`, a byte is written, main ends
+trace a.c a.s 2@0@@a.c=void main(void){PORTB=5;}@a.s=
+trace a.c a.s 3@0@W PORTB 05$@a.c=void main(void){PORTB=5;}@a.s=
+trace a.c a.s 4@0@W PORTB 05$End$@a.c=void main(void){PORTB=5;}@a.s=
+# the operator stands between the read and `=`
+trace a.c a.s 1@0@@a.c=unsigned char x;void main(void){PORTB=x+1;}@a.s=
+trace a.c a.s 2@0@R x.0 00$@a.c=unsigned char x;void main(void){PORTB=x+1;}@a.s=
+trace a.c a.s 4@0@R x.0 00$@a.c=unsigned char x;void main(void){PORTB=x+1;}@a.s=
+trace a.c a.s 5@0@R x.0 00$W PORTB 01$@a.c=unsigned char x;void main(void){PORTB=x+1;}@a.s=
+# an element is `+` and `*`
+trace a.c a.s 3@0@@a.c=unsigned char a[2];void main(void){PORTB=a[1];}@a.s=
+trace a.c a.s 4@0@R a.1 00$@a.c=unsigned char a[2];void main(void){PORTB=a[1];}@a.s=
+trace a.c a.s 5@0@R a.1 00$@a.c=unsigned char a[2];void main(void){PORTB=a[1];}@a.s=
+trace a.c a.s 6@0@R a.1 00$W PORTB 00$@a.c=unsigned char a[2];void main(void){PORTB=a[1];}@a.s=
+# an `if` and its statement
+trace a.c a.s 3@0@@a.c=void main(void){if(1)PORTB=1;}@a.s=
+trace a.c a.s 4@0@W PORTB 01$@a.c=void main(void){if(1)PORTB=1;}@a.s=
+# a call, and the end of its body
+trace a.c a.s 4@0@@a.c=void f(void){PORTB=1;}void main(void){f();}@a.s=
+trace a.c a.s 5@0@W PORTB 01$@a.c=void f(void){PORTB=1;}void main(void){f();}@a.s=
+trace a.c a.s 6@0@W PORTB 01$@a.c=void f(void){PORTB=1;}void main(void){f();}@a.s=
+trace a.c a.s 7@0@W PORTB 01$End$@a.c=void f(void){PORTB=1;}void main(void){f();}@a.s=
+# a function leaves with a value in no step of its own
+trace a.c a.s 4@0@@a.c=unsigned char f(void){return 7;}void main(void){PORTB=f();}@a.s=
+trace a.c a.s 5@0@W PORTB 07$@a.c=unsigned char f(void){return 7;}void main(void){PORTB=f();}@a.s=
+# labels are compared up to the match
+trace a.c a.s 5@0@@a.c=void main(void){switch(2){case 1:case 2:PORTB=1;}}@a.s=
+trace a.c a.s 6@0@W PORTB 01$@a.c=void main(void){switch(2){case 1:case 2:PORTB=1;}}@a.s=
+# a bit is read and written
+trace a.c a.s 2@0@@a.c=void main(void){RB0=1;}@a.s=
+trace a.c a.s 3@0@R PORTB 00$@a.c=void main(void){RB0=1;}@a.s=
+trace a.c a.s 4@0@R PORTB 00$W PORTB 01$@a.c=void main(void){RB0=1;}@a.s=
+# && counts at its end
+trace a.c a.s 3@0@@a.c=void main(void){PORTB=1&&0;}@a.s=
+trace a.c a.s 4@0@W PORTB 00$@a.c=void main(void){PORTB=1&&0;}@a.s=
+# a structure is copied byte by byte
+trace a.c a.s 2@0@@a.c=struct s{unsigned char a;};struct s x,y;void main(void){x=y;}@a.s=
+trace a.c a.s 3@0@R y.0 00$@a.c=struct s{unsigned char a;};struct s x,y;void main(void){x=y;}@a.s=
+trace a.c a.s 4@0@R y.0 00$W x.0 00$@a.c=struct s{unsigned char a;};struct s x,y;void main(void){x=y;}@a.s=
+# an address and what it points to
+trace a.c a.s 3@0@@a.c=unsigned char x;void main(void){PORTB=*&x;}@a.s=
+trace a.c a.s 4@0@R x.0 00$@a.c=unsigned char x;void main(void){PORTB=*&x;}@a.s=
+";
 
-// A peripheral's flag stands in PIR1 and its enable bit in PIE1, and PEIE of INTCON enables all of them.
 #[test]
-fn a_peripheral_interrupts(rt: HostRuntime) -> Result<(), Failure> {
-    let alloc = rt.alloc();
-    let cases = [
-        Case {
-            line: TRACE,
-            text: Some(
-                "void interrupt h(void){TMR1IF=0;PORTB=1;}void main(void){TMR1IE=1;PEIE=1;GIE=1;PORTA=2;}",
-            ),
-            script: Some("at 6 TMR1IF"),
-            status: 0,
-            printed: "R PIE1 00\nW PIE1 01\nR INTCON 00\nW INTCON 40\nR INTCON 40\nW INTCON C0\n\
-R PIR1 01\nW PIR1 00\nW PORTB 01\nW PORTA 02\nEnd\n",
-        },
-        Case {
-            line: TRACE,
-            text: Some(
-                "void interrupt h(void){TMR1IF=0;PORTB=1;}void main(void){TMR1IE=1;GIE=1;PORTA=2;}",
-            ),
-            script: Some("at 4 TMR1IF"),
-            status: 0,
-            printed: "R PIE1 00\nW PIE1 01\nR INTCON 00\nW INTCON 80\nW PORTA 02\nEnd\n",
-        },
-    ];
-    for case in &cases {
-        check(&rt, alloc, *case)?;
-    }
-    Ok(())
+fn steps_are_counted(rt: HostRuntime) -> Result<(), Fail> {
+    Ok(check_all(&rt, rt.alloc(), STEPS, "", 31)?)
 }

@@ -8,6 +8,7 @@ use crate::interrupts::{IDLE, KEY, TWO_COPIES};
 use pic_world::{Arrival, Flag, Script};
 use picc_core::{Agreed, Built, Undef, agree};
 use std::alloc::{AllocError, Global};
+use std::process::Abort;
 use std::test::Fail;
 
 /// The most instructions of a test.
@@ -71,105 +72,101 @@ fn answer(alloc: Global, program: &Built, script: &Script, n: u32) -> Result<Agr
     Ok(agree(alloc, program, script, n)?)
 }
 
-/// The answer for a text under one arrival of INTF.
-fn answer_at(alloc: Global, text: &str, t: u32, n: u32) -> Result<Agreed, Fail> {
-    let program = built(alloc, text)?;
-    let arrival = Arrival {
-        t,
-        flag: Flag::Intf,
-    };
-    answer(alloc, &program, &script_of(alloc, &[arrival])?, n)
-}
-
-fn is_same(answer: Agreed, wanted: u32) -> bool {
+/// An answer, as words.
+fn shown(alloc: Global, answer: Agreed) -> Result<String, AllocError> {
     match answer {
-        Agreed::Same { events } => events == wanted,
-        Agreed::Undefined { .. } => false,
+        Agreed::Same { events } => format!(in alloc; "same {events}"),
+        Agreed::Undefined { kind, line } => format!(in alloc; "{} {line}", kind_name(kind)),
     }
 }
 
-fn is_undefined(answer: Agreed, wanted: Undef, at: u32) -> bool {
-    match answer {
-        Agreed::Same { .. } => false,
-        Agreed::Undefined { kind, line } => kind == wanted && line == at,
+fn kind_name(kind: Undef) -> &'static str {
+    match kind {
+        Undef::Division => "division",
+        Undef::Bytes => "bytes",
+        Undef::Handler => "handler",
+        _ => "another kind",
     }
 }
 
-/// For how many numbers of instructions, up to so many, the answer isn't the number of the chip's events.
-fn wrong_lengths(alloc: Global, text: &str, most: u32) -> Result<usize, Fail> {
+/// Asks for the answer for a text under arrivals.
+fn check_answer(
+    rt: &impl Abort,
+    alloc: Global,
+    text: &str,
+    arrivals: &[Arrival],
+    n: u32,
+    wanted: &str,
+) -> Result<(), Fail> {
     let program = built(alloc, text)?;
-    let script = script_of(alloc, &[])?;
-    let mut wrong: usize = 0;
-    for n in 0..=most {
-        let run = chip_run(alloc, &program.image, &program.map, &script, n, 0)?;
-        let events = u32::try_from(run.events.len()).unwrap_or(u32::MAX);
-        if !is_same(answer(alloc, &program, &script, n)?, events) {
-            wrong = wrong.wrapping_add(1);
-        }
-    }
-    Ok(wrong)
+    let answer = shown(
+        alloc,
+        answer(alloc, &program, &script_of(alloc, arrivals)?, n)?,
+    )?;
+    assert!(rt; answer.as_str() == wanted, "{answer} for {text}");
+    Ok(())
+}
+
+// The same under one arrival of INTF.
+fn check_at(
+    rt: &impl Abort,
+    alloc: Global,
+    text: &str,
+    t: u32,
+    n: u32,
+    wanted: &str,
+) -> Result<(), Fail> {
+    let flag = Flag::Intf;
+    check_answer(rt, alloc, text, &[Arrival { t, flag }], n, wanted)
 }
 
 #[test]
 fn without_arrivals_all_events_count(rt: HostRuntime) -> Result<(), Fail> {
     let alloc = rt.alloc();
-    assert_eq!(rt; wrong_lengths(alloc, WIDE, 300)?, 0);
-    // the write to PORTB, and the end of main
     let program = built(alloc, WIDE)?;
-    let all = answer(alloc, &program, &script_of(alloc, &[])?, 3_000)?;
-    assert!(rt; is_same(all, 2));
+    let script = script_of(alloc, &[])?;
+    for n in 0..=300u32 {
+        let run = chip_run(alloc, &program.image, &program.map, &script, n, 0)?;
+        let events = run.events.len();
+        let answer = shown(alloc, answer(alloc, &program, &script, n)?)?;
+        assert!(rt;
+            answer == format!(in alloc; "same {events}")?,
+            "{n} instructions"
+        );
+    }
+    // the write to PORTB, and the end of main
+    check_answer(&rt, alloc, WIDE, &[], 3_000, "same 2")
+}
+
+// Under one arrival before each `stride`th instruction from the first one on, 101 of them.
+fn check_moments(
+    rt: &impl Abort,
+    alloc: Global,
+    text: &str,
+    flag: Flag,
+    first: u32,
+    stride: u32,
+    wanted: &str,
+) -> Result<(), Fail> {
+    let program = built(alloc, text)?;
+    for number in 0..=100u32 {
+        let t = number.saturating_mul(stride).saturating_add(first);
+        let script = script_of(alloc, &[Arrival { t, flag }])?;
+        let answer = shown(alloc, answer(alloc, &program, &script, 2_000)?)?;
+        assert!(rt; answer.as_str() == wanted, "{answer} at {t} for {text}");
+    }
     Ok(())
 }
 
 #[test]
 fn an_arrival_before_any_instruction(rt: HostRuntime) -> Result<(), Fail> {
     let alloc = rt.alloc();
-    let program = built(alloc, TWO_COPIES)?;
-    let mut wrong: usize = 0;
-    for number in 0..=100u32 {
-        let arrival = Arrival {
-            t: number.saturating_mul(9).saturating_add(100),
-            flag: Flag::Intf,
-        };
-        let got = answer(alloc, &program, &script_of(alloc, &[arrival])?, 2_000)?;
-        if !is_same(got, 6) {
-            wrong = wrong.wrapping_add(1);
-        }
-    }
     // main's two writes and its end, and the handler's three accesses
-    assert_eq!(rt; wrong, 0);
+    check_moments(&rt, alloc, TWO_COPIES, Flag::Intf, 100, 9, "same 6")?;
     // a flag that is set before INTCON is written is lost
-    assert!(rt; is_same(answer_at(alloc, TWO_COPIES, 0, 2_000)?, 3));
-    Ok(())
-}
-
-#[test]
-fn a_peripheral_interrupts(rt: HostRuntime) -> Result<(), Fail> {
-    let alloc = rt.alloc();
-    let program = built(alloc, PERIPHERAL)?;
-    let mut wrong: usize = 0;
-    for number in 0..=100u32 {
-        let arrival = Arrival {
-            t: number.saturating_mul(5),
-            flag: Flag::Tmr1if,
-        };
-        let got = answer(alloc, &program, &script_of(alloc, &[arrival])?, 2_000)?;
-        // main's seven accesses and its end, and the handler's three: PIR1 keeps the flag until it is enabled
-        if !is_same(got, 11) {
-            wrong = wrong.wrapping_add(1);
-        }
-    }
-    assert_eq!(rt; wrong, 0);
-    Ok(())
-}
-
-#[test]
-fn main_waits(rt: HostRuntime) -> Result<(), Fail> {
-    let alloc = rt.alloc();
-    // the write to INTCON, and the handler's three accesses
-    assert!(rt; is_same(answer_at(alloc, IDLE, 5_000, 10_000)?, 4));
-    assert!(rt; is_same(answer_at(alloc, IDLE, 10_001, 10_000)?, 1));
-    Ok(())
+    check_at(&rt, alloc, TWO_COPIES, 0, 2_000, "same 3")?;
+    // main's seven accesses and its end, and the handler's three: PIR1 keeps the flag until it is enabled
+    check_moments(&rt, alloc, PERIPHERAL, Flag::Tmr1if, 0, 5, "same 11")
 }
 
 #[test]
@@ -186,10 +183,10 @@ fn a_timer_ticks(rt: HostRuntime) -> Result<(), Fail> {
     let script = script_of(alloc, &arrivals)?;
     // the last arrival calls the handler at 3,000, so the moment before it counts
     let run = chip_run(alloc, &program.image, &program.map, &script, 2_999, 0)?;
-    let events = u32::try_from(run.events.len()).unwrap_or(u32::MAX);
+    let events = run.events.len();
     assert!(rt; events >= 30);
-    assert!(rt; is_same(answer(alloc, &program, &script, 3_000)?, events));
-    Ok(())
+    let wanted = format!(in alloc; "same {events}")?;
+    check_answer(&rt, alloc, KEY, &arrivals, 3_000, &wanted)
 }
 
 // Two flags that aren't enabled come before each instruction, and a third one calls the handler every 200 of them.
@@ -210,74 +207,39 @@ fn arrivals_at_each_instruction(rt: HostRuntime) -> Result<(), Fail> {
             calls = calls.wrapping_add(1);
         }
     }
-    let program = built(alloc, IDLE)?;
-    let got = answer(alloc, &program, &script_of(alloc, &arrivals)?, 5_000)?;
     // the write to INTCON, and the handler's three accesses at each call
-    assert_eq!(rt; calls, 15);
-    assert!(rt; is_same(got, 46));
-    Ok(())
+    assert!(rt; calls == 15);
+    check_answer(&rt, alloc, IDLE, &arrivals, 5_000, "same 46")
 }
 
 #[test]
-fn undefined_steps(rt: HostRuntime) -> Result<(), Fail> {
+fn under_one_arrival(rt: HostRuntime) -> Result<(), Fail> {
     let alloc = rt.alloc();
-    assert!(rt; is_undefined(answer_at(alloc, DIVIDES, 2_000, 4_000)?, Undef::Division, 4));
-    assert!(rt;
-        is_undefined(
-            answer_at(alloc, DIVIDES_LATER, 200, 400)?,
-            Undef::Division,
-            3
-        )
-    );
-    assert!(rt; is_undefined(answer_at(alloc, NO_HANDLER, 0, 2_000)?, Undef::Handler, 3));
-    Ok(())
-}
-
-#[test]
-fn undefined_behind_the_next_event(rt: HostRuntime) -> Result<(), Fail> {
-    let alloc = rt.alloc();
+    // the write to INTCON, and the handler's three accesses
+    check_at(&rt, alloc, IDLE, 5_000, 10_000, "same 4")?;
+    check_at(&rt, alloc, IDLE, 10_001, 10_000, "same 1")?;
+    check_at(&rt, alloc, DIVIDES, 2_000, 4_000, "division 4")?;
+    check_at(&rt, alloc, DIVIDES_LATER, 200, 400, "division 3")?;
+    check_at(&rt, alloc, NO_HANDLER, 0, 2_000, "handler 3")?;
     // the arrival falls into the loop, and the chip is in the loop at the end or far behind it
-    for n in &[5_000, 60_000] {
-        let answer = answer_at(alloc, DIVIDES_BEHIND, 100, *n)?;
-        assert!(rt; is_undefined(answer, Undef::Division, 3));
-    }
-    // a second arrival falls behind the loop
-    let program = built(alloc, DIVIDES_BEHIND)?;
-    let mut arrivals = Vec::new(alloc);
-    for t in &[100, 50_000] {
-        arrivals.push(Arrival {
-            t: *t,
-            flag: Flag::Intf,
-        })?;
-    }
-    let answer = answer(alloc, &program, &script_of(alloc, &arrivals)?, 60_000)?;
-    assert!(rt; is_undefined(answer, Undef::Division, 3));
-    Ok(())
-}
-
-// The source run under the first arrival alone reads a pointer's byte as a number; those without arrivals and under both don't.
-#[test]
-fn undefined_between_two_calls(rt: HostRuntime) -> Result<(), Fail> {
-    let alloc = rt.alloc();
-    let program = built(alloc, REPAIRS)?;
-    let mut arrivals = Vec::new(alloc);
-    for t in &[600, 1_200] {
-        arrivals.push(Arrival {
-            t: *t,
-            flag: Flag::Intf,
-        })?;
-    }
-    let answer = answer(alloc, &program, &script_of(alloc, &arrivals)?, 1_500)?;
-    assert!(rt; is_undefined(answer, Undef::Bytes, 4));
-    Ok(())
+    check_at(&rt, alloc, DIVIDES_BEHIND, 100, 5_000, "division 3")?;
+    check_at(&rt, alloc, DIVIDES_BEHIND, 100, 60_000, "division 3")?;
+    // the write to INTCON alone comes before a handler that keeps control
+    check_at(&rt, alloc, NEVER_ENDS, 1_000, 4_000, "same 1")?;
+    check_at(&rt, alloc, NEVER_CLEARS, 1_000, 4_000, "same 1")?;
+    check_at(&rt, alloc, DOES_NOTHING, 1_000, 4_000, "same 1")
 }
 
 #[test]
-fn a_handler_that_keeps_control(rt: HostRuntime) -> Result<(), Fail> {
+fn under_two_arrivals(rt: HostRuntime) -> Result<(), Fail> {
     let alloc = rt.alloc();
-    // the write to INTCON alone comes before the handler
-    assert!(rt; is_same(answer_at(alloc, NEVER_ENDS, 1_000, 4_000)?, 1));
-    assert!(rt; is_same(answer_at(alloc, NEVER_CLEARS, 1_000, 4_000)?, 1));
-    assert!(rt; is_same(answer_at(alloc, DOES_NOTHING, 1_000, 4_000)?, 1));
-    Ok(())
+    let at = |t| Arrival {
+        t,
+        flag: Flag::Intf,
+    };
+    // the second arrival falls behind the loop
+    let behind = [at(100), at(50_000)];
+    check_answer(&rt, alloc, DIVIDES_BEHIND, &behind, 60_000, "division 3")?;
+    // the source run under the first arrival alone reads a pointer's byte as a number; those without arrivals and under both don't
+    check_answer(&rt, alloc, REPAIRS, &[at(600), at(1_200)], 1_500, "bytes 4")
 }

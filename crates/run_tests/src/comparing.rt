@@ -5,23 +5,15 @@ ghost use Rattle.run_tests.specs.Compiled.{IsCompiled};
 
 use crate::chip_run::chip_run;
 use pic_chip::Image;
-use pic_world::{Arrival, Event, Script};
+use pic_world::{Event, Script};
 use picc_core::{Built, compile};
 use src_machine::{Source, SrcEnd};
 use std::alloc::Global;
+use std::process::Abort;
 use std::test::Fail;
 
-/// A text, and what comes from outside.
-#[derive(Clone, Copy)]
-pub struct Case {
-    pub text: &'static str,
-    pub input: &'static [u8],
-    pub arrivals: &'static [Arrival],
-    pub instructions: u32,
-}
-
 // How a source run ended within its steps.
-#[derive(Clone, Copy, PartialEq, Eq)]
+#[derive(Clone, Copy)]
 enum Ending {
     Idle,
     Undefined,
@@ -137,22 +129,28 @@ pub fn goes_as(
     Ok(begins(&runs.chip, &runs.source) && runs.chip.len() >= least && runs.depth <= 8)
 }
 
-/// Whether a case agrees with its source, from two starts.
-pub fn case_agrees(alloc: Global, case: Case) -> Result<bool, Fail> {
-    let built = built(alloc, case.text)?;
-    let script = Script::new(
-        Vec::from_slice(alloc, case.input)?,
-        Vec::from_slice(alloc, case.arrivals)?,
+/// A text with these input bytes, from two starts.
+pub fn check_inputs(
+    rt: &impl Abort,
+    alloc: Global,
+    text: &str,
+    input: &[u8],
+    instructions: u32,
+) -> Result<(), Fail> {
+    let built = built(alloc, text)?;
+    let script = Script::new(Vec::from_slice(alloc, input)?, Vec::new(alloc));
+    assert!(rt; agrees(alloc, &built, &script, instructions, 0)?, "{text}");
+    assert!(rt;
+        agrees(alloc, &built, &script, instructions, 0xA5)?,
+        "{text}"
     );
-    Ok(
-        agrees(alloc, &built, &script, case.instructions, 0)?
-            && agrees(alloc, &built, &script, case.instructions, 0xA5)?,
-    )
+    Ok(())
 }
 
 /// A text without input and arrivals, run for 12,000 instructions.
-pub fn text_agrees(alloc: Global, text: &str) -> Result<bool, Fail> {
+pub fn check_text(rt: &impl Abort, alloc: Global, text: &str) -> Result<(), Fail> {
     let built = built(alloc, text)?;
     let script = Script::new(Vec::new(alloc), Vec::new(alloc));
-    Ok(agrees(alloc, &built, &script, 12_000, 0x5A)?)
+    assert!(rt; agrees(alloc, &built, &script, 12_000, 0x5A)?, "{text}");
+    Ok(())
 }

@@ -240,7 +240,7 @@ fn arrivals_of(alloc: Global, flag: Flag, count: u32) -> Result<Vec<Arrival>, Al
 fn runs_as_its_source(alloc: Global, text: &str, flag: Flag, least: usize) -> Result<bool, Fail> {
     let program = built(alloc, text)?;
     let script = Script::new(input_of(alloc, 4_000)?, arrivals_of(alloc, flag, 50)?);
-    Ok(goes_as(alloc, &program, &script, 100_000, least)?)
+    goes_as(alloc, &program, &script, 100_000, least)
 }
 
 #[test]

@@ -2,8 +2,8 @@
 
 use crate::comparing::{agrees, built, goes_as};
 use pic_world::{Arrival, Flag, Script};
-use picc_core::Built;
 use std::alloc::Global;
+use std::process::Abort;
 use std::test::Fail;
 
 /// A function that both roots call.
@@ -69,44 +69,41 @@ void main(void)
 }
 ";
 
-/// In front of how many instructions an arrival makes a difference: so many are tried, each `stride`th.
-fn wrong_moments(
+/// Tries a text under one arrival of INTF before each `stride`th instruction, so many of them.
+fn check_moments(
+    rt: &impl Abort,
     alloc: Global,
-    program: &Built,
+    text: &str,
     tried: u32,
     stride: u32,
     instructions: u32,
-) -> Result<usize, Fail> {
-    let mut wrong: usize = 0;
+) -> Result<(), Fail> {
+    let program = built(alloc, text)?;
     for number in 0..tried {
         let t = number.saturating_mul(stride);
-        let mut arrivals = Vec::new(alloc);
-        arrivals.push(Arrival {
+        let arrival = Arrival {
             t,
             flag: Flag::Intf,
-        })?;
-        let script = Script::new(Vec::new(alloc), arrivals);
-        if !agrees(alloc, program, &script, instructions, 0x3C)? {
-            wrong = wrong.wrapping_add(1);
-        }
+        };
+        let script = Script::new(Vec::new(alloc), Vec::from_slice(alloc, &[arrival])?);
+        assert!(rt;
+            agrees(alloc, &program, &script, instructions, 0x3C)?,
+            "a flag at {t}: {text}"
+        );
     }
-    Ok(wrong)
+    Ok(())
 }
 
 #[test]
 fn before_each_instruction(rt: HostRuntime) -> Result<(), Fail> {
     let alloc = rt.alloc();
-    let two_copies = built(alloc, TWO_COPIES)?;
-    assert_eq!(rt; wrong_moments(alloc, &two_copies, 1_001, 1, 2000)?, 0);
-    let torn = built(alloc, TORN)?;
-    assert_eq!(rt; wrong_moments(alloc, &torn, 200, 1, 2000)?, 0);
-    let at_once = built(alloc, AT_ONCE)?;
-    assert_eq!(rt; wrong_moments(alloc, &at_once, 60, 1, 300)?, 0);
-    let pending = built(alloc, PENDING)?;
-    assert_eq!(rt; wrong_moments(alloc, &pending, 80, 1, 400)?, 0);
-    let lost = built(alloc, LOST)?;
-    assert_eq!(rt; wrong_moments(alloc, &lost, 60, 1, 300)?, 0);
-    Ok(())
+    check_moments(&rt, alloc, TWO_COPIES, 1_001, 1, 2_000)?;
+    check_moments(&rt, alloc, TORN, 200, 1, 2_000)?;
+    check_moments(&rt, alloc, AT_ONCE, 60, 1, 300)?;
+    check_moments(&rt, alloc, PENDING, 80, 1, 400)?;
+    check_moments(&rt, alloc, LOST, 60, 1, 300)?;
+    // both roots work
+    check_moments(&rt, alloc, BUSY, 220, 7, 8_000)
 }
 
 // Whether a program under a flag at each multiple of a number of instructions, forty times, goes as its source.
@@ -126,7 +123,7 @@ fn under_ticks(
     }
     let script = Script::new(Vec::from_slice(alloc, &[1, 0, 0, 0, 0, 1, 1, 1])?, arrivals);
     let program = built(alloc, text)?;
-    Ok(goes_as(alloc, &program, &script, 20_000, least)?)
+    goes_as(alloc, &program, &script, 20_000, least)
 }
 
 #[test]
@@ -135,13 +132,5 @@ fn from_time_to_time(rt: HostRuntime) -> Result<(), Fail> {
     // the write that enables the interrupt, and forty runs of the handler with three accesses each
     assert!(rt; under_ticks(alloc, IDLE, Flag::Intf, 450, 121)?);
     assert!(rt; under_ticks(alloc, KEY, Flag::Tmr0if, 500, 200)?);
-    Ok(())
-}
-
-#[test]
-fn while_both_roots_work(rt: HostRuntime) -> Result<(), Fail> {
-    let alloc = rt.alloc();
-    let busy = built(alloc, BUSY)?;
-    assert_eq!(rt; wrong_moments(alloc, &busy, 220, 7, 8000)?, 0);
     Ok(())
 }

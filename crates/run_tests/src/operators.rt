@@ -1,208 +1,157 @@
 //! Each operator at each type, on values at the edges of the type.
+//!
+//! In a text of types, pairs or values a bar stands between two of them, and in one of operators a blank.
 
-use crate::comparing::text_agrees;
+use crate::comparing::check_text;
 use std::alloc::Global;
+use std::process::Abort;
 use std::test::Fail;
 
-const TYPES: [&str; 8] = [
-    "unsigned char",
-    "signed char",
-    "int",
-    "unsigned int",
-    "short",
-    "long",
-    "unsigned long",
-    "unsigned short",
-];
+const TYPES: &str =
+    "unsigned char|signed char|int|unsigned int|short|long|unsigned long|unsigned short";
 
 // Operators that every pair of values takes.
-const OPERATORS: [&str; 13] = [
-    "+", "-", "*", "&", "|", "^", "<", ">", "<=", ">=", "==", "!=", ",",
-];
-
-const QUOTIENTS: [&str; 2] = ["/", "%"];
-
-const SHIFTS: [&str; 2] = ["<<", ">>"];
+const OPERATORS: &str = "+ - * & | ^ < > <= >= == != ,";
 
 // Values that each type holds, and others that are cut to it.
-const PAIRS: [(&str, &str); 8] = [
-    ("5", "3"),
-    ("127", "1"),
-    ("200", "100"),
-    ("0", "255"),
-    ("-7", "2"),
-    ("-1", "-128"),
-    ("40000", "513"),
-    ("-70000", "65537"),
-];
+const PAIRS: &str = "5 3|127 1|200 100|0 255|-7 2|-1 -128|40000 513|-70000 65537";
 
-/// How many of the operators at a type differ from the source.
-fn differing(alloc: Global, ty: &str, operator: &str, a: &str, b: &str) -> Result<bool, Fail> {
-    let text = format!(in alloc;
-        "{ty} a={a},b={b};long r;{ty} s;void main(void){{r=a{operator}b;s=a{operator}b;a{operator}b;}}"
-    )?;
-    Ok(!text_agrees(alloc, &text)?)
+const DIVIDED: &str =
+    "7 2|-7 2|7 -2|-7 -2|200 7|-128 3|32767 -1|-32767 255|65535 256|-70001 1000|0 9|100000 70000";
+
+const SHIFTED: &str = "1 0|1 7|-1 1|-128 3|200 8|-30000 15|40000 9|-70001 4";
+
+/// Runs an operator at a type on pairs of values. The answer is how many there are.
+fn check_pairs(
+    rt: &impl Abort,
+    alloc: Global,
+    ty: &str,
+    operator: &str,
+    pairs: &str,
+) -> Result<u32, Fail> {
+    let mut count: u32 = 0;
+    for pair in pairs.split('|') {
+        let (a, b) = pair.split_once(' ').unwrap_or((pair, ""));
+        let text = format!(in alloc;
+            "{ty} a={a},b={b};long r;{ty} s;void main(void){{r=a{operator}b;s=a{operator}b;a{operator}b;}}"
+        )?;
+        check_text(rt, alloc, &text)?;
+        count = count.saturating_add(1);
+    }
+    Ok(count)
 }
 
-fn count(alloc: Global, operators: &[&str], pairs: &[(&str, &str)]) -> Result<usize, Fail> {
-    let mut wrong: usize = 0;
-    for ty in TYPES {
-        for operator in operators {
-            for (a, b) in pairs {
-                if differing(alloc, ty, operator, a, b)? {
-                    wrong = wrong.wrapping_add(1);
-                }
-            }
+/// Runs operators at each type on pairs of values. The answer is how many runs there are.
+fn check_operators(
+    rt: &impl Abort,
+    alloc: Global,
+    operators: &str,
+    pairs: &str,
+) -> Result<u32, Fail> {
+    let mut count: u32 = 0;
+    for ty in TYPES.split('|') {
+        for operator in operators.split(' ') {
+            count = count.saturating_add(check_pairs(rt, alloc, ty, operator, pairs)?);
         }
     }
-    Ok(wrong)
+    Ok(count)
 }
 
 #[test]
 fn of_two_operands(rt: HostRuntime) -> Result<(), Fail> {
     let alloc = rt.alloc();
-    assert_eq!(rt; count(alloc, &OPERATORS, &PAIRS)?, 0);
+    // eight types, and thirteen operators on eight pairs
+    assert!(rt; check_operators(&rt, alloc, OPERATORS, PAIRS)? == 832);
+    // two operators on twelve pairs
+    assert!(rt; check_operators(&rt, alloc, "/ %", DIVIDED)? == 192);
+    // two operators on eight pairs
+    assert!(rt; check_operators(&rt, alloc, "<< >>", SHIFTED)? == 128);
     Ok(())
 }
 
-#[test]
-fn quotients(rt: HostRuntime) -> Result<(), Fail> {
-    let alloc = rt.alloc();
-    let pairs = [
-        ("7", "2"),
-        ("-7", "2"),
-        ("7", "-2"),
-        ("-7", "-2"),
-        ("200", "7"),
-        ("-128", "3"),
-        ("32767", "-1"),
-        ("-32767", "255"),
-        ("65535", "256"),
-        ("-70001", "1000"),
-        ("0", "9"),
-        ("100000", "70000"),
-    ];
-    assert_eq!(rt; count(alloc, &QUOTIENTS, &pairs)?, 0);
-    Ok(())
-}
-
-#[test]
-fn shifts_by_a_variable(rt: HostRuntime) -> Result<(), Fail> {
-    let alloc = rt.alloc();
-    let pairs = [
-        ("1", "0"),
-        ("1", "7"),
-        ("-1", "1"),
-        ("-128", "3"),
-        ("200", "8"),
-        ("-30000", "15"),
-        ("40000", "9"),
-        ("-70001", "4"),
-    ];
-    assert_eq!(rt; count(alloc, &SHIFTS, &pairs)?, 0);
-    Ok(())
-}
-
-/// How many counts of a shift by a constant give another value than the source.
-fn wrong_counts(alloc: Global, ty: &str, operator: &str, most: u32) -> Result<usize, Fail> {
-    let mut wrong: usize = 0;
-    for count in 0..most {
-        let text = format!(in alloc;
-            "{ty} a=-23456,r;void main(void){{r=a{operator}{count};a{operator}={count};}}"
-        )?;
-        if !text_agrees(alloc, &text)? {
-            wrong = wrong.wrapping_add(1);
+/// Shifts at types by each constant count up to so many. The answer is how many runs there are.
+fn check_shifts(rt: &impl Abort, alloc: Global, types: &str, counts: u32) -> Result<u32, Fail> {
+    let mut runs: u32 = 0;
+    for ty in types.split('|') {
+        for count in 0..counts {
+            let left = format!(in alloc;
+                "{ty} a=-23456,r;void main(void){{r=a<<{count};a<<={count};}}"
+            )?;
+            check_text(rt, alloc, &left)?;
+            let right = format!(in alloc;
+                "{ty} a=-23456,r;void main(void){{r=a>>{count};a>>={count};}}"
+            )?;
+            check_text(rt, alloc, &right)?;
+            runs = runs.saturating_add(2);
         }
     }
-    Ok(wrong)
+    Ok(runs)
 }
 
 #[test]
 fn shifts_by_a_constant(rt: HostRuntime) -> Result<(), Fail> {
     let alloc = rt.alloc();
-    let mut wrong: usize = 0;
-    for operator in SHIFTS {
-        for ty in ["int", "unsigned int", "unsigned char", "signed char"] {
-            wrong = wrong.wrapping_add(wrong_counts(alloc, ty, operator, 16)?);
-        }
-        for ty in ["long", "unsigned long"] {
-            wrong = wrong.wrapping_add(wrong_counts(alloc, ty, operator, 32)?);
-        }
-    }
-    assert_eq!(rt; wrong, 0);
+    let narrow = "int|unsigned int|unsigned char|signed char";
+    assert!(rt; check_shifts(&rt, alloc, narrow, 16)? == 128);
+    assert!(rt; check_shifts(&rt, alloc, "long|unsigned long", 32)? == 128);
     Ok(())
 }
 
+const VALUES: &str = "0|1|255|-1|127|-128|32767|65535|-70000";
+
 // What is done with one operand `a`.
-const SINGLE: [&str; 14] = [
-    "r=-a",
-    "r=~a",
-    "r=+a",
-    "r=!a",
-    "r=a++",
-    "r=a--",
-    "r=++a",
-    "r=--a",
-    "r=(char)a",
-    "r=(signed char)a",
-    "r=(unsigned int)a",
-    "r=(long)a",
-    "r=a?3:70000",
-    "r=sizeof a",
-];
+const SINGLE: &str =
+    "r=-a|r=~a|r=+a|r=!a|r=a++|r=a--|r=++a|r=--a|r=(char)a|r=(signed char)a|r=(unsigned int)a|r=(long)a|r=a?3:70000|r=sizeof a";
+
+/// Does each of these with each of the values at a type. The answer is how many runs there are.
+fn check_singles(rt: &impl Abort, alloc: Global, ty: &str) -> Result<u32, Fail> {
+    let mut count: u32 = 0;
+    for value in VALUES.split('|') {
+        for single in SINGLE.split('|') {
+            let text = format!(in alloc; "{ty} a={value};long r;void main(void){{{single};}}")?;
+            check_text(rt, alloc, &text)?;
+            count = count.saturating_add(1);
+        }
+    }
+    Ok(count)
+}
 
 #[test]
 fn of_one_operand(rt: HostRuntime) -> Result<(), Fail> {
-    let alloc = rt.alloc();
-    let mut wrong: usize = 0;
-    for ty in TYPES {
-        for value in [
-            "0", "1", "255", "-1", "127", "-128", "32767", "65535", "-70000",
-        ] {
-            for single in SINGLE {
-                let text = format!(in alloc; "{ty} a={value};long r;void main(void){{{single};}}")?;
-                if !text_agrees(alloc, &text)? {
-                    wrong = wrong.wrapping_add(1);
-                }
-            }
-        }
+    let mut count: u32 = 0;
+    for ty in TYPES.split('|') {
+        count = count.saturating_add(check_singles(&rt, rt.alloc(), ty)?);
     }
-    assert_eq!(rt; wrong, 0);
+    // eight types, nine values, and fourteen things that are done with them
+    assert!(rt; count == 1_008);
     Ok(())
 }
 
-const UPDATES: [&str; 12] = [
-    "a+=b",
-    "a-=b",
-    "a*=b",
-    "a/=b",
-    "a%=b",
-    "a&=b",
-    "a|=b",
-    "a^=b",
-    "a<<=(b&7)",
-    "a>>=(b&7)",
-    "a=b",
-    "a+=a++",
-];
+const UPDATES: &str = "a+=b a-=b a*=b a/=b a%=b a&=b a|=b a^=b a<<=(b&7) a>>=(b&7) a=b a+=a++";
+
+/// Each update of a type by another one. The answer is how many runs there are.
+fn check_updates(rt: &impl Abort, alloc: Global, left: &str, right: &str) -> Result<u32, Fail> {
+    let mut count: u32 = 0;
+    for update in UPDATES.split(' ') {
+        let text = format!(in alloc;
+            "{left} a=-100;{right} b=77;long r;void main(void){{r={update};r=a&&b;r=a||b;}}"
+        )?;
+        check_text(rt, alloc, &text)?;
+        count = count.saturating_add(1);
+    }
+    Ok(count)
+}
 
 // Each compound assignment, of each type to each other.
 #[test]
 fn compound_assignments(rt: HostRuntime) -> Result<(), Fail> {
-    let alloc = rt.alloc();
-    let mut wrong: usize = 0;
-    for left in TYPES {
-        for right in TYPES {
-            for update in UPDATES {
-                let text = format!(in alloc;
-                    "{left} a=-100;{right} b=77;long r;void main(void){{r={update};r=a&&b;r=a||b;}}"
-                )?;
-                if !text_agrees(alloc, &text)? {
-                    wrong = wrong.wrapping_add(1);
-                }
-            }
+    let mut count: u32 = 0;
+    for left in TYPES.split('|') {
+        for right in TYPES.split('|') {
+            count = count.saturating_add(check_updates(&rt, rt.alloc(), left, right)?);
         }
     }
-    assert_eq!(rt; wrong, 0);
+    // eight types and eight types, and twelve updates
+    assert!(rt; count == 768);
     Ok(())
 }

@@ -6,6 +6,7 @@ use crate::interrupts::{KEY, TWO_COPIES};
 use crate::statements::TEXTS;
 use picc_core::{compile, compile_plain};
 use std::alloc::Global;
+use std::process::Abort;
 use std::test::Fail;
 
 // The words of a text's image as it is compiled, and as compiled plainly.
@@ -19,12 +20,9 @@ fn words_of(alloc: Global, text: &str) -> Result<(u32, u32), Fail> {
     Ok((real_words(&lean.image), real_words(&plain.image)))
 }
 
-#[test]
-fn firmware_has_fewer_words(rt: HostRuntime) -> Result<(), Fail> {
-    for text in [KEY, PUMP, METER, LOCK, TWO_COPIES] {
-        let (lean, plain) = words_of(rt.alloc(), text)?;
-        assert!(rt; lean < plain, "{lean} and {plain}");
-    }
+fn check_fewer(rt: &impl Abort, alloc: Global, text: &str) -> Result<(), Fail> {
+    let (lean, plain) = words_of(alloc, text)?;
+    assert!(rt; lean < plain, "{lean} and {plain}: {text}");
     Ok(())
 }
 
@@ -33,25 +31,30 @@ const SUMS: &str =
     "void main(void){unsigned char a=200;unsigned char b=100;PORTB=(a+b)>>1;PORTC=a+b;}";
 
 #[test]
-fn sums_have_fewer_words(rt: HostRuntime) -> Result<(), Fail> {
-    let (lean, plain) = words_of(rt.alloc(), SUMS)?;
-    assert!(rt; lean < plain, "{lean} and {plain}");
-    Ok(())
-}
-
-// By flow facts alone the image has a seventh fewer.
-#[test]
-fn leaner_code_is_a_sixth_shorter(rt: HostRuntime) -> Result<(), Fail> {
-    let (lean, plain) = words_of(rt.alloc(), PUMP)?;
-    assert!(rt; 6 * lean as u64 <= 5 * plain as u64, "{lean} and {plain}");
+fn firmware_has_fewer_words(rt: HostRuntime) -> Result<(), Fail> {
+    let alloc = rt.alloc();
+    check_fewer(&rt, alloc, KEY)?;
+    check_fewer(&rt, alloc, METER)?;
+    check_fewer(&rt, alloc, LOCK)?;
+    check_fewer(&rt, alloc, TWO_COPIES)?;
+    check_fewer(&rt, alloc, SUMS)?;
+    // by flow facts alone the image of the pump has a seventh fewer
+    let (lean, plain) = words_of(alloc, PUMP)?;
+    assert!(rt;
+        lean < plain && 6 * lean as u64 <= 5 * plain as u64,
+        "{lean} and {plain}"
+    );
     Ok(())
 }
 
 #[test]
 fn no_text_has_more_words(rt: HostRuntime) -> Result<(), Fail> {
-    for text in &TEXTS {
+    let mut count: u32 = 0;
+    for text in TEXTS.lines() {
         let (lean, plain) = words_of(rt.alloc(), text)?;
         assert!(rt; lean <= plain, "{text}");
+        count = count.saturating_add(1);
     }
+    assert!(rt; count == 34);
     Ok(())
 }
