@@ -129,10 +129,8 @@ fn without_arrivals_all_events_count(rt: HostRuntime) -> Result<(), Fail> {
         let run = chip_run(alloc, &program.image, &program.map, &script, n, 0)?;
         let events = run.events.len();
         let answer = shown(alloc, answer(alloc, &program, &script, n)?)?;
-        assert!(rt;
-            answer == format!(in alloc; "same {events}")?,
-            "{n} instructions"
-        );
+        let wanted = format!(in alloc; "same {events}")?;
+        assert!(rt; answer.as_str() == wanted.as_str(), "{n} instructions");
     }
     // the write to PORTB, and the end of main
     check_answer(&rt, alloc, WIDE, &[], 3_000, "same 2")
