@@ -1,5 +1,5 @@
 -- The words of instructions that name labels, blocks and bytes, worked out by hand from the instruction table of the data sheet.
-use Rattle.std.specs.Prelude.{ℕ, ◌≡◌, true, false, List, [], ◌∷◌, Option, Some, None}
+use Rattle.std.specs.Prelude.{ℕ, ◌≡◌, true, false, [], ◌∷◌, Option, Some, None}
 use Rattle.core_code.specs.declared.code.Byte.TheVariants as bytes
 use Rattle.pic_map.specs.declared.Placed.{Placed}
 use Rattle.pic_world.specs.declared.Root.TheVariants as roots
@@ -14,7 +14,6 @@ use Rattle.sym_code.specs.declared.code.LiteralOperation.TheVariants as literal_
 use Rattle.sym_code.specs.declared.code.Operand.TheVariants as operands
 use Rattle.sym_code.specs.declared.code.PageBit.TheVariants as page_bits
 use Rattle.sym_code.specs.declared.code.PlainOperation.TheVariants as plain_ops
-use Rattle.sym_code.specs.declared.code.Sym.{Sym}
 use Rattle.sym_code.specs.declared.code.Sym.TheVariants as syms
 use Rattle.sym_code.specs.declared.code.Target.{Target}
 use Rattle.sym_code.specs.declared.code.Target.TheVariants as targets
