@@ -175,13 +175,13 @@ fn answer(alloc: Global, kind: &str, text: &[u8]) -> Result<String, Fail> {
 
 #[test]
 fn texts_are_read_or_told_where_they_are_wrong(rt: HostRuntime) -> Result<(), Fail> {
-    let mut count = 0;
+    let mut count: u32 = 0;
     for line in TEXTS.lines() {
         let (kind, rest) = line.split_once('|').unwrap_or((line, ""));
         let (text, wanted) = rest.split_once('|').unwrap_or((rest, ""));
         let shown = answer(rt.alloc(), kind, &unpacked(rt.alloc(), text)?)?;
         assert!(rt; shown.as_str() == wanted, "{line}: {shown}");
-        count += 1;
+        count = count.saturating_add(1);
     }
     assert_eq!(rt; count, 80);
     schedule::one_content();
@@ -209,7 +209,7 @@ pub fn image_of(alloc: Global, words: &str) -> Result<Image, AllocError> {
 #[test]
 fn what_is_written_is_read(rt: HostRuntime) -> Result<(), Fail> {
     let alloc = rt.alloc();
-    let mut count = 0;
+    let mut count: u32 = 0;
     for line in IMAGES.lines() {
         let (words, wanted) = line.split_once('|').unwrap_or((line, ""));
         let text = write_hex(alloc, &image_of(alloc, words)?)?;
@@ -219,7 +219,7 @@ fn what_is_written_is_read(rt: HostRuntime) -> Result<(), Fail> {
         );
         let again = answer(alloc, "hex", &text)?;
         assert!(rt; again.as_str() == words, "{line}: {again}");
-        count += 1;
+        count = count.saturating_add(1);
     }
     assert_eq!(rt; count, 3);
     exact_reading();

@@ -22,7 +22,9 @@ use select_wide::select;
 use std::alloc::{AllocError, Global};
 use sym_code::{BlockName, Sym, SymBlock, SymProgram};
 
-/// What is given and what was made of it. What is wanted is compared from `place` on in the block of the number `at`.
+/// What is given (blocks or operations, where objects and frames stand, how many bytes of variables main has, which frames are lent,
+/// and whether a helper is among the copies), and what was made of it: blocks, or operations on low bytes. What is wanted is
+/// compared from `place` on in the block of the number `at`. `is_read` is false once a line couldn't be read.
 #[derive(Drop)]
 pub struct Bench {
     placed: Placed,
@@ -38,7 +40,7 @@ pub struct Bench {
     is_read: bool,
 }
 
-// The copy with this number under main's root, or the handler's copy where the number is that of the handler.
+// A copy that is called by main alone.
 fn under_main(function: FnId) -> FnCopy {
     FnCopy {
         root: Root::Main,

@@ -277,7 +277,7 @@ shrs4 70
 
 #[test]
 fn blocks_keep_to_the_stated_words(rt: HostRuntime) -> Result<(), Fail> {
-    let mut count = 0;
+    let mut count: u32 = 0;
     for line in STATED.lines() {
         let (name, most) = cut(line);
         let Some(h) = find(&HELPERS, name) else {
@@ -286,7 +286,7 @@ fn blocks_keep_to_the_stated_words(rt: HostRuntime) -> Result<(), Fail> {
         let block = helper(rt.alloc(), h, Root::Isr, 3)?;
         assert!(rt; block.name == BlockName::Copy(3), "{line}");
         assert!(rt; words(block.list.as_slice()) <= value(most), "{line}");
-        count += 1;
+        count = count.saturating_add(1);
     }
     assert_eq!(rt; count, 16);
     Ok(())
@@ -333,7 +333,7 @@ fn value(text: &str) -> u32 {
 
 #[test]
 fn answers_are_those_of_c(rt: HostRuntime) -> Result<(), Fail> {
-    let mut count = 0;
+    let mut count: u32 = 0;
     for line in ANSWERS.lines() {
         let (name, rest) = cut(line);
         let (width, rest) = cut(rest);
@@ -355,7 +355,7 @@ fn answers_are_those_of_c(rt: HostRuntime) -> Result<(), Fail> {
             ),
             None => return Err(Fail::new("no end")),
         }
-        count += 1;
+        count = count.saturating_add(1);
     }
     assert_eq!(rt; count, 27);
     Ok(())

@@ -3,3 +3,4 @@ pub mod RuleExamples
 pub mod Programs
 pub mod RunExamples
 pub mod ChipExamples
+pub mod WordExamples

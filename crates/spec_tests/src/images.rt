@@ -440,14 +440,14 @@ impl Bench {
 #[test]
 fn small_images_run_as_the_data_sheet_says(rt: HostRuntime) -> Result<(), Fail> {
     let mut bench = Bench::new(rt.alloc())?;
-    let mut checks = 0;
+    let mut checks: u32 = 0;
     for (number, line) in LINES.lines().enumerate() {
         let (key, rest) = line.split_once(' ').unwrap_or((line, ""));
         let (first, rest) = rest.split_once(' ').unwrap_or((rest, ""));
         match bench.holds(key, first, rest) {
             Some(holds) => {
                 assert!(rt; holds, "line {number}: {line}");
-                checks += 1;
+                checks = checks.saturating_add(1);
             }
             None => bench.act(rt.alloc(), line, key, first, rest)?,
         }

@@ -8,6 +8,7 @@
 ghost use Rattle.spec_tests.specs.ChipExamples.{WorkedExamples};
 ghost use Rattle.spec_tests.specs.RuleExamples.{WorkedRules};
 ghost use Rattle.spec_tests.specs.RunExamples.{WorkedRuns};
+ghost use Rattle.spec_tests.specs.WordExamples.{WorkedWords};
 
 #[cfg(test)]
 mod images;
@@ -29,4 +30,10 @@ pub fn worked_runs()
 /// of the PIC16F877A (Microchip DS39582) and from the format of HEX files.
 pub fn worked_examples()
     ensures { WorkedExamples }
+{}
+
+/// The words of symbolic instructions that name labels, blocks and bytes, worked out by hand from the table of instructions of the
+/// data sheet (Microchip DS39582). The image of a program has these words, by the contract of `assemble` of code_place.
+pub fn worked_words()
+    ensures { WorkedWords }
 {}

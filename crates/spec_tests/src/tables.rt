@@ -1,50 +1,51 @@
 //! Words and names of the data sheet DS39582, scripts in any order, and a trace.
 
-use pic_isa::{decode, encode};
+use pic_isa::{Ins, decode, encode};
 use pic_world::{Arrival, Cell, Event, Flag, Script, Trace, bit, register, register_name};
 use std::test::Fail;
 
-/// Words, and what they are. Where `=` stands, the word is also the one that is written for the instruction.
+/// Words, and what they are.
 const WORDS: &str = "\
-0000 . Some(Nop)
-0060 . Some(Nop)
-0008 . Some(Return)
-0063 . Some(Sleep)
-00A0 . Some(Movwf { f: 32 })
-017F . Some(Clrw)
-0183 . Some(Clrf { f: 3 })
-07F1 = Some(Addwf { f: 113, d: true })
-0820 . Some(Movf { f: 32, d: false })
-1683 = Some(Bsf { f: 3, b: 5 })
-1F0B . Some(Btfss { f: 11, b: 6 })
-2123 . Some(Call { k: 291 })
-2805 = Some(Goto { k: 5 })
-30FF = Some(Movlw { k: 255 })
-33FF . Some(Movlw { k: 255 })
-3A0F . Some(Xorlw { k: 15 })
-3DFF . Some(Sublw { k: 255 })
-0001 . None
-000A . None
-0062 . None
-0065 . None
-3B00 . None
-3BFF . None
+0000 Some(Nop)
+0060 Some(Nop)
+0008 Some(Return)
+0063 Some(Sleep)
+00A0 Some(Movwf { f: 32 })
+017F Some(Clrw)
+0183 Some(Clrf { f: 3 })
+07F1 Some(Addwf { f: 113, d: true })
+0820 Some(Movf { f: 32, d: false })
+1683 Some(Bsf { f: 3, b: 5 })
+1F0B Some(Btfss { f: 11, b: 6 })
+2123 Some(Call { k: 291 })
+2805 Some(Goto { k: 5 })
+30FF Some(Movlw { k: 255 })
+33FF Some(Movlw { k: 255 })
+3A0F Some(Xorlw { k: 15 })
+3DFF Some(Sublw { k: 255 })
+0001 None
+000A None
+0062 None
+0065 None
+3B00 None
+3BFF None
 ";
 
 #[test]
 fn words_of_the_data_sheet(rt: HostRuntime) -> Result<(), Fail> {
-    let mut count = 0;
+    let mut count: u32 = 0;
     for line in WORDS.lines() {
-        let (word, rest) = line.split_once(' ').unwrap_or((line, ""));
-        let (mark, wanted) = rest.split_once(' ').unwrap_or((rest, ""));
-        let word = u16::from_str_radix(word, 16)? & 0x3fff;
-        let found = decode(word);
-        let shown = format!(in rt.alloc(); "{found:?}")?;
+        let (word, wanted) = line.split_once(' ').unwrap_or((line, ""));
+        let word = u16::from_str_radix(word, 16).unwrap_or(0);
+        let shown = format!(in rt.alloc(); "{:?}", decode(word & 0x3fff))?;
         assert!(rt; shown.as_str() == wanted, "{line}");
-        assert!(rt; mark != "=" || found.map(encode) == Some(word), "{line}");
-        count += 1;
+        count = count.saturating_add(1);
     }
     assert_eq!(rt; count, 23);
+    assert_eq!(rt; encode(Ins::Addwf { f: 0x71, d: true }), 0x07f1);
+    assert_eq!(rt; encode(Ins::Bsf { f: 3, b: 5 }), 0x1683);
+    assert_eq!(rt; encode(Ins::Goto { k: 5 }), 0x2805);
+    assert_eq!(rt; encode(Ins::Movlw { k: 0xff }), 0x30ff);
     Ok(())
 }
 
@@ -74,7 +75,7 @@ name 139 None
 
 #[test]
 fn registers_and_bits_by_name(rt: HostRuntime) -> Result<(), Fail> {
-    let mut count = 0;
+    let mut count: u32 = 0;
     for line in NAMES.lines() {
         let (kind, rest) = line.split_once(' ').unwrap_or((line, ""));
         let (name, wanted) = rest.split_once(' ').unwrap_or((rest, ""));
@@ -84,7 +85,7 @@ fn registers_and_bits_by_name(rt: HostRuntime) -> Result<(), Fail> {
             _ => format!(in rt.alloc(); "{:?}", register_name(name.parse()?))?,
         };
         assert!(rt; shown.as_str() == wanted, "{line}");
-        count += 1;
+        count = count.saturating_add(1);
     }
     assert_eq!(rt; count, 20);
     Ok(())
