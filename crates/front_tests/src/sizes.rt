@@ -194,7 +194,8 @@ pub fn known(alloc: Global, text: &[u8]) -> Result<String, Fail> {
     let Ok(known) = front(alloc, text) else {
         return Err(Fail::new("refused"));
     };
-    let (at, words, ram) = (&known.at, known.words, known.placed.ram);
+    let at = &known.at;
+    let (words, ram) = (known.words, known.placed.ram);
     let (depth, functions) = (known.copies.depth, known.typed.functions.len());
     Ok(format!(in alloc; "{at:?} {words} {ram} {depth} {functions}")?)
 }
