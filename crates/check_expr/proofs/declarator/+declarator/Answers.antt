@@ -1,4 +1,5 @@
-use Rattle.std.proofs.Common.{refl, ◌+◌, map, drop, ap}
+use Rattle.std.proofs.Common.{refl, ◌+◌, map, drop, ap, ◌∙◌, ◌∷◌, []}
+use Rattle.std.proofs.lemmas.List.{map-append}
 use Rattle.std.proofs.lemmas.Result.{err_from_is_err_and}
 use Rattle.c_nodes.specs.Lists.{suffixes_of, more_members, more_params, more_enumerators}
 use Rattle.c_nodes.specs.Views.{cond_of, declarator_of, member_of, next_declarator_of, next_param_of, param_of, spec_of, specs_of, struct_body_of, suffix_of, enumerator_of, next_enumerator_of}
@@ -171,7 +172,7 @@ suffixes-returns-in_err-suffix t c =
     rw (p.1, p.2) (steps.suffixes_refused c.args.suffixes.now c.loop-suffix.suffix-index c.suffix-item.result c.args.bodies (map made_of c.loop-suffix.made.items) (steps.rest_suffixes (map suffix_of c.args.suffixes.now) c.args.bodies (known_of c.args.checker.now)) (known_of c.loop-suffix.checker) c.in_err-suffix.field-0.0 c.loop-suffix-test.true c.suffix-item.is c.loop-suffix.invariant c.in_err-suffix.ensures)
 
 pub suffixes-loop-suffix-preserved : goal.suffixes-loop-suffix-preserved
-suffixes-loop-suffix-preserved t c = steps.suffixes_more c.args.suffixes.now c.loop-suffix.suffix-index c.suffix-item.result c.args.bodies (map made_of c.loop-suffix.made.items) (map made_of c.push.new.self.items) _ (steps.rest_suffixes (map suffix_of c.args.suffixes.now) c.args.bodies (known_of c.args.checker.now)) (known_of c.loop-suffix.checker) _ c.loop-suffix-test.true c.suffix-item.is (steps.popped made_of c.push.new.self.items c.loop-suffix.made.items _ c.in_ok-push.ensures.items) c.loop-suffix.invariant c.in_ok-suffix.ensures
+suffixes-loop-suffix-preserved t c = steps.suffixes_more c.args.suffixes.now c.loop-suffix.suffix-index c.suffix-item.result c.args.bodies (map made_of c.loop-suffix.made.items) (map made_of c.push.new.self.items) _ (steps.rest_suffixes (map suffix_of c.args.suffixes.now) c.args.bodies (known_of c.args.checker.now)) (known_of c.loop-suffix.checker) _ c.loop-suffix-test.true c.suffix-item.is (ap (map made_of) c.in_ok-push.ensures.items ∙ map-append made_of c.loop-suffix.made.items (_ ∷ [])) c.loop-suffix.invariant c.in_ok-suffix.ensures
 
 pub suffixes-returns : goal.suffixes-returns
 suffixes-returns t c = steps.suffixes_end c.args.suffixes.now c.loop-suffix.suffix-index c.args.bodies (map made_of c.loop-suffix.made.items) (steps.rest_suffixes (map suffix_of c.args.suffixes.now) c.args.bodies (known_of c.args.checker.now)) (known_of c.loop-suffix.checker) c.loop-suffix-test.false c.loop-suffix.invariant
