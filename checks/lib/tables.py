@@ -1,4 +1,4 @@
-"""The C texts that stand in the source of a crate of tests: as literals, or in tables, a text a line behind ` => `."""
+"""The C texts that stand in the source of a crate of tests: as literals, or in tables, behind ` => ` or as the field `@a.c=` of a line."""
 import re
 
 LITERAL = re.compile(r'r#"(.*?)"#|"((?:[^"\\]|\\.)*)"', re.S)
@@ -18,12 +18,24 @@ def lines_of(table):
             yield notation.replace('$', '\n')
 
 
+def files_of(table):
+    """The texts of a table of commands, whose lines have files as their last fields; crates/command_tests/src/commands.rt says how."""
+    for line in table.split('\n'):
+        for field in line.split('@')[1:]:
+            name, _, notation = field.partition('=')
+            if not line.startswith('#') and name.endswith('.c') and '`' not in notation:
+                yield notation.replace('$', '\n')
+
+
 def texts(source):
     """All of them, and texts that aren't C."""
     for found in LITERAL.finditer(source):
         raw, plain = found.groups()
-        if raw is None:
-            yield unescaped(plain)
+        literal = unescaped(plain) if raw is None else raw
+        if '@a.c=' in literal:
+            yield from files_of(literal)
+        elif raw is None:
+            yield literal
         elif ' => ' in raw:
             yield from lines_of(raw)
         else:
