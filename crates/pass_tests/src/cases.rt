@@ -22,24 +22,22 @@ use std::test::Fail;
 /// Does what the lines say. How many cases there were, and how many lines say what is wanted.
 pub fn check(rt: &impl Abort, alloc: Global, lines: &str) -> Result<(u32, u32), AllocError> {
     let mut bench = Bench::new(alloc);
-    let mut name = "";
     let mut cases: u32 = 0;
     let mut checks: u32 = 0;
     for line in lines.lines() {
         let (key, rest) = cut(line);
+        if key == "case" {
+            cases = cases.saturating_add(1);
+        }
         match bench.holds(key, rest) {
             Some(holds) => {
-                assert!(rt; holds, "{name}: {line}");
+                assert!(rt; holds, "case {cases}: {line}");
                 checks = checks.saturating_add(1);
             }
             None => {
                 let done = bench.act(alloc, key, rest)?;
-                assert!(rt; done, "{name}: {line}");
+                assert!(rt; done, "case {cases}: {line}");
             }
-        }
-        if key == "case" {
-            name = rest;
-            cases = cases.saturating_add(1);
         }
     }
     Ok((cases, checks))
