@@ -101,9 +101,12 @@ fn before_each_instruction(rt: HostRuntime) -> Result<(), Fail> {
     check_moments(&rt, alloc, TORN, 200, 1, 2_000)?;
     check_moments(&rt, alloc, AT_ONCE, 60, 1, 300)?;
     check_moments(&rt, alloc, PENDING, 80, 1, 400)?;
-    check_moments(&rt, alloc, LOST, 60, 1, 300)?;
-    // both roots work
-    check_moments(&rt, alloc, BUSY, 220, 7, 8_000)
+    check_moments(&rt, alloc, LOST, 60, 1, 300)
+}
+
+#[test]
+fn while_both_roots_work(rt: HostRuntime) -> Result<(), Fail> {
+    check_moments(&rt, rt.alloc(), BUSY, 220, 7, 8_000)
 }
 
 // Whether a program under a flag at each multiple of a number of instructions, forty times, goes as its source.

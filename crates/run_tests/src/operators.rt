@@ -59,13 +59,22 @@ fn check_operators(
 
 #[test]
 fn of_two_operands(rt: HostRuntime) -> Result<(), Fail> {
-    let alloc = rt.alloc();
     // eight types, and thirteen operators on eight pairs
-    assert!(rt; check_operators(&rt, alloc, OPERATORS, PAIRS)? == 832);
+    assert!(rt; check_operators(&rt, rt.alloc(), OPERATORS, PAIRS)? == 832);
+    Ok(())
+}
+
+#[test]
+fn quotients(rt: HostRuntime) -> Result<(), Fail> {
     // two operators on twelve pairs
-    assert!(rt; check_operators(&rt, alloc, "/ %", DIVIDED)? == 192);
+    assert!(rt; check_operators(&rt, rt.alloc(), "/ %", DIVIDED)? == 192);
+    Ok(())
+}
+
+#[test]
+fn shifts_by_a_variable(rt: HostRuntime) -> Result<(), Fail> {
     // two operators on eight pairs
-    assert!(rt; check_operators(&rt, alloc, "<< >>", SHIFTED)? == 128);
+    assert!(rt; check_operators(&rt, rt.alloc(), "<< >>", SHIFTED)? == 128);
     Ok(())
 }
 
