@@ -1,6 +1,6 @@
 use Rattle.std.proofs.lemmas.Result.{on_err_weaker}
-use Rattle.picc_cli.proofs.Files.{on_err, second_prefix, third_prefix}
-use Rattle.picc_cli.proofs.say.print_parts.Goals as goal
+use Rattle.host_lines.proofs.Prefixes.{on_err, second_prefix, third_prefix}
+use Rattle.host_lines.proofs.printing.print_parts.Goals as goal
 
 pub returns-in_err-print-2-clause-prefix : goal.returns-in_err-print-2-clause-prefix
 returns-in_err-print-2-clause-prefix g c =
