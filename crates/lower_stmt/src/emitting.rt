@@ -3,7 +3,7 @@
 ghost use Rattle.std.specs.Prelude.{◌≡◌, [], ◌∷◌, OnOk};
 ghost use Rattle.core_code.specs.Tree as core;
 ghost use Rattle.core_code.specs.View.{tree_of, trees_in};
-ghost use Rattle.lower_expr.specs.Puts.{Appends, test_size};
+ghost use Rattle.core_puts.specs.Puts.{Appends, test_size};
 
 use core_code::{Byte, Core};
 use lower_expr::put;

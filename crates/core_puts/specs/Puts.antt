@@ -7,7 +7,7 @@ use Rattle.core_code.specs.Tree.{Tree, many}
 use Rattle.core_code.specs.View.{trees_in}
 use Rattle.core_code.specs.declared.code.Byte.{Byte}
 use Rattle.core_code.specs.declared.code.Core.{Core}
-use Rattle.lower_expr.specs.Bytes.{behind, byte_at}
+use Rattle.core_puts.specs.Bytes.{behind, byte_at}
 
 -- the code has this behind what it had
 abbrev pub Appends : List Core → List Core → List Tree → Type 0

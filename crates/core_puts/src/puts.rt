@@ -7,8 +7,8 @@ ghost use Rattle.std.specs.Prelude.{◌≡◌, OnOk, [], ◌∷◌};
 ghost use Rattle.core_code.specs.Tree as code;
 ghost use Rattle.core_code.specs.Tree.{many};
 ghost use Rattle.core_code.specs.View.{tree_of, trees_in};
-ghost use Rattle.lower_expr.specs.Puts as stated;
-ghost use Rattle.lower_expr.specs.Puts.{Appends, operator};
+ghost use Rattle.core_puts.specs.Puts as stated;
+ghost use Rattle.core_puts.specs.Puts.{Appends, operator};
 
 use crate::bytes::{behind, byte_at};
 use c_ints::{BinOp, IntTy, UnOp};
@@ -251,7 +251,7 @@ pub fn put_copies(out: &mut Vec<Core>, to: Byte, from: Byte, count: u16) -> Resu
 /// The same if the copy is wanted.
 #[inline(never)]
 #[tactic(auto, using(crate::proofs::Numbers::append_nothing))]
-pub(crate) fn put_copies_if(
+pub fn put_copies_if(
     out: &mut Vec<Core>,
     wanted: bool,
     to: Byte,

@@ -2,7 +2,7 @@
 
 ghost use Rattle.std.specs.Prelude.{◌≡◌};
 ghost use Rattle.core_code.specs.declared.code.Byte.TheVariants.{Frame};
-ghost use Rattle.lower_expr.specs.Bytes as stated;
+ghost use Rattle.core_puts.specs.Bytes as stated;
 
 use c_ints::{IntTy, size};
 use c_typed::Ty;
