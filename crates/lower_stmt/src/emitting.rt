@@ -9,7 +9,7 @@ use core_code::{Byte, Core};
 use lower_expr::put;
 use std::alloc::{AllocError, Global};
 
-#[tactic(auto, unfolding(lower_expr::specs::Puts::test_size))]
+#[tactic(auto, unfolding(core_puts::specs::Puts::test_size))]
 fn tested(size: u16) -> u8
     ensures { result ≡ test_size size }
 {
