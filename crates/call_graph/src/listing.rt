@@ -121,7 +121,7 @@ pub fn depth_of(main: &Levels, handler: &Option<Levels>) -> u32
     ensures { MatchOption handler.now (result ≡ main.now.longest) (λ found. result ≡ main.now.longest + 1 + found.longest) }
 {
     match handler {
-        Some(found) => main.longest + 1 + found.longest,
-        None => main.longest,
+        Some(found) => call_depth::depth_of(main.longest, Some(found.longest)),
+        None => call_depth::depth_of(main.longest, None),
     }
 }

@@ -14,7 +14,7 @@ use Rattle.pic_world.specs.Arrivals.{arriving}
 use Rattle.pic_chip.specs.Run.{IsStart, Setting, moment, is_handling}
 use Rattle.pic_world.specs.World.{Outside, outside_of}
 use Rattle.pic_map.specs.MapContent.{ObjectLine, FrameLine, MapContent, watch_of}
-use Rattle.ram_place.specs.Memory.{AreDisjoint}
+use Rattle.live_frames.specs.Memory.{AreDisjoint}
 use Rattle.run_links.specs.Runs.{IsFrontOf}
 use Rattle.schedule.specs.Off.{read_off}
 

@@ -9,7 +9,8 @@ use Rattle.call_graph.specs.Copies.{AreCopies}
 use Rattle.call_graph.specs.declared.types.FnCopy.{FnCopy}
 use Rattle.pic_world.specs.World.{Outside}
 use Rattle.pic_map.specs.MapContent.{ObjectLine, FrameLine, MapContent}
-use Rattle.ram_place.specs.Placement.{IsPlacing, MayBeLive}
+use Rattle.live_frames.specs.Together.{MayBeLive}
+use Rattle.ram_place.specs.Placement.{IsPlacing}
 use Rattle.src_rules.specs.State.{Outcome, Undefined}
 use Rattle.src_rules.specs.Runs.{moment, steps_by}
 use Rattle.src_rules.specs.Step.{step}

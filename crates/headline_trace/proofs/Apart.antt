@@ -12,8 +12,9 @@ use Rattle.pic_map.specs.declared.Placed.{Placed}
 use Rattle.pic_world.specs.Roots.{same_root}
 use Rattle.pic_world.specs.declared.Root.{Root}
 use Rattle.pic_world.specs.declared.Root.TheVariants.{Main, Isr}
-use Rattle.ram_place.specs.Memory.{AreDisjoint, Stands, IsLowest, regions}
-use Rattle.ram_place.specs.Placement.{IsPlacing, IsTaken, IsTakenFor, MayBeLive, LiveFramesAreDisjoint, FramesAreClear, ObjectsAreDisjoint}
+use Rattle.live_frames.specs.Memory.{AreDisjoint, Stands, IsLowest, regions}
+use Rattle.live_frames.specs.Together.{MayBeLive}
+use Rattle.ram_place.specs.Placement.{IsPlacing, IsTaken, IsTakenFor, LiveFramesAreDisjoint, FramesAreClear, ObjectsAreDisjoint}
 use Rattle.sym_code.specs.Layout.{FrameRange, IsLaidOut, no_range, no_frame, object, frame, are_apart, may_meet}
 use Rattle.code_place.specs.Layouts as places
 use Rattle.code_place.specs.Layouts.{layout_of}

@@ -14,10 +14,10 @@ use Rattle.core_code.specs.Tree as code
 use Rattle.core_code.specs.Tree.{Tree}
 use Rattle.core_code.specs.declared.code.Byte.{Byte}
 use Rattle.core_code.specs.declared.code.Byte.TheVariants.{Static, Frame, Result, Device}
-use Rattle.lower_expr.specs.Bytes.{behind, beyond, little_beyond, operation_type}
+use Rattle.core_puts.specs.Bytes.{behind, beyond, little_beyond, operation_type}
 use Rattle.lower_expr.specs.Layout.{Layout, width, value_width, place_width, object_byte, copy_of}
 use Rattle.lower_expr.specs.Lowering.{behind_pointer, shifts_by_constant, change_code, is_pointer, arguments_width, expr_code, address_code, arguments_code}
-use Rattle.lower_expr.specs.Puts.{choice}
+use Rattle.core_puts.specs.Puts.{choice}
 use Rattle.lower_expr.specs.Rows.{tested, logical_row, step_number}
 use Rattle.lower_expr.specs.Spots.{spot_of, member_spot}
 use Rattle.lower_expr.specs.declared.places.Spot.{Spot}

@@ -14,7 +14,7 @@ use Rattle.pic_map.specs.MapContent.{MapContent, ObjectLine, FrameLine}
 use Rattle.pic_map.specs.MapView.{object_of, frame_of}
 use Rattle.pic_map.specs.declared.Placed.{Placed}
 use Rattle.program_code.specs.Translated.{IsTranslation}
-use Rattle.ram_place.specs.Memory.{AreDisjoint}
+use Rattle.live_frames.specs.Memory.{AreDisjoint}
 use Rattle.ram_place.specs.Placement.{IsPlacing}
 use Rattle.sym_code.specs.declared.code.BlockName.{BlockName}
 use Rattle.sym_code.specs.declared.code.Sym.{Sym}

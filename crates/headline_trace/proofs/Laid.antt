@@ -23,7 +23,7 @@ use Rattle.pic_map.specs.MapContent as content
 use Rattle.pic_map.specs.MapView.{object_of, frame_of}
 use Rattle.pic_map.specs.declared.Placed.{Placed}
 use Rattle.ram_place.specs.Helpers as helpers
-use Rattle.ram_place.specs.Memory.{Stands, IsLowest, regions}
+use Rattle.live_frames.specs.Memory.{Stands, IsLowest, regions}
 use Rattle.ram_place.specs.Placement.{IsPlacing, IsTaken, IsTakenFor}
 use Rattle.ram_place.specs.Sizes as sizes
 use Rattle.sym_code.specs.Layout.{FrameRange, IsOf, no_range, no_frame, object, frame, lies_in, is_whole}

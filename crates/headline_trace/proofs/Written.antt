@@ -14,8 +14,8 @@ use Rattle.pic_map.specs.MapFile.{IsName}
 use Rattle.pic_map.specs.MapText.{AreObjects, AreFrames}
 use Rattle.pic_map.specs.declared.Placed.{Placed}
 use Rattle.program_code.specs.Passed.{IsPassed}
-use Rattle.ram_place.specs.Memory as memory
-use Rattle.ram_place.specs.Memory.{regions, IsLowest}
+use Rattle.live_frames.specs.Memory as memory
+use Rattle.live_frames.specs.Memory.{regions, IsLowest}
 use Rattle.ram_place.specs.Placement.{IsPlacing}
 use Rattle.sym_code.specs.Programs.{same_name}
 use Rattle.sym_code.specs.Words.{words_in}

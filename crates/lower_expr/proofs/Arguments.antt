@@ -4,7 +4,7 @@ use Rattle.std.proofs.lemmas.List.{at_drop_more, drop_all, append-nil, append_as
 use Rattle.c_typed.specs.Views.{expression_of, arguments_of}
 use Rattle.c_typed.specs.declared.expression.TExpr.{TExpr}
 use Rattle.core_code.specs.Tree.{Tree}
-use Rattle.lower_expr.specs.Bytes.{beyond}
+use Rattle.core_puts.specs.Bytes.{beyond}
 use Rattle.lower_expr.specs.Layout.{Layout, value_width}
 use Rattle.lower_expr.specs.Lowering.{expr_code, arguments_code, arguments_width}
 

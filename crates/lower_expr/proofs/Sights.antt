@@ -9,10 +9,10 @@ use Rattle.c_typed.specs.declared.expression.TExpr.TheVariants as TExpr
 use Rattle.c_typed.specs.declared.expression.TPlace.TheVariants as TPlace
 use Rattle.core_code.specs.Tree as code
 use Rattle.core_code.specs.declared.code.Byte.TheVariants.{Frame, Result}
-use Rattle.lower_expr.specs.Bytes.{beyond, operation_type}
+use Rattle.core_puts.specs.Bytes.{beyond, operation_type}
 use Rattle.lower_expr.specs.Layout.{Layout, width, value_width, place_width, object_byte, copy_of}
 use Rattle.lower_expr.specs.Lowering.{expr_code, address_code, arguments_code, arguments_width, pointer_code, behind_pointer, shifts_by_constant, change_code, is_pointer, update_of, step_of}
-use Rattle.lower_expr.specs.Puts.{sets, choice}
+use Rattle.core_puts.specs.Puts.{sets, choice}
 use Rattle.lower_expr.specs.Rows.{widened, tested, unary_row, logical_row, binary_row, offset_row, difference_row, member_row, address_row, value_row, assigned_row, update_row, step_number, step_row, called_row, struct_row}
 use Rattle.lower_expr.specs.Spots.{spot_of, member_spot}
 use Rattle.lower_expr.specs.declared.places.Spot.TheVariants.{Fixed, Bit, Computed}

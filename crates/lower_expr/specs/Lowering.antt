@@ -13,9 +13,9 @@ use Rattle.c_typed.specs.declared.types.Ty.TheVariants.{Void, Int, Pointer, Arra
 use Rattle.core_code.specs.Tree as code
 use Rattle.core_code.specs.Tree.{Tree}
 use Rattle.core_code.specs.declared.code.Byte.TheVariants.{Frame, Result}
-use Rattle.lower_expr.specs.Bytes.{beyond, operation_type}
+use Rattle.core_puts.specs.Bytes.{beyond, operation_type}
 use Rattle.lower_expr.specs.Layout.{Layout, width, value_width, place_width, object_byte, copy_of}
-use Rattle.lower_expr.specs.Puts.{sets, choice}
+use Rattle.core_puts.specs.Puts.{sets, choice}
 use Rattle.lower_expr.specs.Rows.{widened, tested, unary_row, logical_row, is_shift, binary_row, offset_row, difference_row, member_row, address_row, value_row, assigned_row, change_of, update_row, step_number, keeps_old, step_row, called_row, struct_row}
 use Rattle.lower_expr.specs.Spots.{spot_of, pointer_bytes}
 use Rattle.lower_expr.specs.declared.assignments.Change.TheVariants.{Plain}

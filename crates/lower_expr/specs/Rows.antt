@@ -17,8 +17,8 @@ use Rattle.core_code.specs.Tree as code
 use Rattle.core_code.specs.Tree.{Tree, many}
 use Rattle.core_code.specs.declared.code.Byte.{Byte}
 use Rattle.core_code.specs.declared.code.Byte.TheVariants.{Frame, Result}
-use Rattle.lower_expr.specs.Bytes.{behind, beyond, is_wider, number_type, operation_type}
-use Rattle.lower_expr.specs.Puts.{copies, copies_if, sets, operator, choice}
+use Rattle.core_puts.specs.Bytes.{behind, beyond, is_wider, number_type, operation_type}
+use Rattle.core_puts.specs.Puts.{copies, copies_if, sets, operator, choice}
 use Rattle.lower_expr.specs.Spots.{pointer_bytes}
 use Rattle.lower_expr.specs.declared.assignments.Change.{Change}
 use Rattle.lower_expr.specs.declared.assignments.Change.TheVariants.{Plain, Elements, By}

@@ -3,7 +3,7 @@ use Rattle.std.specs.Prelude.{ℕ, Option, Some, None}
 use Rattle.c_typed.specs.Trees as tree
 use Rattle.c_typed.specs.Trees.{Place}
 use Rattle.core_code.specs.declared.code.Byte.{Byte}
-use Rattle.lower_expr.specs.Bytes.{behind}
+use Rattle.core_puts.specs.Bytes.{behind}
 use Rattle.lower_expr.specs.Layout.{Layout, object_byte}
 use Rattle.lower_expr.specs.declared.places.Spot.{Spot}
 use Rattle.lower_expr.specs.declared.places.Spot.TheVariants.{Fixed, Bit, Computed}

@@ -6,20 +6,19 @@ ghost use Rattle.c_typed.specs.Folding.{constant_bits};
 ghost use Rattle.lower_expr.specs.Layout.{layout_of};
 ghost use Rattle.lower_expr.specs.Lowering as lowering;
 ghost use Rattle.lower_expr.specs.Lowering.{shifts_by_constant, behind_pointer};
-ghost use Rattle.lower_expr.specs.Puts.{Appends};
+ghost use Rattle.core_puts.specs.Puts.{Appends};
 ghost use Rattle.lower_expr.specs.Rows as row;
 
-use crate::bytes::{behind, beyond, operation_type};
 use crate::offsets::put_moved;
 use crate::operators::{put_shift, put_widened, shifts_by_constant};
 use crate::places::{Locals, Spot, bytes_of_value, pointer_bytes, spot_of, width};
-use crate::puts::{
-    put_address, put_bit_read, put_bit_write, put_copies, put_copies_if, put_load, put_number,
-    put_operator, put_set, put_store,
-};
 use c_ints::{BinOp, IntTy};
 use c_typed::{StepOp, TExpr, TPlace, Ty};
 use core_code::{Byte, Core};
+use core_puts::{
+    behind, beyond, operation_type, put_address, put_bit_read, put_bit_write, put_copies,
+    put_copies_if, put_load, put_number, put_operator, put_set, put_store,
+};
 use pic_world::Root;
 use std::alloc::{AllocError, Global};
 

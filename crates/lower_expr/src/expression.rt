@@ -11,11 +11,11 @@ ghost use Rattle.c_typed.specs.Views.{expression_of, place_of, arguments_of};
 ghost use Rattle.core_code.specs.Tree as code;
 ghost use Rattle.core_code.specs.View.{trees_in};
 ghost use Rattle.core_code.specs.declared.code.Byte.TheVariants.{Frame};
-ghost use Rattle.lower_expr.specs.Bytes.{beyond, operation_type};
+ghost use Rattle.core_puts.specs.Bytes.{beyond, operation_type};
 ghost use Rattle.c_typed.specs.Folding.{bits, constant_bits};
 ghost use Rattle.lower_expr.specs.Layout.{layout_of, value_width, place_width, object_byte};
 ghost use Rattle.lower_expr.specs.Lowering.{expr_code, address_code, pointer_code, change_code, shifts_by_constant, is_pointer, arguments_code, arguments_width};
-ghost use Rattle.lower_expr.specs.Puts.{Appends, sets};
+ghost use Rattle.core_puts.specs.Puts.{Appends, sets};
 ghost use Rattle.lower_expr.specs.Rows as row;
 ghost use Rattle.lower_expr.specs.Spots.{spot_of};
 
@@ -23,7 +23,6 @@ use crate::assignments::{
     Update, behind_pointer, put_address_of, put_assigned, put_step, put_update, put_value,
     step_number, step_of, update_of,
 };
-use crate::bytes::{beyond, frame_byte, operation_type};
 use crate::offsets::{put_difference, put_member, put_offset};
 use crate::operators::{
     put_logical, put_shift, put_tested, put_unary_of, put_widened, shifts_by_constant,
@@ -31,13 +30,14 @@ use crate::operators::{
 use crate::places::{
     Locals, Spot, bytes_of_place, bytes_of_value, copy_of, object_byte, spot_of, width,
 };
-use crate::puts::{
-    put_address, put_call, put_copies, put_copies_if, put_if, put_number, put_operator,
-};
 use crate::structures::put_struct_assign;
 use c_ints::{BinOp, Value, size};
 use c_typed::{LogicalOp, Object, TExpr, TPlace, Ty};
 use core_code::{Byte, Core};
+use core_puts::{
+    beyond, frame_byte, operation_type, put_address, put_call, put_copies, put_copies_if, put_if,
+    put_number, put_operator,
+};
 use pic_world::Root;
 use std::alloc::{AllocError, Global};
 

@@ -10,19 +10,17 @@
 #![tactic(auto)]
 
 mod assignments;
-mod bytes;
 mod expression;
 mod offsets;
 mod operators;
 mod places;
-mod puts;
 mod structures;
 
-pub use bytes::{behind, beyond, byte_at, frame_byte, is_wider, number_type, operation_type};
+pub use core_puts::{
+    behind, beyond, byte_at, frame_byte, is_wider, number_type, operation_type, put, put_address,
+    put_call, put_convert, put_copies, put_copy, put_if, put_leave, put_loop, put_many, put_number,
+    put_operator, put_set, put_zeros,
+};
 pub use expression::{lower_address, lower_expr};
 pub use places::{Locals, Spot, bytes_of_place, bytes_of_value, fixed_byte, spot_of, width};
-pub use puts::{
-    put, put_address, put_call, put_convert, put_copies, put_copy, put_if, put_leave, put_loop,
-    put_many, put_number, put_operator, put_set, put_zeros,
-};
 pub use structures::lower_struct_to;

@@ -1,13 +1,12 @@
 //! Pointers and integers: an integer counts in elements of so many bytes (ISO/IEC 9899:1990, 6.3.6).
 
 ghost use Rattle.std.specs.Prelude.{OnOk};
-ghost use Rattle.lower_expr.specs.Puts.{Appends};
+ghost use Rattle.core_puts.specs.Puts.{Appends};
 ghost use Rattle.lower_expr.specs.Rows as row;
 
-use crate::bytes::behind;
-use crate::puts::{put_binary, put_copies, put_number, put_operator};
 use c_ints::{BinOp, IntTy};
 use core_code::{Byte, Core};
+use core_puts::{behind, put_binary, put_copies, put_number, put_operator};
 use std::alloc::AllocError;
 
 // For an odd factor the number itself once more.

@@ -4,14 +4,15 @@ ghost use Rattle.std.specs.Prelude.{◌≡◌, OnOk, [], ◌∷◌};
 ghost use Rattle.c_typed.specs.Views.{expression_of};
 ghost use Rattle.core_code.specs.View.{trees_in};
 ghost use Rattle.lower_expr.specs.Lowering.{shifts_by_constant};
-ghost use Rattle.lower_expr.specs.Puts.{Appends, sets};
+ghost use Rattle.core_puts.specs.Puts.{Appends, sets};
 ghost use Rattle.lower_expr.specs.Rows as row;
 
-use crate::bytes::{is_wider, number_type};
-use crate::puts::{put_convert, put_if, put_many, put_number, put_operator, put_unary};
 use c_ints::{BinOp, IntTy, UnOp};
 use c_typed::{LogicalOp, TExpr, Ty};
 use core_code::{Byte, Core};
+use core_puts::{
+    is_wider, number_type, put_convert, put_if, put_many, put_number, put_operator, put_unary,
+};
 use std::alloc::{AllocError, Global};
 
 #[tactic(auto, using(crate::proofs::Numbers::append_nothing))]

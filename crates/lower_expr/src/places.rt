@@ -6,9 +6,9 @@ ghost use Rattle.lower_expr.specs.Layout as stated;
 ghost use Rattle.lower_expr.specs.Layout.{layout_of};
 ghost use Rattle.lower_expr.specs.Spots as spots;
 
-use crate::bytes::{behind, beyond};
 use c_typed::{Object, Structure, TExpr, TPlace, Ty, bytes_of};
 use core_code::Byte;
+use core_puts::{behind, beyond};
 use pic_world::Root;
 
 /// What a function copy's code stands on: its root, the offset in its frame of each parameter and local, of each

@@ -5,18 +5,17 @@ ghost use Rattle.c_typed.specs.Views.{place_of};
 ghost use Rattle.core_code.specs.declared.code.Byte.TheVariants.{Frame};
 ghost use Rattle.lower_expr.specs.Layout.{layout_of};
 ghost use Rattle.lower_expr.specs.Lowering.{address_code, pointer_code};
-ghost use Rattle.lower_expr.specs.Puts.{Appends};
+ghost use Rattle.core_puts.specs.Puts.{Appends};
 ghost use Rattle.lower_expr.specs.Rows as row;
 ghost use Rattle.lower_expr.specs.Spots.{spot_of};
 ghost use Rattle.lower_expr.specs.declared.places.Spot.TheVariants.{Fixed};
 
-use crate::bytes::{behind, beyond};
 use crate::expression::lower_pointer;
 use crate::places::{Locals, Spot, pointer_bytes, spot_of};
-use crate::puts::{put_copies, put_copy, put_load, put_operator, put_set, put_store};
 use c_ints::{BinOp, IntTy};
 use c_typed::TPlace;
 use core_code::{Byte, Core};
+use core_puts::{behind, beyond, put_copies, put_copy, put_load, put_operator, put_set, put_store};
 use pic_world::Root;
 use std::alloc::{AllocError, Global};
 

@@ -11,7 +11,7 @@ use Rattle.core_code.specs.Tree.{Tree}
 use Rattle.core_code.specs.View.{tree_of, trees_in}
 use Rattle.core_code.specs.declared.code.Core.{Core}
 use Rattle.core_code.specs.declared.code.Byte.{Byte}
-use Rattle.lower_expr.specs.Bytes.{behind}
+use Rattle.core_puts.specs.Bytes.{behind}
 use Rattle.lower_stmt.specs.Declarators.{text_code, rest_code, is_covered}
 use Rattle.lower_stmt.specs.FirstBytes.{bytes_in, byte_at}
 use Rattle.lower_stmt.specs.Ground.{Ground}

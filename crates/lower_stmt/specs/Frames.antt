@@ -6,7 +6,7 @@ use Rattle.c_typed.specs.Words.{variable_bytes}
 use Rattle.c_typed.specs.declared.calls.FnId.{FnId}
 use Rattle.c_typed.specs.declared.calls.FnId.TheVariants.{User, Helper}
 use Rattle.call_graph.specs.declared.types.FnCopy.{FnCopy}
-use Rattle.lower_expr.specs.Bytes.{beyond}
+use Rattle.core_puts.specs.Bytes.{beyond}
 use Rattle.lower_expr.specs.Layout.{Layout}
 use Rattle.lower_stmt.specs.Ground.{Ground}
 use Rattle.pic_world.specs.declared.Root.{Root}

@@ -6,7 +6,7 @@ use Rattle.c_typed.specs.Words.{variable_bytes}
 use Rattle.core_code.specs.Tree.{Tree}
 use Rattle.core_code.specs.declared.code.Byte.{Byte}
 use Rattle.core_code.specs.declared.code.Byte.TheVariants.{Frame, Result}
-use Rattle.lower_expr.specs.Bytes.{behind}
+use Rattle.core_puts.specs.Bytes.{behind}
 use Rattle.lower_expr.specs.Layout.{Layout, layout_of, value_width}
 use Rattle.lower_expr.specs.Lowering.{expr_code}
 use Rattle.lower_stmt.specs.declared.site.Site.{Site}

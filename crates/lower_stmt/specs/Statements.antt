@@ -8,7 +8,7 @@ use Rattle.c_typed.specs.declared.statement.LoopForm.TheVariants.{While, Do, For
 use Rattle.c_typed.specs.declared.statement.TCase.{TCase}
 use Rattle.core_code.specs.Tree as core
 use Rattle.core_code.specs.Tree.{Tree, many}
-use Rattle.lower_expr.specs.Puts.{copies, choice, test_size}
+use Rattle.core_puts.specs.Puts.{copies, choice, test_size}
 use Rattle.lower_stmt.specs.Declarators.{scalar_code, list_code}
 use Rattle.lower_stmt.specs.Ground.{Ground, first, result_byte, local_byte, width, value_code, effect_code}
 use Rattle.lower_stmt.specs.Jumps.{in_while, in_body, in_segment}

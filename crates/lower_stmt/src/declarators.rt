@@ -2,7 +2,7 @@
 
 ghost use Rattle.std.specs.Prelude.{◌≡◌, map, slice_index, OnOk};
 ghost use Rattle.c_typed.specs.Views.{expression_of, item_of};
-ghost use Rattle.lower_expr.specs.Puts.{Appends};
+ghost use Rattle.core_puts.specs.Puts.{Appends};
 ghost use Rattle.lower_stmt.specs.Declarators as code;
 ghost use Rattle.lower_stmt.specs.Ground.{ground_of};
 

@@ -3,13 +3,13 @@
 ghost use Rattle.std.specs.Prelude.{◌≡◌, [], ◌∷◌, OnOk};
 ghost use Rattle.core_code.specs.Tree as core;
 ghost use Rattle.core_code.specs.View.{tree_of, trees_in};
-ghost use Rattle.lower_expr.specs.Puts.{Appends, test_size};
+ghost use Rattle.core_puts.specs.Puts.{Appends, test_size};
 
 use core_code::{Byte, Core};
 use lower_expr::put;
 use std::alloc::{AllocError, Global};
 
-#[tactic(auto, unfolding(lower_expr::specs::Puts::test_size))]
+#[tactic(auto, unfolding(core_puts::specs::Puts::test_size))]
 fn tested(size: u16) -> u8
     ensures { result ≡ test_size size }
 {

@@ -4,7 +4,7 @@ ghost use Rattle.std.specs.Prelude.{◌≡◌, map, slice_index, OnOk};
 ghost use Rattle.std.specs.Option.{option_map};
 ghost use Rattle.c_typed.specs.Views.{expression_of, place_of, item_of, size_of, variable_of};
 ghost use Rattle.c_typed.specs.Words.{item_bytes, variable_bytes};
-ghost use Rattle.lower_expr.specs.Puts.{Appends};
+ghost use Rattle.core_puts.specs.Puts.{Appends};
 ghost use Rattle.lower_stmt.specs.Declarators as declarators;
 ghost use Rattle.lower_stmt.specs.Ground as ground;
 ghost use Rattle.lower_stmt.specs.Ground.{ground_of};

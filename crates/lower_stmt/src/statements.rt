@@ -8,7 +8,7 @@ ghost use Rattle.std.specs.Option.{option_map};
 ghost use Rattle.c_typed.specs.TreeNodes.{statement_nodes, nodes_of_body, arm_nodes, arms_nodes, last_nodes};
 ghost use Rattle.c_typed.specs.Views.{expression_of, statement_of, statements_of, arm_of, arms_of, last_arm_of};
 ghost use Rattle.core_code.specs.View.{trees_in};
-ghost use Rattle.lower_expr.specs.Puts.{Appends};
+ghost use Rattle.core_puts.specs.Puts.{Appends};
 ghost use Rattle.lower_stmt.specs.Ground.{ground_of};
 ghost use Rattle.lower_stmt.specs.Jumps as jumping;
 ghost use Rattle.lower_stmt.specs.Jumps.{HasRoom};

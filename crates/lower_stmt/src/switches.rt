@@ -7,7 +7,7 @@
 ghost use Rattle.std.specs.Prelude.{◌≡◌, ◌+◌, ◌<◌, ◌^◌, IfOk, OnOk};
 ghost use Rattle.c_typed.specs.Views.{expression_of};
 ghost use Rattle.core_code.specs.View.{trees_in};
-ghost use Rattle.lower_expr.specs.Puts.{Appends};
+ghost use Rattle.core_puts.specs.Puts.{Appends};
 ghost use Rattle.lower_stmt.specs.Ground.{ground_of};
 ghost use Rattle.lower_stmt.specs.Nesting as nesting;
 ghost use Rattle.lower_stmt.specs.Switches as switches;

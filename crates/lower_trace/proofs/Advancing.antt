@@ -13,7 +13,7 @@ use Rattle.core_code.specs.Values as core
 use Rattle.core_code.specs.Values.{binary_value, value_in}
 use Rattle.core_code.specs.declared.code.Byte.TheVariants.{Frame, Result}
 use Rattle.core_code.specs.declared.code.Byte.{Byte}
-use Rattle.lower_expr.specs.Bytes.{beyond}
+use Rattle.core_puts.specs.Bytes.{beyond}
 use Rattle.lower_expr.specs.Rows.{advance, advances, given, side_of, taken}
 use Rattle.lower_expr.specs.Spots.{pointer_bytes}
 use Rattle.lower_expr.specs.declared.places.Spot as place

@@ -5,7 +5,7 @@ use Rattle.c_typed.specs.declared.types.Ty.{Ty}
 use Rattle.core_code.specs.Bytes.{Memory}
 use Rattle.core_code.specs.Machine.{Machine}
 use Rattle.core_code.specs.declared.code.Byte.TheVariants.{Frame}
-use Rattle.lower_expr.specs.Bytes.{beyond}
+use Rattle.core_puts.specs.Bytes.{beyond}
 use Rattle.lower_expr.specs.Layout.{Layout, copy_of, value_width, width}
 use Rattle.lower_expr.specs.Lowering.{arguments_code, arguments_width, expr_code}
 use Rattle.lower_expr.specs.Rows.{called_row}

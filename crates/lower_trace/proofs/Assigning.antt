@@ -7,8 +7,8 @@ use Rattle.core_code.specs.Bytes.{Held, Memory}
 use Rattle.core_code.specs.Machine.{Machine, Task, Program, is_valid, may_hold, after_write, static_bytes}
 use Rattle.core_code.specs.declared.code.Byte.{Byte}
 use Rattle.core_code.specs.declared.code.Byte.TheVariants.{Static, Frame}
-use Rattle.lower_expr.specs.Bytes.{beyond, behind}
-use Rattle.lower_expr.specs.Bytes.{behind as lower_behind}
+use Rattle.core_puts.specs.Bytes.{beyond, behind}
+use Rattle.core_puts.specs.Bytes.{behind as lower_behind}
 use Rattle.lower_expr.specs.Rows.{kept_row}
 use Rattle.lower_expr.specs.Layout.{width}
 use Rattle.lower_expr.specs.Lowering.{behind_pointer}

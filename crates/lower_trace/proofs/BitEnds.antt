@@ -9,9 +9,9 @@ use Rattle.c_typed.specs.declared.types.Ty.{Ty}
 use Rattle.core_code.specs.Bytes.{Memory}
 use Rattle.core_code.specs.Machine.{Join, Machine}
 use Rattle.core_code.specs.declared.code.Byte.TheVariants.{Frame}
-use Rattle.lower_expr.specs.Bytes.{beyond}
+use Rattle.core_puts.specs.Bytes.{beyond}
 use Rattle.lower_expr.specs.Layout.{place_width, width}
-use Rattle.lower_expr.specs.Puts.{copies_if}
+use Rattle.core_puts.specs.Puts.{copies_if}
 use Rattle.lower_expr.specs.Rows.{keeps_old}
 use Rattle.lower_expr.specs.Spots.{spot_of}
 use Rattle.lower_expr.specs.declared.places.Spot.TheVariants.{Bit}

@@ -19,8 +19,8 @@ use Rattle.core_code.specs.Values as core
 use Rattle.core_code.specs.Values.{binary_value, value_in}
 use Rattle.core_code.specs.declared.code.Byte.TheVariants.{Frame, Result}
 use Rattle.core_code.specs.declared.code.Byte.{Byte}
-use Rattle.lower_expr.specs.Bytes as lower
-use Rattle.lower_expr.specs.Bytes.{beyond}
+use Rattle.core_puts.specs.Bytes as lower
+use Rattle.core_puts.specs.Bytes.{beyond}
 use Rattle.lower_expr.specs.Layout.{width}
 use Rattle.lower_expr.specs.Rows.{bit_row, kept_row}
 use Rattle.lower_expr.specs.Spots.{pointer_bytes, spot_of}

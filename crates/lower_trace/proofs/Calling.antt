@@ -9,7 +9,7 @@ use Rattle.core_code.specs.Tree as code
 use Rattle.core_code.specs.declared.code.Byte.TheVariants.{Frame, Result}
 use Rattle.lower_expr.specs.Layout.{width, copy_of as lowered_copy}
 use Rattle.lower_expr.specs.Lowering.{arguments_width}
-use Rattle.lower_expr.specs.Puts.{copies, copies_if}
+use Rattle.core_puts.specs.Puts.{copies, copies_if}
 use Rattle.lower_expr.specs.Rows.{called_row}
 use Rattle.lower_stmt.specs.Jumps.{outside}
 use Rattle.lower_stmt.specs.Statements.{stmts_code}

@@ -15,7 +15,7 @@ use Rattle.core_code.specs.Values as core
 use Rattle.core_code.specs.Values.{binary_value, right_type, value_in}
 use Rattle.core_code.specs.declared.code.Byte.TheVariants.{Device, Frame, Result, Static}
 use Rattle.core_code.specs.declared.code.Byte.{Byte}
-use Rattle.lower_expr.specs.Puts.{copies_if}
+use Rattle.core_puts.specs.Puts.{copies_if}
 use Rattle.lower_expr.specs.Rows.{wider}
 use Rattle.lower_trace.proofs.CodeLeft.{Scene, base, ground_in, held, number, todo}
 use Rattle.lower_trace.proofs.Converting.{not_less}

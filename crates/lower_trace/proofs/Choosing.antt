@@ -5,7 +5,7 @@ use Rattle.c_ints.specs.Range.{pattern, cut}
 use Rattle.c_ints.specs.declared.types.IntTy.TheVariants as int
 use Rattle.c_typed.specs.declared.expression.LogicalOp.{LogicalOp}
 use Rattle.c_typed.specs.declared.expression.LogicalOp.TheVariants.{And, Or}
-use Rattle.lower_expr.specs.Bytes.{byte_at, operation_type}
+use Rattle.core_puts.specs.Bytes.{byte_at, operation_type}
 use Rattle.lower_expr.specs.Rows.{logical_row, tested, type_of_size, unary_row}
 use Rattle.c_typed.specs.Trees as tree
 use Rattle.c_typed.specs.Trees.{Expression, Statement, Arms, Arm, LastArm}
@@ -22,7 +22,7 @@ use Rattle.core_code.specs.declared.code.Byte.{Byte}
 use Rattle.core_code.specs.declared.code.Byte.TheVariants.{Frame}
 use Rattle.lower_expr.specs.Layout.{value_width}
 use Rattle.lower_expr.specs.Lowering.{expr_code}
-use Rattle.lower_expr.specs.Puts.{sets, choice, test_size}
+use Rattle.core_puts.specs.Puts.{sets, choice, test_size}
 use Rattle.lower_stmt.specs.Ground.{Ground, first}
 use Rattle.lower_stmt.specs.Ground as ground
 use Rattle.lower_stmt.specs.Statements.{stmt_code, arms_code, last_code, jumps_in}

@@ -22,10 +22,10 @@ use Rattle.core_code.specs.Tree as code
 use Rattle.core_code.specs.Tree.{Tree, many}
 use Rattle.core_code.specs.declared.code.Byte.{Byte}
 use Rattle.core_code.specs.declared.code.Byte.TheVariants.{Frame, Result}
-use Rattle.lower_expr.specs.Bytes.{behind, beyond, operation_type}
+use Rattle.core_puts.specs.Bytes.{behind, beyond, operation_type}
 use Rattle.lower_expr.specs.Layout.{Layout, width, value_width, place_width, copy_of}
 use Rattle.lower_expr.specs.Lowering.{expr_code, address_code, arguments_code, pointer_code, behind_pointer, shifts_by_constant, change_code, is_pointer, arguments_width, update_of, step_of}
-use Rattle.lower_expr.specs.Puts.{copies, copies_if, operator, choice, test_size}
+use Rattle.core_puts.specs.Puts.{copies, copies_if, operator, choice, test_size}
 use Rattle.lower_expr.specs.Rows.{widened, tested, unary_row, logical_row, binary_row, offset_row, difference_row, member_row, address_row, value_row, assigned_row, kept_row, written_row, bit_row, change_of, change_row, given_byte, update_row, keeps_old, step_number, step_row, called_row, struct_row, side_of, taken, given, advances, structure_row}
 use Rattle.lower_expr.specs.Spots.{spot_of, pointer_bytes}
 use Rattle.lower_expr.specs.declared.places.Spot as place

@@ -22,8 +22,8 @@ use Rattle.core_code.specs.Tree.{Tree, many}
 use Rattle.core_code.specs.Values as core
 use Rattle.core_code.specs.declared.code.Byte.{Byte}
 use Rattle.core_code.specs.declared.code.Byte.TheVariants.{Frame}
-use Rattle.lower_expr.specs.Bytes.{beyond, byte_at, operation_type}
-use Rattle.lower_expr.specs.Puts.{sets, test_size}
+use Rattle.core_puts.specs.Bytes.{beyond, byte_at, operation_type}
+use Rattle.core_puts.specs.Puts.{sets, test_size}
 use Rattle.lower_stmt.specs.Ground.{Ground, first, temporary, value_code}
 use Rattle.lower_stmt.specs.Ground as ground
 use Rattle.lower_stmt.specs.Labels.{has, labels_of, segments_before}

@@ -22,11 +22,11 @@ use Rattle.core_code.specs.Values as core
 use Rattle.core_code.specs.Values.{binary_value, right_type, value_in}
 use Rattle.core_code.specs.declared.code.Byte.TheVariants.{Frame}
 use Rattle.core_code.specs.declared.code.Byte.{Byte}
-use Rattle.lower_expr.specs.Bytes as lower
-use Rattle.lower_expr.specs.Bytes.{beyond, byte_at, operation_type}
+use Rattle.core_puts.specs.Bytes as lower
+use Rattle.core_puts.specs.Bytes.{beyond, byte_at, operation_type}
 use Rattle.lower_expr.specs.Layout.{value_width}
 use Rattle.lower_expr.specs.Lowering.{change_code, expr_code, shifts_by_constant}
-use Rattle.lower_expr.specs.Puts.{sets}
+use Rattle.core_puts.specs.Puts.{sets}
 use Rattle.lower_expr.specs.Rows.{binary_row, shift_row}
 use Rattle.lower_trace.proofs.Beginnings.{Follow}
 use Rattle.lower_trace.proofs.Changing.{OnlyAbove, above_then, above_written, agrees_above, datum_above, holds_above}

@@ -22,11 +22,11 @@ use Rattle.core_code.specs.Values as core
 use Rattle.core_code.specs.Values.{right_type, value_in}
 use Rattle.core_code.specs.declared.code.Byte.TheVariants.{Frame}
 use Rattle.core_code.specs.declared.code.Byte.{Byte}
-use Rattle.lower_expr.specs.Bytes as lower
-use Rattle.lower_expr.specs.Bytes.{beyond, byte_at}
+use Rattle.core_puts.specs.Bytes as lower
+use Rattle.core_puts.specs.Bytes.{beyond, byte_at}
 use Rattle.lower_expr.specs.Layout.{place_width, value_width}
 use Rattle.lower_expr.specs.Lowering.{behind_pointer, change_code, expr_code, shifts_by_constant, update_of}
-use Rattle.lower_expr.specs.Puts.{copies_if, sets}
+use Rattle.core_puts.specs.Puts.{copies_if, sets}
 use Rattle.lower_expr.specs.Rows.{change_of, change_row, shift_row, update_row, widened, wider, written_row}
 use Rattle.lower_expr.specs.Spots.{pointer_bytes, spot_of}
 use Rattle.lower_trace.proofs.Beginnings.{Follow, rests}

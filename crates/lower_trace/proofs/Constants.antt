@@ -8,7 +8,7 @@ use Rattle.core_code.specs.Bytes as bytes
 use Rattle.core_code.specs.Bytes.{Held, Memory, with_bytes}
 use Rattle.core_code.specs.Machine.{Machine}
 use Rattle.core_code.specs.declared.code.Byte.TheVariants.{Frame}
-use Rattle.lower_expr.specs.Bytes.{byte_at}
+use Rattle.core_puts.specs.Bytes.{byte_at}
 use Rattle.lower_expr.specs.Lowering.{expr_code}
 use Rattle.pic_world.specs.World.{World, arrived, is_due, world_as}
 use Rattle.pic_world.proofs.WorldLaws.{arrived_again, arrived_as, due_as}

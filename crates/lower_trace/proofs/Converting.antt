@@ -17,7 +17,7 @@ use Rattle.core_code.specs.Tree as code
 use Rattle.core_code.specs.Values as core
 use Rattle.core_code.specs.declared.code.Byte.TheVariants.{Frame}
 use Rattle.core_code.specs.declared.code.Byte.{Byte}
-use Rattle.lower_expr.specs.Bytes.{number_type}
+use Rattle.core_puts.specs.Bytes.{number_type}
 use Rattle.lower_expr.specs.Rows.{widened, widened_number, wider}
 use Rattle.lower_trace.proofs.Beginnings.{Follow, rests}
 use Rattle.lower_trace.proofs.CodeLeft.{Scene, base, code_after, core_in, ground_in, held, number, source_in, stack_after, todo, wanted}

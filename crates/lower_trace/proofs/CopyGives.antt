@@ -3,7 +3,7 @@ use Rattle.core_code.specs.Bytes.{Held, Memory, same_byte, with_byte}
 use Rattle.core_code.specs.Machine.{Machine, Task, Do as Todo, after_write, may_hold, memory_with}
 use Rattle.core_code.specs.Tree as code
 use Rattle.core_code.specs.declared.code.Byte.TheVariants.{Frame, Result}
-use Rattle.lower_expr.specs.Bytes.{behind}
+use Rattle.core_puts.specs.Bytes.{behind}
 use Rattle.lower_expr.specs.Rows.{given, side_of}
 use Rattle.lower_expr.specs.Spots.{pointer_bytes}
 use Rattle.lower_expr.specs.declared.places.Spot as place

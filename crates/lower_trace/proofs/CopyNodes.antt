@@ -5,7 +5,7 @@ use Rattle.core_code.specs.Bytes.{Memory}
 use Rattle.core_code.specs.Machine.{Machine, Task, Do as Todo}
 use Rattle.core_code.specs.declared.code.Byte.TheVariants.{Frame, Result}
 use Rattle.core_code.specs.declared.code.Byte.{Byte}
-use Rattle.lower_expr.specs.Bytes.{behind, beyond}
+use Rattle.core_puts.specs.Bytes.{behind, beyond}
 use Rattle.lower_expr.specs.Rows.{advances, given, side_of, struct_row, structure_bytes, taken}
 use Rattle.lower_expr.specs.Spots.{pointer_bytes, spot_of}
 use Rattle.lower_expr.specs.declared.places.Spot as place

@@ -5,7 +5,7 @@ use Rattle.c_typed.specs.Trees as tree
 use Rattle.c_typed.specs.Trees.{Item, Place}
 use Rattle.c_typed.specs.Types.{form_of}
 use Rattle.c_typed.specs.declared.expression.PlaceForm.TheVariants as forms
-use Rattle.lower_expr.specs.Bytes.{behind}
+use Rattle.core_puts.specs.Bytes.{behind}
 use Rattle.lower_expr.specs.Layout.{Layout}
 use Rattle.lower_expr.specs.Spots.{pointer_bytes, spot_of}
 use Rattle.lower_expr.specs.declared.places.Spot as place

@@ -5,7 +5,7 @@ use Rattle.core_code.specs.Machine.{Machine, Put, Task, Do as Todo, after_read, 
 use Rattle.core_code.specs.Tree as code
 use Rattle.core_code.specs.declared.code.Byte.TheVariants.{Device, Frame, Result, Static}
 use Rattle.core_code.specs.declared.code.Byte.{Byte}
-use Rattle.lower_expr.specs.Bytes.{behind, beyond}
+use Rattle.core_puts.specs.Bytes.{behind, beyond}
 use Rattle.lower_expr.specs.Rows.{given, side_of, taken}
 use Rattle.lower_expr.specs.Spots.{pointer_bytes}
 use Rattle.lower_expr.specs.declared.places.Spot as place

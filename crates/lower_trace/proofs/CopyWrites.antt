@@ -4,7 +4,7 @@ use Rattle.core_code.specs.Cost.{is_kept, one_if}
 use Rattle.core_code.specs.Machine.{Machine, Put, Setting, Task, Waiting, act, after_write, is_others, is_valid, may_hold, memory_with, put}
 use Rattle.core_code.specs.declared.code.Byte.TheVariants.{Device, Frame, Result, Static}
 use Rattle.core_code.specs.declared.code.Byte.{Byte}
-use Rattle.lower_expr.specs.Bytes.{behind, beyond, little_beyond}
+use Rattle.core_puts.specs.Bytes.{behind, beyond, little_beyond}
 use Rattle.lower_expr.specs.declared.places.Spot as place
 use Rattle.lower_trace.proofs.CodeLeft.{Scene, code_after, copying, core_in, ground_in, held, number, stack_after, todo}
 use Rattle.lower_trace.proofs.CopyNodes.{CopyNode}

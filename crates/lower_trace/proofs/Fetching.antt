@@ -10,7 +10,7 @@ use Rattle.core_code.specs.Tree as code
 use Rattle.core_code.specs.Tree.{Tree}
 use Rattle.core_code.specs.declared.code.Byte.{Byte}
 use Rattle.core_code.specs.declared.code.Byte.TheVariants.{Static, Frame, Result, Device}
-use Rattle.lower_expr.specs.Bytes.{beyond, behind}
+use Rattle.core_puts.specs.Bytes.{beyond, behind}
 use Rattle.lower_expr.specs.declared.places.Spot as place
 use Rattle.lower_expr.specs.declared.places.Spot.TheVariants.{Fixed}
 use Rattle.lower_stmt.specs.Ground.{Ground}

@@ -7,7 +7,7 @@ use Rattle.c_typed.specs.Types.{type_bytes, type_of, value_bytes, place_bytes, f
 use Rattle.c_typed.specs.declared.expression.LogicalOp.{LogicalOp}
 use Rattle.c_typed.specs.declared.types.Ty.{Ty}
 use Rattle.c_typed.specs.declared.types.Ty.TheVariants as types
-use Rattle.lower_expr.specs.Bytes.{beyond}
+use Rattle.core_puts.specs.Bytes.{beyond}
 use Rattle.lower_expr.specs.Layout.{value_width}
 use Rattle.lower_stmt.specs.Ground.{Ground}
 use Rattle.pic_world.specs.World.{World}

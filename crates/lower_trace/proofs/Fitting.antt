@@ -14,7 +14,7 @@ use Rattle.c_typed.specs.Trees.{Expression, Expressions, Place, Statement, Progr
 use Rattle.c_typed.specs.Types.{type_bytes, type_of, value_bytes, place_bytes, form_of}
 use Rattle.c_typed.specs.declared.types.Ty.{Ty}
 use Rattle.c_typed.specs.declared.types.Ty.TheVariants as types
-use Rattle.lower_expr.specs.Bytes.{beyond, operation_type}
+use Rattle.core_puts.specs.Bytes.{beyond, operation_type}
 use Rattle.lower_expr.specs.Layout.{width, value_width}
 use Rattle.lower_expr.specs.Lowering.{behind_pointer, arguments_width}
 use Rattle.lower_expr.specs.Spots.{spot_of, pointer_bytes}

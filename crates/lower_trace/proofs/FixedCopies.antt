@@ -4,7 +4,7 @@ use Rattle.core_code.specs.Machine.{Machine, Put, Task, Do as Todo, after_read, 
 use Rattle.core_code.specs.Tree as code
 use Rattle.core_code.specs.declared.code.Byte.TheVariants.{Frame, Static}
 use Rattle.core_code.specs.declared.code.Byte.{Byte}
-use Rattle.lower_expr.specs.Bytes.{behind, beyond}
+use Rattle.core_puts.specs.Bytes.{behind, beyond}
 use Rattle.lower_expr.specs.declared.places.Spot.TheVariants.{Fixed}
 use Rattle.lower_trace.proofs.CodeLeft.{Scene, carrying_at, code_after, copies_from, copying, copying_at, core_in, ground_in, held, number, source_in, stack_after, todo}
 use Rattle.lower_trace.proofs.Constants.{again_below, due_below, same_below}

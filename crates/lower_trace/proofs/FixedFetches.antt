@@ -10,7 +10,7 @@ use Rattle.core_code.specs.Bytes.{Memory, is_private}
 use Rattle.core_code.specs.Machine.{Machine, Task}
 use Rattle.core_code.specs.declared.code.Byte.TheVariants.{Frame}
 use Rattle.core_code.specs.declared.code.Byte.{Byte}
-use Rattle.lower_expr.specs.Bytes.{beyond}
+use Rattle.core_puts.specs.Bytes.{beyond}
 use Rattle.lower_expr.specs.Layout.{place_width, width}
 use Rattle.lower_expr.specs.Spots.{pointer_bytes, spot_of}
 use Rattle.lower_expr.specs.declared.places.Spot.TheVariants.{Fixed}

@@ -8,8 +8,8 @@ use Rattle.core_code.specs.Bytes.{is_private}
 use Rattle.core_code.specs.Machine.{Machine, Task}
 use Rattle.core_code.specs.declared.code.Byte.TheVariants.{Device, Frame, Static}
 use Rattle.core_code.specs.declared.code.Byte.{Byte}
-use Rattle.lower_expr.specs.Bytes as lower
-use Rattle.lower_expr.specs.Bytes.{little_beyond}
+use Rattle.core_puts.specs.Bytes as lower
+use Rattle.core_puts.specs.Bytes.{little_beyond}
 use Rattle.lower_expr.specs.Layout.{place_width, width}
 use Rattle.lower_expr.specs.Spots.{spot_of}
 use Rattle.lower_expr.specs.declared.places.Spot as place

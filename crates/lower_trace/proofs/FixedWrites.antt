@@ -5,8 +5,8 @@ use Rattle.core_code.specs.Tree as code
 use Rattle.core_code.specs.Tree.{many}
 use Rattle.core_code.specs.declared.code.Byte.TheVariants.{Device, Frame, Static}
 use Rattle.core_code.specs.declared.code.Byte.{Byte}
-use Rattle.lower_expr.specs.Bytes as lower
-use Rattle.lower_expr.specs.Puts.{copies}
+use Rattle.core_puts.specs.Bytes as lower
+use Rattle.core_puts.specs.Puts.{copies}
 use Rattle.src_rules.specs.Runs.{one_if}
 use Rattle.lower_trace.proofs.Costs.{either, either_within}
 use Rattle.lower_trace.proofs.Assigning.{store_static, store_variable}

@@ -10,9 +10,9 @@ use Rattle.core_code.specs.Machine.{Setting, Machine, Task, Waiting, Do as Todo,
 use Rattle.core_code.specs.Tree as code
 use Rattle.core_code.specs.Tree.{Tree}
 use Rattle.core_code.specs.declared.code.Byte.TheVariants.{Static, Frame, Result}
-use Rattle.lower_expr.specs.Bytes.{little_beyond, behind}
+use Rattle.core_puts.specs.Bytes.{little_beyond, behind}
 use Rattle.lower_expr.specs.Layout.{width}
-use Rattle.lower_expr.specs.Puts.{copies, copies_if}
+use Rattle.core_puts.specs.Puts.{copies, copies_if}
 use Rattle.pic_world.specs.Roots.{same_root}
 use Rattle.pic_world.specs.World.{World, arrived, is_due, world_as}
 use Rattle.pic_world.specs.declared.Root.{Root}

@@ -18,11 +18,11 @@ use Rattle.core_code.specs.Values as core
 use Rattle.core_code.specs.Values.{right_type, value_in}
 use Rattle.core_code.specs.declared.code.Byte.TheVariants.{Frame}
 use Rattle.core_code.specs.declared.code.Byte.{Byte}
-use Rattle.lower_expr.specs.Bytes as lower
-use Rattle.lower_expr.specs.Bytes.{beyond}
+use Rattle.core_puts.specs.Bytes as lower
+use Rattle.core_puts.specs.Bytes.{beyond}
 use Rattle.lower_expr.specs.Layout.{place_width, value_width}
 use Rattle.lower_expr.specs.Lowering.{behind_pointer, shifts_by_constant}
-use Rattle.lower_expr.specs.Puts.{copies_if}
+use Rattle.core_puts.specs.Puts.{copies_if}
 use Rattle.lower_expr.specs.Rows.{change_of, change_row, widened, wider, written_row}
 use Rattle.lower_expr.specs.Spots.{pointer_bytes, spot_of}
 use Rattle.lower_trace.proofs.Beginnings.{Follow}

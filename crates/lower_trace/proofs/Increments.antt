@@ -17,11 +17,11 @@ use Rattle.core_code.specs.Bytes.{with_bytes}
 use Rattle.core_code.specs.Machine.{Machine, Do as Todo}
 use Rattle.core_code.specs.Tree as code
 use Rattle.core_code.specs.declared.code.Byte.TheVariants.{Frame}
-use Rattle.lower_expr.specs.Bytes as lower
-use Rattle.lower_expr.specs.Bytes.{beyond, byte_at, operation_type}
+use Rattle.core_puts.specs.Bytes as lower
+use Rattle.core_puts.specs.Bytes.{beyond, byte_at, operation_type}
 use Rattle.lower_expr.specs.Layout.{place_width, width}
 use Rattle.lower_expr.specs.Lowering.{behind_pointer, step_of}
-use Rattle.lower_expr.specs.Puts.{copies_if, operator, sets}
+use Rattle.core_puts.specs.Puts.{copies_if, operator, sets}
 use Rattle.lower_expr.specs.Rows.{keeps_old, step_number, step_row, update_row, widened, wider, written_row}
 use Rattle.lower_expr.specs.Spots.{pointer_bytes, spot_of}
 use Rattle.lower_trace.proofs.Beginnings.{Follow}

@@ -11,7 +11,7 @@ use Rattle.core_code.specs.Bytes.{Memory, same_byte}
 use Rattle.core_code.specs.Cost.{is_kept}
 use Rattle.core_code.specs.Machine.{static_bytes, object_bytes as core_bytes}
 use Rattle.core_code.specs.declared.code.Byte.TheVariants.{Frame, Result}
-use Rattle.lower_expr.specs.Bytes.{behind, beyond, operation_type}
+use Rattle.core_puts.specs.Bytes.{behind, beyond, operation_type}
 use Rattle.lower_expr.specs.Rows.{step_number}
 use Rattle.lower_expr.specs.Layout.{object_byte, width, value_width}
 use Rattle.lower_expr.specs.Lowering.{behind_pointer}

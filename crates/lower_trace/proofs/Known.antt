@@ -6,7 +6,7 @@ use Rattle.c_typed.specs.Room.{variables_bytes, statements_room}
 use Rattle.c_typed.specs.Trees as tree
 use Rattle.c_typed.specs.Trees.{VariableTree, Program}
 use Rattle.c_typed.specs.Types.{type_bytes}
-use Rattle.lower_expr.specs.Bytes.{beyond}
+use Rattle.core_puts.specs.Bytes.{beyond}
 use Rattle.lower_stmt.specs.Frames.{end_from}
 use Rattle.pic_world.specs.Roots.{same_root}
 use Rattle.pic_world.specs.World.{Happening, World, arrived, is_due}

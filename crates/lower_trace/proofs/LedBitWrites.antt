@@ -16,7 +16,7 @@ use Rattle.c_typed.specs.declared.types.Ty.TheVariants as types
 use Rattle.core_code.specs.Bytes.{Held, Memory, with_bytes}
 use Rattle.core_code.specs.Machine.{Machine}
 use Rattle.core_code.specs.declared.code.Byte.TheVariants.{Frame}
-use Rattle.lower_expr.specs.Bytes.{operation_type}
+use Rattle.core_puts.specs.Bytes.{operation_type}
 use Rattle.lower_expr.specs.Layout.{place_width, width}
 use Rattle.lower_expr.specs.Lowering.{behind_pointer}
 use Rattle.lower_expr.specs.Rows.{keeps_old}

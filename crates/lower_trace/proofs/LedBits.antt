@@ -7,7 +7,7 @@ use Rattle.c_typed.specs.declared.expression.StepOp.{StepOp}
 use Rattle.c_typed.specs.declared.types.Ty.{Ty}
 use Rattle.core_code.specs.Bytes.{Held, Memory, with_bytes}
 use Rattle.core_code.specs.declared.code.Byte.TheVariants.{Frame}
-use Rattle.lower_expr.specs.Bytes.{beyond}
+use Rattle.core_puts.specs.Bytes.{beyond}
 use Rattle.lower_expr.specs.Layout.{place_width, width}
 use Rattle.lower_expr.specs.Spots.{spot_of}
 use Rattle.lower_expr.specs.declared.places.Spot as place

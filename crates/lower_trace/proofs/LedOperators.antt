@@ -23,7 +23,7 @@ use Rattle.c_typed.specs.declared.types.Ty.{Ty}
 use Rattle.c_typed.specs.declared.types.Ty.TheVariants as types
 use Rattle.core_code.specs.Machine.{Machine}
 use Rattle.lower_expr.specs.Layout.{value_width}
-use Rattle.lower_expr.specs.Puts.{test_size}
+use Rattle.core_puts.specs.Puts.{test_size}
 use Rattle.pic_world.specs.World.{World, arrived, is_due}
 use Rattle.src_rules.proofs.Rules.{unary_rule, binary_rule}
 use Rattle.src_rules.proofs.Values.{same_int_is, same_type_is}

@@ -22,7 +22,7 @@ use Rattle.c_typed.specs.declared.types.Ty.TheVariants as types
 use Rattle.core_code.specs.Machine.{Machine}
 use Rattle.lower_expr.specs.Layout.{value_width}
 use Rattle.lower_expr.specs.Lowering.{shifts_by_constant}
-use Rattle.lower_expr.specs.Puts.{test_size}
+use Rattle.core_puts.specs.Puts.{test_size}
 use Rattle.pic_world.specs.World.{World, arrived, is_due}
 use Rattle.src_rules.proofs.Rules.{IsUpdate, update_rule, moves_rule}
 use Rattle.src_rules.specs.Parts.{IsExpressionOf}

@@ -11,7 +11,7 @@ use Rattle.core_code.specs.Machine.{Machine, Task, Do as Todo}
 use Rattle.core_code.specs.Tree as code
 use Rattle.core_code.specs.declared.code.Byte.{Byte}
 use Rattle.core_code.specs.declared.code.Byte.TheVariants.{Frame}
-use Rattle.lower_expr.specs.Bytes.{behind}
+use Rattle.core_puts.specs.Bytes.{behind}
 use Rattle.lower_stmt.specs.Ground.{Ground, first, local_byte, local_bytes}
 use Rattle.lower_stmt.specs.Ground as ground
 use Rattle.pic_world.specs.World.{World, arrived, is_due, world_as}

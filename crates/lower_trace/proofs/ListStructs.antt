@@ -3,7 +3,7 @@ use Rattle.std.proofs.Common.{◌≡◌, ℕ, ◌-◌, ◌<◌, ◌≤◌, List,
 use Rattle.c_typed.specs.Trees as tree
 use Rattle.c_typed.specs.Trees.{Item, Place, Statement}
 use Rattle.core_code.specs.Machine.{Machine}
-use Rattle.lower_expr.specs.Bytes.{behind, beyond}
+use Rattle.core_puts.specs.Bytes.{behind, beyond}
 use Rattle.lower_expr.specs.Rows.{struct_row}
 use Rattle.lower_expr.specs.Spots.{spot_of}
 use Rattle.lower_expr.specs.declared.places.Spot.TheVariants.{Fixed}

@@ -12,8 +12,8 @@ use Rattle.core_code.specs.Machine.{Machine}
 use Rattle.core_code.specs.Tree as code
 use Rattle.core_code.specs.Tree.{Tree}
 use Rattle.core_code.specs.declared.code.Byte.{Byte}
-use Rattle.lower_expr.specs.Bytes.{behind}
-use Rattle.lower_expr.specs.Puts.{copies}
+use Rattle.core_puts.specs.Bytes.{behind}
+use Rattle.core_puts.specs.Puts.{copies}
 use Rattle.lower_stmt.specs.Declarators as lower
 use Rattle.lower_stmt.specs.Declarators.{text_code, items_code, rest_code, is_within, offset_of}
 use Rattle.lower_stmt.specs.Ground.{Ground, first, local_byte, local_bytes}

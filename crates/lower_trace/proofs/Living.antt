@@ -10,7 +10,7 @@ use Rattle.core_code.specs.Bytes as core_bytes
 use Rattle.core_code.specs.Bytes.{is_private}
 use Rattle.core_code.specs.Tree.{Tree}
 use Rattle.core_code.specs.declared.code.Byte.{Byte}
-use Rattle.lower_expr.specs.Bytes.{behind}
+use Rattle.core_puts.specs.Bytes.{behind}
 use Rattle.lower_expr.specs.Rows.{bit_row}
 use Rattle.lower_expr.specs.Spots.{spot_of}
 use Rattle.lower_expr.specs.declared.places.Spot as place

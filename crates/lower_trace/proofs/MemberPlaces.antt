@@ -16,9 +16,9 @@ use Rattle.core_code.specs.Tree.{many}
 use Rattle.core_code.specs.Values as core
 use Rattle.core_code.specs.Values.{binary_value, value_in}
 use Rattle.core_code.specs.declared.code.Byte.TheVariants.{Frame, Result, Static}
-use Rattle.lower_expr.specs.Bytes as lower
-use Rattle.lower_expr.specs.Bytes.{behind, byte_at}
-use Rattle.lower_expr.specs.Puts.{operator, sets}
+use Rattle.core_puts.specs.Bytes as lower
+use Rattle.core_puts.specs.Bytes.{behind, byte_at}
+use Rattle.core_puts.specs.Puts.{operator, sets}
 use Rattle.lower_expr.specs.Spots.{member_spot, spot_of}
 use Rattle.lower_expr.specs.declared.places.Spot as place
 use Rattle.lower_expr.specs.declared.places.Spot.TheVariants.{Bit, Computed, Fixed}

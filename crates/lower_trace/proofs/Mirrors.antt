@@ -11,7 +11,7 @@ use Rattle.core_code.specs.Bytes.{Held, Number, Memory, byte_in, is_private}
 use Rattle.core_code.specs.Machine.{Machine}
 use Rattle.core_code.specs.declared.code.Byte.{Byte}
 use Rattle.core_code.specs.declared.code.Byte.TheVariants.{Frame, Result, Device}
-use Rattle.lower_expr.specs.Bytes.{behind, beyond, operation_type}
+use Rattle.core_puts.specs.Bytes.{behind, beyond, operation_type}
 use Rattle.lower_expr.specs.Layout.{Layout, width, value_width}
 use Rattle.lower_expr.specs.Lowering.{behind_pointer, shifts_by_constant}
 use Rattle.lower_expr.specs.Rows.{step_number, keeps_old}

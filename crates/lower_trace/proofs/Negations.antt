@@ -17,7 +17,7 @@ use Rattle.core_code.specs.Tree as code
 use Rattle.core_code.specs.Values as core
 use Rattle.core_code.specs.Values.{number_in, or_number, value_in, unary_value}
 use Rattle.core_code.specs.declared.code.Byte.TheVariants.{Frame}
-use Rattle.lower_expr.specs.Puts.{test_size}
+use Rattle.core_puts.specs.Puts.{test_size}
 use Rattle.lower_expr.specs.Rows.{type_of_size}
 use Rattle.pic_world.specs.World.{World, arrived, is_due}
 use Rattle.src_rules.specs.Standing.{HasType}

@@ -12,9 +12,9 @@ use Rattle.core_code.specs.Bytes.{Held, Memory, misses}
 use Rattle.core_code.specs.Machine.{Machine, Task, Do as Todo, Waiting}
 use Rattle.core_code.specs.Tree as code
 use Rattle.core_code.specs.declared.code.Byte.TheVariants.{Frame}
-use Rattle.lower_expr.specs.Bytes as lower
-use Rattle.lower_expr.specs.Bytes.{beyond}
-use Rattle.lower_expr.specs.Puts.{operator}
+use Rattle.core_puts.specs.Bytes as lower
+use Rattle.core_puts.specs.Bytes.{beyond}
+use Rattle.core_puts.specs.Puts.{operator}
 use Rattle.lower_expr.specs.Rows.{offset_row, scaled}
 use Rattle.lower_trace.proofs.Beginnings.{Follow}
 use Rattle.lower_trace.proofs.Changing.{OnlyAbove, above_then, agrees_above, datum_above, holds_above, lower_above}

@@ -9,9 +9,9 @@ use Rattle.core_code.specs.Tree as code
 use Rattle.core_code.specs.Tree.{Tree, many, list_of, trees_of}
 use Rattle.core_code.specs.declared.code.Byte.{Byte}
 use Rattle.core_code.specs.declared.code.Byte.TheVariants.{Static, Frame, Result, Device}
-use Rattle.lower_expr.specs.Bytes as lower
-use Rattle.lower_expr.specs.Bytes.{beyond, byte_at}
-use Rattle.lower_expr.specs.Puts.{sets}
+use Rattle.core_puts.specs.Bytes as lower
+use Rattle.core_puts.specs.Bytes.{beyond, byte_at}
+use Rattle.core_puts.specs.Puts.{sets}
 use Rattle.lower_trace.proofs.CodeLeft.{todo}
 use Rattle.lower_trace.proofs.Placed.{Placed, front, other, todo_join, operates, most_operates, least_operates, does, most_does}
 use Rattle.lower_trace.proofs.Walks.{Walk, stay, walk_first, walk_within}

@@ -7,7 +7,7 @@ use Rattle.c_typed.specs.Types.{type_bytes, type_of}
 use Rattle.c_typed.specs.declared.types.Ty.{Ty}
 use Rattle.core_code.specs.Bytes.{Memory}
 use Rattle.core_code.specs.declared.code.Byte.TheVariants.{Frame}
-use Rattle.lower_expr.specs.Bytes.{beyond}
+use Rattle.core_puts.specs.Bytes.{beyond}
 use Rattle.lower_expr.specs.Layout.{value_width}
 use Rattle.lower_expr.specs.Lowering.{arguments_width}
 use Rattle.src_rules.specs.Parts.{AreArgumentsOf}

@@ -9,8 +9,8 @@ use Rattle.core_code.specs.Machine.{Setting, Machine, Task, Do as Todo, Waiting,
 use Rattle.core_code.specs.Tree as code
 use Rattle.core_code.specs.Tree.{Tree}
 use Rattle.core_code.specs.declared.code.Byte.TheVariants.{Frame}
-use Rattle.lower_expr.specs.Bytes.{behind}
-use Rattle.lower_expr.specs.Puts.{copies}
+use Rattle.core_puts.specs.Bytes.{behind}
+use Rattle.core_puts.specs.Puts.{copies}
 use Rattle.lower_trace.proofs.CodeLeft.{todo, plain_behind}
 use Rattle.lower_trace.proofs.Entering.{frame_kept}
 use Rattle.lower_trace.proofs.Operations.{Comes, comes_first, comes_free, comes_within, beyond_is, own_frame}

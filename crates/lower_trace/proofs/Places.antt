@@ -10,11 +10,11 @@ use Rattle.core_code.specs.Tree as code
 use Rattle.core_code.specs.Tree.{Tree}
 use Rattle.core_code.specs.declared.code.Byte.{Byte}
 use Rattle.core_code.specs.declared.code.Byte.TheVariants.{Frame}
-use Rattle.lower_expr.specs.Bytes.{beyond, behind}
+use Rattle.core_puts.specs.Bytes.{beyond, behind}
 use Rattle.lower_expr.specs.Layout.{object_byte, width}
 use Rattle.lower_expr.specs.Lowering.{address_code, behind_pointer}
 use Rattle.c_typed.specs.Sameness.{is_scalar}
-use Rattle.lower_expr.specs.Puts.{copies}
+use Rattle.core_puts.specs.Puts.{copies}
 use Rattle.lower_expr.specs.Rows.{value_row}
 use Rattle.lower_expr.specs.Spots.{spot_of, pointer_bytes}
 use Rattle.lower_expr.specs.declared.places.Spot as place

@@ -10,9 +10,9 @@ use Rattle.core_code.specs.Bytes.{Memory, with_byte, with_bytes}
 use Rattle.core_code.specs.Machine.{Machine, Put, Task, loading}
 use Rattle.core_code.specs.declared.code.Byte.TheVariants.{Frame}
 use Rattle.core_code.specs.declared.code.Byte.{Byte}
-use Rattle.lower_expr.specs.Bytes.{beyond}
+use Rattle.core_puts.specs.Bytes.{beyond}
 use Rattle.lower_expr.specs.Layout.{place_width, width}
-use Rattle.lower_expr.specs.Puts.{copies}
+use Rattle.core_puts.specs.Puts.{copies}
 use Rattle.lower_expr.specs.Spots.{pointer_bytes, spot_of}
 use Rattle.lower_expr.specs.declared.places.Spot.TheVariants.{Computed}
 use Rattle.src_rules.specs.Runs.{one_if}

@@ -14,9 +14,9 @@ use Rattle.core_code.specs.Tree as code
 use Rattle.core_code.specs.Values as core
 use Rattle.core_code.specs.Values.{Extent, binary_value, value_in}
 use Rattle.core_code.specs.declared.code.Byte.TheVariants.{Frame}
-use Rattle.lower_expr.specs.Bytes as lower
-use Rattle.lower_expr.specs.Bytes.{beyond, byte_at}
-use Rattle.lower_expr.specs.Puts.{operator, sets}
+use Rattle.core_puts.specs.Bytes as lower
+use Rattle.core_puts.specs.Bytes.{beyond, byte_at}
+use Rattle.core_puts.specs.Puts.{operator, sets}
 use Rattle.lower_expr.specs.Rows.{difference_row, quotient_row}
 use Rattle.lower_trace.proofs.Beginnings.{Follow}
 use Rattle.lower_trace.proofs.Changing.{OnlyAbove, above_then, above_written, agrees_above, holds_above}

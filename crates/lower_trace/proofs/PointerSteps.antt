@@ -15,11 +15,11 @@ use Rattle.core_code.specs.Bytes.{misses}
 use Rattle.core_code.specs.Machine.{Machine, Do as Todo}
 use Rattle.core_code.specs.Tree as code
 use Rattle.core_code.specs.declared.code.Byte.TheVariants.{Frame}
-use Rattle.lower_expr.specs.Bytes as lower
-use Rattle.lower_expr.specs.Bytes.{beyond}
+use Rattle.core_puts.specs.Bytes as lower
+use Rattle.core_puts.specs.Bytes.{beyond}
 use Rattle.lower_expr.specs.Layout.{place_width, width}
 use Rattle.lower_expr.specs.Lowering.{behind_pointer}
-use Rattle.lower_expr.specs.Puts.{copies_if, operator}
+use Rattle.core_puts.specs.Puts.{copies_if, operator}
 use Rattle.lower_expr.specs.Rows.{keeps_old, widened, written_row}
 use Rattle.lower_expr.specs.Spots.{pointer_bytes, spot_of}
 use Rattle.lower_trace.proofs.Beginnings.{Follow}

@@ -10,11 +10,11 @@ use Rattle.c_typed.specs.declared.types.Ty.TheVariants as types
 use Rattle.core_code.specs.Machine.{Machine}
 use Rattle.core_code.specs.declared.code.Byte.TheVariants.{Frame}
 use Rattle.core_code.specs.declared.code.Byte.{Byte}
-use Rattle.lower_expr.specs.Bytes as lower
-use Rattle.lower_expr.specs.Bytes.{beyond}
+use Rattle.core_puts.specs.Bytes as lower
+use Rattle.core_puts.specs.Bytes.{beyond}
 use Rattle.lower_expr.specs.Layout.{place_width, value_width}
 use Rattle.lower_expr.specs.Lowering.{behind_pointer, shifts_by_constant}
-use Rattle.lower_expr.specs.Puts.{copies_if, operator}
+use Rattle.core_puts.specs.Puts.{copies_if, operator}
 use Rattle.lower_expr.specs.Rows as rows
 use Rattle.lower_expr.specs.Rows.{change_of, change_row, scaled, widened, written_row}
 use Rattle.lower_expr.specs.Spots.{spot_of}

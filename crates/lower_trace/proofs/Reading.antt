@@ -5,7 +5,7 @@ use Rattle.core_code.specs.Bytes.{Held, is_private}
 use Rattle.core_code.specs.Machine.{Machine, Task, is_valid, held_at, after_read, noting_if, static_bytes}
 use Rattle.core_code.specs.declared.code.Byte.{Byte}
 use Rattle.core_code.specs.declared.code.Byte.TheVariants.{Static}
-use Rattle.lower_expr.specs.Bytes.{behind}
+use Rattle.core_puts.specs.Bytes.{behind}
 use Rattle.lower_expr.specs.declared.places.Spot.TheVariants.{Fixed}
 use Rattle.pic_world.specs.World.{World, Happening, ReadOf, arrived, is_due, noted, world_as, event_as}
 use Rattle.pic_world.specs.declared.Cell.TheVariants as cells

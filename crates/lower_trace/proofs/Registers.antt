@@ -7,7 +7,7 @@ use Rattle.core_code.specs.Machine.{Machine, Task, Do as Todo, is_valid, may_hol
 use Rattle.core_code.specs.Tree as code
 use Rattle.core_code.specs.declared.code.Byte.{Byte}
 use Rattle.core_code.specs.declared.code.Byte.TheVariants.{Frame, Device}
-use Rattle.lower_expr.specs.Bytes.{beyond, behind}
+use Rattle.core_puts.specs.Bytes.{beyond, behind}
 use Rattle.lower_expr.specs.declared.places.Spot.TheVariants.{Fixed}
 use Rattle.pic_world.specs.World.{World, Happening, WriteOf, arrived, is_due, world_as, device_value, after_device_read, after_device_write, sets_gie}
 use Rattle.pic_world.specs.declared.Cell.TheVariants as cells

@@ -7,7 +7,7 @@ use Rattle.core_code.specs.Bytes.{Held, Memory, same_byte, with_byte, with_bytes
 use Rattle.core_code.specs.Machine.{Machine, Do as Todo}
 use Rattle.core_code.specs.Tree as code
 use Rattle.core_code.specs.declared.code.Byte.TheVariants.{Frame, Result}
-use Rattle.lower_expr.specs.Puts.{copies}
+use Rattle.core_puts.specs.Puts.{copies}
 use Rattle.lower_expr.specs.Spots.{spot_of}
 use Rattle.lower_stmt.specs.Ground.{Ground, first, result_byte}
 use Rattle.lower_stmt.specs.Ground as ground

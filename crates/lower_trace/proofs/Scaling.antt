@@ -10,7 +10,7 @@ use Rattle.core_code.specs.Operands.{fits_together}
 use Rattle.core_code.specs.Values as core
 use Rattle.core_code.specs.Values.{binary_value}
 use Rattle.core_code.specs.declared.code.Byte.TheVariants.{Frame}
-use Rattle.lower_expr.specs.Puts.{copies, operator}
+use Rattle.core_puts.specs.Puts.{copies, operator}
 use Rattle.lower_expr.specs.Rows.{multiples, odd_part, scaled}
 use Rattle.lower_trace.proofs.Changing.{OnlyAbove, above_same, above_then, above_written, datum_above}
 use Rattle.lower_trace.proofs.CodeLeft.{Scene, todo}

@@ -8,9 +8,9 @@ use Rattle.core_code.specs.Bytes.{behind as core_behind, is_private, with_bytes}
 use Rattle.core_code.specs.Machine.{Machine, Put, Task, loading}
 use Rattle.core_code.specs.declared.code.Byte.TheVariants.{Frame}
 use Rattle.core_code.specs.declared.code.Byte.{Byte}
-use Rattle.lower_expr.specs.Bytes.{beyond}
+use Rattle.core_puts.specs.Bytes.{beyond}
 use Rattle.lower_expr.specs.Layout.{width}
-use Rattle.lower_expr.specs.Puts.{copies}
+use Rattle.core_puts.specs.Puts.{copies}
 use Rattle.lower_expr.specs.Spots.{pointer_bytes, spot_of}
 use Rattle.lower_expr.specs.declared.places.Spot as place
 use Rattle.lower_expr.specs.declared.places.Spot.TheVariants.{Bit, Computed, Fixed}

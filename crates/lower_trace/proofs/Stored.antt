@@ -10,9 +10,9 @@ use Rattle.core_code.specs.Bytes.{Memory, with_bytes}
 use Rattle.core_code.specs.Machine.{Machine}
 use Rattle.core_code.specs.declared.code.Byte.TheVariants.{Frame}
 use Rattle.core_code.specs.declared.code.Byte.{Byte}
-use Rattle.lower_expr.specs.Bytes.{beyond}
+use Rattle.core_puts.specs.Bytes.{beyond}
 use Rattle.lower_expr.specs.Layout.{place_width, width}
-use Rattle.lower_expr.specs.Puts.{copies_if}
+use Rattle.core_puts.specs.Puts.{copies_if}
 use Rattle.lower_expr.specs.Rows.{given_byte, keeps_old}
 use Rattle.src_rules.specs.Runs.{one_if}
 use Rattle.lower_trace.proofs.Costs.{either}

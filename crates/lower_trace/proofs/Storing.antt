@@ -12,7 +12,7 @@ use Rattle.core_code.specs.Tree as code
 use Rattle.core_code.specs.Tree.{Tree}
 use Rattle.core_code.specs.declared.code.Byte.{Byte}
 use Rattle.core_code.specs.declared.code.Byte.TheVariants.{Frame, Result}
-use Rattle.lower_expr.specs.Bytes.{beyond, behind, operation_type}
+use Rattle.core_puts.specs.Bytes.{beyond, behind, operation_type}
 use Rattle.lower_expr.specs.Layout.{width, value_width}
 use Rattle.lower_expr.specs.Lowering.{behind_pointer}
 use Rattle.lower_expr.specs.Rows.{step_number}

@@ -10,10 +10,10 @@ use Rattle.c_typed.specs.declared.types.Qualified.{Qualified}
 use Rattle.core_code.specs.Machine.{Machine, Task}
 use Rattle.core_code.specs.Tree.{Tree}
 use Rattle.core_code.specs.declared.code.Byte.TheVariants.{Frame}
-use Rattle.lower_expr.specs.Bytes.{beyond, operation_type}
+use Rattle.core_puts.specs.Bytes.{beyond, operation_type}
 use Rattle.lower_expr.specs.Layout.{width, value_width}
 use Rattle.lower_expr.specs.Lowering.{expr_code, change_code, shifts_by_constant, behind_pointer}
-use Rattle.lower_expr.specs.Puts.{copies}
+use Rattle.core_puts.specs.Puts.{copies}
 use Rattle.lower_expr.specs.Rows.{binary_row, written_row, kept_row}
 use Rattle.lower_expr.specs.Spots.{spot_of}
 use Rattle.lower_expr.specs.declared.places.Spot as place

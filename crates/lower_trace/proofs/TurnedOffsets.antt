@@ -15,10 +15,10 @@ use Rattle.core_code.specs.Tree as code
 use Rattle.core_code.specs.Values as core
 use Rattle.core_code.specs.Values.{Extent, binary_value, value_in}
 use Rattle.core_code.specs.declared.code.Byte.TheVariants.{Frame}
-use Rattle.lower_expr.specs.Bytes as lower
-use Rattle.lower_expr.specs.Bytes.{beyond}
+use Rattle.core_puts.specs.Bytes as lower
+use Rattle.core_puts.specs.Bytes.{beyond}
 use Rattle.c_typed.specs.Sameness.{is_pointer}
-use Rattle.lower_expr.specs.Puts.{operator}
+use Rattle.core_puts.specs.Puts.{operator}
 use Rattle.lower_expr.specs.Rows.{offset_row, scaled}
 use Rattle.lower_trace.proofs.Beginnings.{Follow}
 use Rattle.lower_trace.proofs.Changing.{OnlyAbove, above_then, above_written, agrees_above, datum_above, holds_above, lower_above}

@@ -19,11 +19,11 @@ use Rattle.core_code.specs.Tree as code
 use Rattle.core_code.specs.Tree.{Tree}
 use Rattle.core_code.specs.declared.code.Byte.TheVariants.{Frame}
 use Rattle.core_code.specs.declared.code.Byte.{Byte}
-use Rattle.lower_expr.specs.Bytes as lower
-use Rattle.lower_expr.specs.Bytes.{beyond, operation_type}
+use Rattle.core_puts.specs.Bytes as lower
+use Rattle.core_puts.specs.Bytes.{beyond, operation_type}
 use Rattle.lower_expr.specs.Layout.{Layout, place_width, value_width, width}
 use Rattle.lower_expr.specs.Lowering.{behind_pointer, shifts_by_constant, step_of, update_of}
-use Rattle.lower_expr.specs.Puts.{copies_if, operator}
+use Rattle.core_puts.specs.Puts.{copies_if, operator}
 use Rattle.lower_expr.specs.Rows.{change_of, change_row, keeps_old, read_row, update_row, widened, wider, written_row}
 use Rattle.lower_expr.specs.Spots.{pointer_bytes, spot_of}
 use Rattle.lower_expr.specs.declared.places.Spot as place

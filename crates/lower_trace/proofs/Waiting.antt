@@ -2,7 +2,7 @@
 -- copied between fixed places. Byte code stands where it stood before, and no handler is due.
 use Rattle.c_typed.specs.Trees as tree
 use Rattle.core_code.specs.Machine.{Machine}
-use Rattle.lower_expr.specs.Bytes.{behind}
+use Rattle.core_puts.specs.Bytes.{behind}
 use Rattle.lower_expr.specs.Spots.{spot_of}
 use Rattle.lower_expr.specs.declared.places.Spot as place
 use Rattle.lower_expr.specs.declared.places.Spot.TheVariants.{Fixed}

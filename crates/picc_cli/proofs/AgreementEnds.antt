@@ -24,7 +24,7 @@ use Rattle.picc_cli.specs.Command.{Compared, Agree}
 use Rattle.picc_cli.specs.Finished.{HasTold}
 use Rattle.picc_cli.specs.Inputs.{IsScriptInput, HasNoScript}
 use Rattle.picc_cli.specs.RunsTold.{EndTells, FilesTell, IsExact, RunsTell}
-use Rattle.picc_cli.specs.Said.{Says}
+use Rattle.host_lines.specs.Said.{Says}
 use Rattle.picc_cli.specs.ScriptInput.{IsFile, IsScript}
 use Rattle.picc_cli.specs.Trace.{Reads}
 use Rattle.picc_cli.proofs.Files.{content_of, take_all}

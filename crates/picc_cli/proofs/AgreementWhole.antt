@@ -12,7 +12,7 @@ use Rattle.picc_cli.specs.Agreement.{AgreementTells, Knows, status_of}
 use Rattle.picc_cli.specs.Command.{Compared}
 use Rattle.picc_cli.specs.Finished.{AgreementCompletes, ReadsEnd}
 use Rattle.picc_cli.specs.Inputs.{HasNoScript}
-use Rattle.picc_cli.specs.Said.{GivesUp}
+use Rattle.host_lines.specs.Said.{GivesUp}
 use Rattle.picc_cli.specs.ScriptInput.{IsScript}
 use Rattle.picc_cli.proofs.FilesKept.{same_bytes, script_kept, script_ends, file_ends}
 

@@ -12,7 +12,7 @@ use Rattle.picc_cli.specs.Command.{Names, Form, Build}
 use Rattle.picc_cli.specs.Finished.{HasStatus, BuildHasFiles, BuildPrints, HasTold, IsComplete, IsRefusedText}
 use Rattle.picc_cli.specs.Lines.{cannot_read}
 use Rattle.picc_cli.specs.Outcome.{Refuses, BreaksOff, WorkedOn, is_fault, FailsWithoutInput, line_of, status_of}
-use Rattle.picc_cli.specs.Said.{GivesUp, HasOutcomeCause, Says}
+use Rattle.host_lines.specs.Said.{GivesUp, HasOutcomeCause, Says}
 use Rattle.picc_cli.proofs.Endings.{number_apart, up_apart, add_nothing, whole_line, counted_later, quiet_ends, quiet_nine}
 use Rattle.picc_cli.proofs.FilesKept.{same_bytes}
 

@@ -12,7 +12,7 @@ use Rattle.picc_cli.specs.Chip as simulation
 use Rattle.picc_cli.specs.Command.{Simulated, Compared, Form, Simulate, Agree}
 use Rattle.picc_cli.specs.Finished.{HasFaults, IsStatus, HasStatus, HasTold, IsComplete}
 use Rattle.picc_cli.specs.Inputs as inputs
-use Rattle.picc_cli.specs.Said.{GivesUp, HasOutcomeCause, Says}
+use Rattle.host_lines.specs.Said.{GivesUp, HasOutcomeCause, Says}
 use Rattle.picc_cli.specs.Simulation.{HasSimulated}
 use Rattle.pic_sim.specs.Going.{Known}
 use Rattle.picc_cli.proofs.AgreementWhole.{agreement_whole}

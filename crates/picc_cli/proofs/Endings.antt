@@ -3,7 +3,7 @@ use Rattle.std.proofs.Common.{◌≡◌, ℕ, ◌<◌, ◌≤◌, ◌⊎◌, inl
 use Rattle.std.proofs.lemmas.Bool.{cases_lt}
 use Rattle.std.proofs.Math.Seq.{take-length}
 use Rattle.host_io.specs.Host.{Kind, PrintsPrefix, IsCounted}
-use Rattle.picc_cli.specs.Said.{GivesUp, Says}
+use Rattle.host_lines.specs.Said.{GivesUp, Says}
 
 -- ---- statuses
 pub number_apart : {P : Type 0} (m n result : ℕ) → m < n → result ≡ m → result ≡ n → P

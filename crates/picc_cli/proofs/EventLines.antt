@@ -8,7 +8,7 @@ use Rattle.pic_map.specs.EventText.{CanBeShown, event_text}
 use Rattle.pic_map.specs.MapContent.{MapContent}
 use Rattle.picc_cli.specs.Lines.{event_lines}
 use Rattle.picc_cli.specs.Trace.{AllShown}
-use Rattle.picc_cli.proofs.Files.{longer, later}
+use Rattle.host_lines.proofs.Prefixes.{longer, later}
 
 module _ (content : MapContent) where
   abbrev lines : List Event → List ℕ

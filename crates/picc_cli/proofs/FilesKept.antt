@@ -9,7 +9,7 @@ use Rattle.picc_cli.specs.declared.inputs.FileEnd.{FileEnd}
 use Rattle.picc_cli.specs.declared.inputs.FileEnd.TheVariants as files
 use Rattle.picc_cli.specs.Inputs as inputs
 use Rattle.picc_cli.specs.Inputs.{IsHexInput, IsMapInput, IsScriptInput, HasNoHex, HasNoMap, HasNoScript}
-use Rattle.picc_cli.specs.Said.{GivesUp}
+use Rattle.host_lines.specs.Said.{GivesUp}
 use Rattle.picc_cli.specs.ScriptInput.{IsFile, IsScript}
 
 pub same_bytes : (o : Contents) (name bytes other : List ℕ) → o name ≡ Some bytes → o name ≡ Some other → bytes ≡ other

@@ -3,7 +3,7 @@ use Rattle.std.proofs.Common.{◌≡◌, ℕ, ◌<◌, ◌⊎◌, inl, inr, true
 use Rattle.host_io.specs.Host.{Kind, Contents, IsCounted}
 use Rattle.picc_cli.specs.Command.{Form}
 use Rattle.picc_cli.specs.Finished.{LacksFile, HasFaults, IsStatus, HasStatus}
-use Rattle.picc_cli.specs.Said.{GivesUp, HasOutcomeCause, Says}
+use Rattle.host_lines.specs.Said.{GivesUp, HasOutcomeCause, Says}
 use Rattle.picc_cli.proofs.Endings.{number_apart, counted_later}
 
 -- ---- statuses

@@ -6,9 +6,10 @@ use Rattle.picc_cli.specs.declared.simulating.Ended.TheVariants.{Done, Unmodelle
 use Rattle.picc_cli.specs.Chip.{Leads, IsChipText, last_line, status_of}
 use Rattle.picc_cli.specs.Command.{Simulated}
 use Rattle.picc_cli.specs.Lines.{event_lines}
-use Rattle.picc_cli.specs.Said.{GivesUp, Says, Prints}
+use Rattle.host_lines.specs.Said.{GivesUp, Says, Prints}
 use Rattle.picc_cli.proofs.Endings.{add_nothing, said_prefix}
-use Rattle.picc_cli.proofs.Files.{longer, later, take_all}
+use Rattle.host_lines.proofs.Prefixes.{longer, later}
+use Rattle.picc_cli.proofs.Files.{take_all}
 
 pub then_more : (p middle q : Option (List ℕ)) (a b : List ℕ) → middle ≡ option_map (λ t. t ++ a) p → q ≡ option_map (λ t. t ++ b) middle → q ≡ option_map (λ t. t ++ (a ++ b)) p
 then_more None middle q a b e f = f ∙ ap (option_map (λ t. t ++ b)) e

@@ -8,7 +8,7 @@ use Rattle.picc_core.specs.declared.refusal.Refusal.{Refusal}
 use Rattle.picc_cli.specs.Command.{Form, Generate}
 use Rattle.picc_cli.specs.Finished.{GenerationCompletes, HasFaults, IsStatus, HasStatus, HasTold, IsComplete}
 use Rattle.picc_cli.specs.Generated.{generated}
-use Rattle.picc_cli.specs.Said.{Says}
+use Rattle.host_lines.specs.Said.{Says}
 use Rattle.picc_cli.specs.Summary.{IsSized, refused_line, status_of}
 use Rattle.picc_cli.proofs.Endings.{number_apart, quiet_nine, up_apart}
 use Rattle.picc_cli.proofs.FormEnds.{said_status, with_status, up_not_two, NotTwo}

@@ -16,7 +16,7 @@ use Rattle.schedule.specs.ScriptFile.{ScriptContent, IsScriptFile, IsFirstBadLin
 use Rattle.picc_cli.specs.declared.inputs.FileEnd.{FileEnd}
 use Rattle.picc_cli.specs.declared.inputs.FileEnd.TheVariants.{CannotRead, TooLong, BadHex, BadLine, NoMemory}
 use Rattle.picc_cli.specs.Inputs.{IsHexInput, IsMapInput, IsScriptInput, HasBadMapLine, IsUnread, HasNoHex, HasNoMap, HasNoScript, FailsWithoutFile, hex_end, is_fault, is_no_memory, status_of}
-use Rattle.picc_cli.specs.Said.{HasOutcomeCause}
+use Rattle.host_lines.specs.Said.{HasOutcomeCause}
 use Rattle.picc_cli.specs.ScriptInput.{IsFile, HasBadLine}
 use Rattle.std.specs.Prelude.{if◌then◌else◌}
 use Rattle.picc_cli.proofs.FewObjects.{few_objects}

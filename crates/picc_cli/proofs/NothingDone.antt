@@ -9,7 +9,7 @@ use Rattle.picc_cli.specs.Command.{Form, Build, Trace, Simulate, Agree, Generate
 use Rattle.picc_cli.specs.Finished.{HasFiles, HasFaults, IsStatus, HasStatus, HasPrinted, HasTold, IsComplete}
 use Rattle.pic_sim.specs.Going.{Known}
 use Rattle.picc_cli.specs.Generated.{generated}
-use Rattle.picc_cli.specs.Said.{IsLast}
+use Rattle.host_lines.specs.Said.{IsLast}
 use Rattle.picc_cli.specs.Simulation.{HasSimulated, Knows}
 use Rattle.picc_cli.specs.Lines.{usage_line}
 use Rattle.picc_cli.specs.Summary.{summary_line}

@@ -12,7 +12,7 @@ use Rattle.picc_cli.specs.declared.simulating.Ended.{Ended}
 use Rattle.picc_cli.specs.declared.simulating.Ended.TheVariants.{Done, Unmodelled, NoHex, NoMap, NoScript, CannotPrint, NoMemory}
 use Rattle.picc_cli.specs.Chip.{RunPrints, last_line, status_of}
 use Rattle.picc_cli.specs.Command.{Simulated, Simulate}
-use Rattle.picc_cli.specs.Said.{IsLast, Says}
+use Rattle.host_lines.specs.Said.{IsLast, Says}
 use Rattle.picc_cli.specs.Inputs.{IsHexInput, IsMapInput, IsScriptInput}
 use Rattle.picc_cli.specs.ScriptInput.{IsFile}
 use Rattle.picc_cli.specs.Simulation.{HasSimulated, Knows, IsFed, IsRun, IsPrinted, Runs, Simulates, first_chip, first_look}

@@ -24,7 +24,7 @@ use Rattle.picc_cli.specs.declared.simulating.Ended.TheVariants.{Done, Unmodelle
 use Rattle.picc_cli.specs.Chip.{last_line, status_of}
 use Rattle.picc_cli.specs.Command.{Simulated}
 use Rattle.picc_cli.specs.Inputs.{IsHexInput, IsMapInput, IsScriptInput}
-use Rattle.picc_cli.specs.Said.{GivesUp, IsLast}
+use Rattle.host_lines.specs.Said.{GivesUp, IsLast}
 use Rattle.picc_cli.specs.ScriptInput.{IsFile}
 use Rattle.picc_cli.specs.Simulation.{Answers, ComesBy, IsRun, Knows, Simulates, StopsAsRun, first_chip, first_look, run_by, stops_within}
 use Rattle.picc_cli.proofs.FilesKept.{same_bytes, hex_kept, map_kept, script_kept}

@@ -9,7 +9,7 @@ use Rattle.picc_cli.specs.declared.simulating.Ended.TheVariants.{Done, Unmodelle
 use Rattle.picc_cli.specs.Chip.{status_of}
 use Rattle.picc_cli.specs.Command.{Simulated}
 use Rattle.picc_cli.specs.Inputs.{IsHexInput, IsMapInput, IsScriptInput}
-use Rattle.picc_cli.specs.Said.{GivesUp}
+use Rattle.host_lines.specs.Said.{GivesUp}
 use Rattle.picc_cli.specs.Simulation.{Knows, SimulationTells, SimulationCompletes}
 use Rattle.picc_cli.specs.ScriptInput.{IsFile}
 use Rattle.picc_cli.proofs.FilesKept.{same_bytes, hex_kept, map_kept, script_kept, file_ends}

@@ -16,7 +16,7 @@ use Rattle.picc_cli.specs.Chip as simulation
 use Rattle.picc_cli.specs.Command.{Asked, Simulated, Compared}
 use Rattle.picc_cli.specs.Inputs as inputs
 use Rattle.picc_cli.specs.Inputs.{IsHexInput, IsMapInput, HasNoHex, HasNoMap, FailsWithoutFile}
-use Rattle.picc_cli.specs.Said.{GivesUp}
+use Rattle.host_lines.specs.Said.{GivesUp}
 use Rattle.picc_cli.specs.ScriptInput.{IsFile}
 use Rattle.picc_cli.proofs.FilesKept.{hex_kept, map_kept}
 

@@ -14,11 +14,11 @@ use Rattle.picc_cli.specs.Command.{Asked, Form, Trace}
 use Rattle.picc_cli.specs.Finished.{LacksFile, HasFaults, IsStatus, HasStatus, TracePrints, TraceTells, HasTold, IsComplete, ReadsEnd}
 use Rattle.picc_cli.specs.Inputs as inputs
 use Rattle.picc_cli.specs.Lines.{cannot_read}
-use Rattle.picc_cli.specs.Said.{GivesUp, HasOutcomeCause, Says}
+use Rattle.host_lines.specs.Said.{GivesUp, HasOutcomeCause, Says}
 use Rattle.picc_cli.specs.ScriptInput.{IsScript}
 use Rattle.picc_cli.specs.Trace.{Knows, is_fault, FailsWithoutFiles, AreEventLines, last_line, Leads, IsTraceText, status_of}
 use Rattle.picc_cli.proofs.Endings.{number_apart, counted_later, quiet_ends, quiet_nine, said_prefix}
-use Rattle.picc_cli.proofs.Files.{longer, later}
+use Rattle.host_lines.proofs.Prefixes.{longer, later}
 use Rattle.picc_cli.proofs.FilesKept.{same_bytes, script_kept, script_ends, file_ends}
 use Rattle.picc_cli.proofs.FormEnds.{form_faults}
 use Rattle.picc_cli.proofs.FormPrints.{then_more, prefix_of_nothing}

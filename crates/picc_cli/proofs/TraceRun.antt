@@ -10,7 +10,7 @@ use Rattle.picc_cli.specs.declared.tracing.Ended.TheVariants.{Done, Undefined, R
 use Rattle.picc_cli.specs.Lines.{event_lines}
 use Rattle.picc_cli.specs.Trace.{IsMap, AllShown, AreLines, AreEventLines, Leads, Takes, BreaksLine, BreaksLines, Stops}
 use Rattle.picc_cli.proofs.Endings.{whole_line}
-use Rattle.picc_cli.proofs.Files.{later}
+use Rattle.host_lines.proofs.Prefixes.{later}
 
 -- what was printed since the run began, by lines of so many events at most
 abbrev pub HasLines : MapContent → ℕ → Option (List ℕ) → Option (List ℕ) → Type 0

@@ -15,7 +15,7 @@ use Rattle.picc_cli.specs.Lines.{event_lines}
 use Rattle.picc_cli.specs.Traced.{events_by, Prints, EndsBy, PrintsBy, Ran}
 use Rattle.picc_cli.specs.TracedStep.{events_at, Steps}
 use Rattle.picc_cli.proofs.Endings.{whole_line}
-use Rattle.picc_cli.proofs.Files.{later}
+use Rattle.host_lines.proofs.Prefixes.{later}
 use Rattle.src_machine.specs.Sources.{IsSource, TellsNext, event_in}
 use Rattle.src_machine.specs.Steps.{IsGiven}
 use Rattle.src_machine.specs.declared.machine.SrcEnd.TheVariants as ends

@@ -25,7 +25,7 @@ use Rattle.picc_cli.specs.declared.tracing.Ended.{Ended}
 use Rattle.picc_cli.specs.declared.tracing.Ended.TheVariants.{Done, Undefined, Refused, CannotReadText, NoScript, CannotPrint, NoMemory}
 use Rattle.picc_cli.specs.Command.{Asked, Form, Build, Trace, Simulate, Agree, Generate}
 use Rattle.picc_cli.specs.Inputs.{IsScriptInput}
-use Rattle.picc_cli.specs.Said.{Says}
+use Rattle.host_lines.specs.Said.{Says}
 use Rattle.picc_cli.specs.ScriptInput.{IsFile}
 use Rattle.picc_cli.specs.Trace.{IsRunEnd, last_line, status_of}
 use Rattle.picc_cli.specs.Traced.{HasTraced, Ran, RunsBy, Traces, map_of}

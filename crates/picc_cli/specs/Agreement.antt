@@ -10,7 +10,7 @@ use Rattle.picc_cli.specs.Inputs as inputs
 use Rattle.picc_cli.specs.Lines.{cannot_read, undefined_line}
 use Rattle.picc_cli.specs.Refusals.{refusal_line}
 use Rattle.picc_cli.specs.RunsTold.{IsExact}
-use Rattle.picc_cli.specs.Said.{GivesUp, IsLast}
+use Rattle.host_lines.specs.Said.{GivesUp, IsLast}
 use Rattle.picc_cli.specs.ScriptInput.{IsScript}
 use Rattle.picc_cli.specs.Trace.{Reads}
 

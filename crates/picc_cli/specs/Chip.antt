@@ -9,7 +9,7 @@ use Rattle.picc_cli.specs.Command.{Simulated}
 use Rattle.picc_cli.specs.HexReasons.{word_text}
 use Rattle.picc_cli.specs.Inputs as inputs
 use Rattle.picc_cli.specs.Inputs.{IsHexInput, IsMapInput, IsScriptInput, HasNoHex, HasNoMap, HasNoScript}
-use Rattle.picc_cli.specs.Said.{GivesUp}
+use Rattle.host_lines.specs.Said.{GivesUp}
 use Rattle.picc_cli.specs.Lines.{event_lines}
 use Rattle.picc_cli.specs.ScriptInput.{IsFile}
 use Rattle.picc_cli.specs.Trace.{AllShown}

@@ -13,7 +13,7 @@ use Rattle.picc_cli.specs.Generated.{generated}
 use Rattle.picc_cli.specs.Lines.{usage_line, cannot_read}
 use Rattle.picc_cli.specs.Outcome as build
 use Rattle.picc_cli.specs.Outcome.{Builds, Refuses, BreaksOff}
-use Rattle.picc_cli.specs.Said.{GivesUp, Prints}
+use Rattle.host_lines.specs.Said.{GivesUp, Prints}
 use Rattle.picc_cli.specs.Simulation.{SimulationCompletes}
 use Rattle.picc_cli.specs.Summary as generation
 use Rattle.picc_cli.specs.Summary.{IsGeneratedText, GenerationTells}

@@ -4,7 +4,6 @@ pub mod CommandView
 pub mod Clap
 pub mod Refusals
 pub mod Lines
-pub mod Said
 pub mod Outcome
 pub mod ScriptInput
 pub mod Trace

@@ -22,7 +22,7 @@ use Rattle.picc_cli.specs.Chip.{last_line, status_of}
 use Rattle.picc_cli.specs.Command.{Simulated, Form, Build, Trace, Simulate, Agree, Generate}
 use Rattle.picc_cli.specs.Inputs.{IsHexInput, IsMapInput, IsScriptInput, HasNoHex, HasNoMap, HasNoScript}
 use Rattle.picc_cli.specs.Lines.{event_lines}
-use Rattle.picc_cli.specs.Said.{GivesUp, IsLast}
+use Rattle.host_lines.specs.Said.{GivesUp, IsLast}
 use Rattle.picc_cli.specs.ScriptInput.{IsFile}
 use Rattle.picc_cli.specs.Trace.{AllShown}
 

@@ -17,7 +17,7 @@ use Rattle.picc_cli.specs.declared.tracing.Ended.TheVariants.{Done, Undefined, R
 use Rattle.picc_cli.specs.Command.{Asked, Form, Build, Trace, Simulate, Agree, Generate}
 use Rattle.picc_cli.specs.Inputs.{IsScriptInput}
 use Rattle.picc_cli.specs.Lines.{event_lines}
-use Rattle.picc_cli.specs.Said.{IsLast}
+use Rattle.host_lines.specs.Said.{IsLast}
 use Rattle.picc_cli.specs.ScriptInput.{IsFile}
 use Rattle.picc_cli.specs.Trace.{AllShown, last_line, status_of}
 use Rattle.picc_core.specs.Texts.{HasTree}

@@ -13,12 +13,13 @@ ghost use Rattle.picc_cli.specs.CommandView.{names_of};
 ghost use Rattle.picc_cli.specs.Finished.{HasFiles, HasFaults, HasStatus, HasPrinted, HasTold, IsComplete};
 ghost use Rattle.picc_cli.specs.declared.building.Outcome.TheVariants as outcomes;
 ghost use Rattle.picc_cli.specs.Outcome.{TellsWhy, WorkedOn, FailsWithoutInput, is_fault, line_of, status_of};
-ghost use Rattle.picc_cli.specs.Said.{Says, HasOutcomeCause};
+ghost use Rattle.host_lines.specs.Said.{Says, HasOutcomeCause};
 
 use crate::command::Files;
-use crate::say::{say, say_refusal};
+use crate::say::say_refusal;
 use hex_image::write_hex;
 use host_io::{Host, HostError, read_whole, write_whole};
+use host_lines::say;
 use pic_map::write_map;
 use picc_core::{Built as Program, CompileError, Refusal, compile};
 use std::alloc::{AllocError, Global};

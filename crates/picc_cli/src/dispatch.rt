@@ -11,11 +11,11 @@ ghost use Rattle.picc_cli.specs.Traced.{HasTraced};
 use crate::building::build_files;
 use crate::command::{Command, command_of};
 use crate::comparing::compare;
-use crate::say::say;
 use crate::simulating::simulate;
 use crate::summary::print_generated;
 use crate::tracing::trace;
 use host_io::Host;
+use host_lines::say;
 use pic_sim::Board;
 use std::alloc::Global;
 

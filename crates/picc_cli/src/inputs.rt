@@ -7,14 +7,15 @@ ghost use Rattle.picc_cli.specs.HexReasons.{hex_line as hex_line_of, hex_text as
 ghost use Rattle.picc_cli.specs.Inputs.{IsHexInput, IsMapInput, IsScriptInput, IsUnread, HasNoHex, HasNoMap, HasNoScript, FailsWithoutFile, fails_in, is_fault, line_of, status_of};
 ghost use Rattle.picc_cli.specs.Inputs.{hex_end as hex_end_of, is_no_memory};
 ghost use Rattle.picc_cli.specs.Lines.{located};
-ghost use Rattle.picc_cli.specs.Said.{Says, HasOutcomeCause};
+ghost use Rattle.host_lines.specs.Said.{Says, HasOutcomeCause};
 ghost use Rattle.picc_cli.specs.ScriptInput.{IsFile};
 ghost use Rattle.schedule.specs.ScriptFile as script_file;
 
 use crate::hex_reason::{hex_line, hex_text};
-use crate::say::{say, say_located};
+use crate::say::say_located;
 use hex_image::{HexError, read_hex};
 use host_io::{Host, HostError, read_whole};
+use host_lines::say;
 use pic_chip::Image;
 use pic_map::{Map, MapError, read_map};
 use pic_world::Script;

@@ -6,7 +6,7 @@ ghost use Rattle.call_graph.specs.Copies.{AreCopies};
 ghost use Rattle.host_io.specs.Host.{HasCause, NoFailure, PrintsPrefix};
 ghost use Rattle.pic_map.specs.EventText.{CanBeShown, event_text};
 ghost use Rattle.pic_map.specs.MapView.{content_of, object_of, frame_of};
-ghost use Rattle.picc_cli.specs.Said.{HasOutcomeCause};
+ghost use Rattle.host_lines.specs.Said.{HasOutcomeCause};
 ghost use Rattle.picc_cli.specs.Trace.{IsMap, IsRunEnd, Leads, Takes, Stops, BreaksLine, is_fault};
 ghost use Rattle.picc_cli.specs.Traced.{Ran, map_of};
 ghost use Rattle.picc_cli.specs.TracedStep.{CanStep, IsBehind, Steps, setting_by};

@@ -11,8 +11,9 @@ ghost use Rattle.picc_core.specs.Decided.{IsAcceptedText};
 
 use crate::generating::generate;
 use crate::refusal::push_counted;
-use crate::say::{say_line, say_refusal};
+use crate::say::say_refusal;
 use host_io::Host;
+use host_lines::say_line;
 use picc_core::{CompileError, front};
 use std::alloc::{AllocError, Global};
 

@@ -8,7 +8,7 @@ use Rattle.c_typed.specs.Trees.{Program, StaticTree}
 use Rattle.c_typed.specs.Types.{type_bytes}
 use Rattle.call_graph.specs.declared.types.FnCopy.{FnCopy}
 use Rattle.pic_map.specs.MapContent.{ObjectLine, FrameLine}
-use Rattle.ram_place.specs.Memory.{IsLowestIn, IsLowest, AreFull, HasNoPlace, Stands, regions}
+use Rattle.live_frames.specs.Memory.{IsLowestIn, IsLowest, AreFull, HasNoPlace, Stands, regions}
 use Rattle.ram_place.specs.Placement.{IsTaken, IsTakenFor, object_line, frame_line, IsObject, IsFrame, AreObjects, AreFrames, IsPlacing, LacksObject, LacksFrame, LacksFrameBehind}
 use Rattle.ram_place.specs.Sizes.{name_of, frame_bytes}
 use Rattle.ram_place.specs.declared.memory.Span.{Span}

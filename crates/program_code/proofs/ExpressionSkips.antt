@@ -9,10 +9,10 @@ use Rattle.c_typed.specs.Types.{type_of, place_type}
 use Rattle.core_code.specs.Tree as code
 use Rattle.core_code.specs.Tree.{Tree}
 use Rattle.core_code.specs.declared.code.Byte.TheVariants.{Frame, Result}
-use Rattle.lower_expr.specs.Bytes.{beyond, operation_type}
+use Rattle.core_puts.specs.Bytes.{beyond, operation_type}
 use Rattle.lower_expr.specs.Layout.{Layout, width, value_width, place_width, object_byte, copy_of}
 use Rattle.lower_expr.specs.Lowering.{behind_pointer, shifts_by_constant, change_code, is_pointer, arguments_width, expr_code, address_code, arguments_code}
-use Rattle.lower_expr.specs.Puts.{choice}
+use Rattle.core_puts.specs.Puts.{choice}
 use Rattle.lower_expr.specs.Rows.{tested, logical_row, step_number}
 use Rattle.lower_expr.specs.Spots.{spot_of}
 use Rattle.program_code.proofs.PutSkips.{AreClose, none, one, join, sets_close, choice_close, widened_close, tested_close, unary_close, logical_close, binary_close, offset_close, difference_close, member_close, pointer_close, address_close, value_close, assigned_close, update_close, step_close, called_close, struct_close}

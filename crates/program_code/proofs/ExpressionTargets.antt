@@ -8,10 +8,10 @@ use Rattle.c_typed.specs.Types.{type_of, place_type}
 use Rattle.core_code.specs.Tree as code
 use Rattle.core_code.specs.Tree.{Tree}
 use Rattle.core_code.specs.declared.code.Byte.TheVariants.{Frame, Result}
-use Rattle.lower_expr.specs.Bytes.{beyond, operation_type}
+use Rattle.core_puts.specs.Bytes.{beyond, operation_type}
 use Rattle.lower_expr.specs.Layout.{Layout, width, value_width, place_width, object_byte, copy_of}
 use Rattle.lower_expr.specs.Lowering.{behind_pointer, shifts_by_constant, change_code, is_pointer, arguments_width, expr_code, address_code, arguments_code}
-use Rattle.lower_expr.specs.Puts.{choice}
+use Rattle.core_puts.specs.Puts.{choice}
 use Rattle.lower_expr.specs.Rows.{tested, logical_row, step_number}
 use Rattle.lower_expr.specs.Spots.{spot_of}
 use Rattle.program_code.proofs.RowTargets.{AreBelow, none, one, join, sets_below, choice_below, widened_below, tested_below, unary_below, logical_below, binary_below, offset_below, difference_below, member_below, pointer_below, address_below, value_below, assigned_below, update_below, step_below, called_below, struct_below}

@@ -11,7 +11,7 @@ use Rattle.c_typed.specs.declared.expression.PlaceForm.{PlaceForm}
 use Rattle.call_graph.specs.declared.types.FnCopy.{FnCopy}
 use Rattle.core_code.specs.Tree.{Tree}
 use Rattle.core_code.specs.declared.code.Byte.TheVariants as bytes
-use Rattle.lower_expr.specs.Bytes.{beyond}
+use Rattle.core_puts.specs.Bytes.{beyond}
 use Rattle.lower_expr.specs.Layout.{Layout, value_width, copy_of}
 use Rattle.lower_expr.specs.Lowering.{pointer_code, behind_pointer, is_pointer, expr_code, address_code, arguments_code}
 use Rattle.lower_expr.specs.Rows.{offset_row, difference_row, member_row}

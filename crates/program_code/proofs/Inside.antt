@@ -15,7 +15,7 @@ use Rattle.c_typed.specs.Types.{type_bytes, value_bytes, type_of, place_type, is
 use Rattle.c_typed.specs.declared.calls.FnId.TheVariants as callee
 use Rattle.c_typed.specs.declared.types.Qualified.{Qualified}
 use Rattle.core_code.specs.declared.code.Byte.TheVariants as bytes
-use Rattle.lower_expr.specs.Bytes.{beyond}
+use Rattle.core_puts.specs.Bytes.{beyond}
 use Rattle.lower_expr.specs.Layout.{Layout, value_width, copy_of}
 use Rattle.lower_expr.specs.Lowering.{pointer_code, behind_pointer, shifts_by_constant, is_pointer, expr_code, address_code, arguments_code}
 use Rattle.lower_expr.specs.Rows.{offset_row, difference_row, member_row, address_row, struct_row}

@@ -16,8 +16,8 @@ use Rattle.core_code.specs.Tree as code
 use Rattle.core_code.specs.Tree.{Tree, trees_of}
 use Rattle.core_code.specs.declared.code.Byte.{Byte}
 use Rattle.core_code.specs.declared.code.Byte.TheVariants as bytes
-use Rattle.lower_expr.specs.Bytes.{beyond, little_beyond, behind, byte_at, number_type, is_wider}
-use Rattle.lower_expr.specs.Puts.{copies, copies_if, sets, operator, test_size, choice}
+use Rattle.core_puts.specs.Bytes.{beyond, little_beyond, behind, byte_at, number_type, is_wider}
+use Rattle.core_puts.specs.Puts.{copies, copies_if, sets, operator, test_size, choice}
 use Rattle.lower_expr.specs.Rows.{wider, widened_number, widened, tested, logical_row, shift_row, binary_row, odd_part, multiples, scaled, moved, moved_right, offset_row, difference_row, member_row, address_row, read_row, value_row, bit_row, written_row, assigned_row, called_row, side_of, taken, given, advance, advances, structure_bytes, through_row, struct_row}
 use Rattle.lower_expr.specs.Spots.{pointer_bytes}
 use Rattle.lower_expr.specs.declared.places.Spot.{Spot}

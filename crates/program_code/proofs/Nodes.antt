@@ -25,10 +25,10 @@ use Rattle.core_code.specs.Tree as code
 use Rattle.core_code.specs.Tree.{Tree}
 use Rattle.core_code.specs.declared.code.Byte.{Byte}
 use Rattle.core_code.specs.declared.code.Byte.TheVariants as bytes
-use Rattle.lower_expr.specs.Bytes.{beyond, behind, operation_type}
+use Rattle.core_puts.specs.Bytes.{beyond, behind, operation_type}
 use Rattle.lower_expr.specs.Layout.{Layout, width, value_width, place_width}
 use Rattle.lower_expr.specs.Lowering.{shifts_by_constant, change_code, arguments_width, update_of, step_of}
-use Rattle.lower_expr.specs.Puts.{copies_if, sets, operator, test_size, choice}
+use Rattle.core_puts.specs.Puts.{copies_if, sets, operator, test_size, choice}
 use Rattle.lower_expr.specs.Rows.{is_shift, type_of_size, unary_row, binary_row, value_row, read_row, written_row, widened, logical_row, tested, change_of, change_row, given_byte, update_row, step_row, step_number, keeps_old, called_row, struct_row, assigned_row, address_row}
 use Rattle.lower_expr.specs.Spots.{spot_of, member_spot, pointer_bytes}
 use Rattle.lower_expr.specs.declared.places.Spot.{Spot}

@@ -20,7 +20,7 @@ use Rattle.c_typed.specs.declared.types.Ty.TheVariants.{Void, Int, Pointer, Arra
 use Rattle.call_graph.specs.Numbers as numbers
 use Rattle.call_graph.specs.Numbers.{is_helper, is_copy_of}
 use Rattle.call_graph.specs.declared.types.FnCopy.{FnCopy}
-use Rattle.lower_expr.specs.Bytes.{beyond}
+use Rattle.core_puts.specs.Bytes.{beyond}
 use Rattle.lower_expr.specs.Layout.{static_number}
 use Rattle.lower_stmt.specs.Frames.{offsets_from, end_from, base_of, layout_for}
 use Rattle.pic_map.specs.declared.FrameLine.{FrameLine}

@@ -15,8 +15,8 @@ use Rattle.core_code.specs.Tree as code
 use Rattle.core_code.specs.Tree.{Tree, many}
 use Rattle.core_code.specs.declared.code.Byte.{Byte}
 use Rattle.core_code.specs.declared.code.Byte.TheVariants as bytes
-use Rattle.lower_expr.specs.Bytes.{behind, little_beyond, byte_at}
-use Rattle.lower_expr.specs.Puts.{copies, copies_if, sets, operator, test_size, choice}
+use Rattle.core_puts.specs.Bytes.{behind, little_beyond, byte_at}
+use Rattle.core_puts.specs.Puts.{copies, copies_if, sets, operator, test_size, choice}
 use Rattle.lower_expr.specs.Rows.{wider, widened}
 use Rattle.pic_world.specs.declared.Root.{Root}
 use Rattle.select_code.specs.Sized.{is_cut}

@@ -18,10 +18,10 @@ use Rattle.core_code.specs.Tree as code
 use Rattle.core_code.specs.Tree.{Tree, trees_of}
 use Rattle.core_code.specs.declared.code.Byte.{Byte}
 use Rattle.core_code.specs.declared.code.Byte.TheVariants.{Frame, Result}
-use Rattle.lower_expr.specs.Bytes.{behind, beyond, byte_at, is_wider, number_type, operation_type}
+use Rattle.core_puts.specs.Bytes.{behind, beyond, byte_at, is_wider, number_type, operation_type}
 use Rattle.lower_expr.specs.Layout.{Layout, width, value_width}
 use Rattle.lower_expr.specs.Lowering.{pointer_code, shifts_by_constant, update_of, step_of}
-use Rattle.lower_expr.specs.Puts.{copies, copies_if, sets, operator, choice}
+use Rattle.core_puts.specs.Puts.{copies, copies_if, sets, operator, choice}
 use Rattle.lower_expr.specs.Rows.{wider, widened_number, widened, tested, type_of_size, unary_row, logical_row, shift_row, binary_row, odd_part, multiples, scaled, moved, moved_right, offset_row, quotient_row, difference_row, member_row, address_row, read_row, value_row, written_row, kept_row, assigned_row, change_of, change_row, given_byte, keeps_old, update_row, step_row, called_row, side_of, taken, given, advance, structure_bytes, through_row, struct_row}
 use Rattle.lower_expr.specs.Spots.{pointer_bytes}
 use Rattle.lower_expr.specs.declared.places.Spot.{Spot}

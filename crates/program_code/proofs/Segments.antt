@@ -18,8 +18,8 @@ use Rattle.call_graph.specs.declared.types.FnCopy.{FnCopy}
 use Rattle.core_code.specs.Tree as core
 use Rattle.core_code.specs.Tree.{Tree, many}
 use Rattle.core_code.specs.declared.code.Byte.{Byte}
-use Rattle.lower_expr.specs.Bytes.{operation_type}
-use Rattle.lower_expr.specs.Puts.{sets, test_size}
+use Rattle.core_puts.specs.Bytes.{operation_type}
+use Rattle.core_puts.specs.Puts.{sets, test_size}
 use Rattle.lower_stmt.specs.Ground.{Ground, first, temporary, value_code, effect_code}
 use Rattle.lower_stmt.specs.Ground as ground
 use Rattle.lower_stmt.specs.Labels.{segments_before}

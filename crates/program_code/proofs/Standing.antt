@@ -24,7 +24,7 @@ use Rattle.c_typed.specs.declared.types.Ty.TheVariants.{Void, Int, Pointer, Arra
 use Rattle.core_code.specs.Tree.{Tree}
 use Rattle.core_code.specs.declared.code.Byte.{Byte}
 use Rattle.core_code.specs.declared.code.Byte.TheVariants as bytes
-use Rattle.lower_expr.specs.Bytes.{beyond, behind, operation_type}
+use Rattle.core_puts.specs.Bytes.{beyond, behind, operation_type}
 use Rattle.lower_expr.specs.Layout.{Layout, width, place_width, static_number, object_byte}
 use Rattle.lower_expr.specs.Lowering.{pointer_code}
 use Rattle.lower_expr.specs.Spots.{spot_of, member_spot, pointer_bytes}

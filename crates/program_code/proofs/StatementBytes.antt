@@ -16,10 +16,10 @@ use Rattle.c_typed.specs.declared.statement.TCase.{TCase}
 use Rattle.core_code.specs.Tree as core
 use Rattle.core_code.specs.Tree.{Tree, many}
 use Rattle.core_code.specs.declared.code.Byte.{Byte}
-use Rattle.lower_expr.specs.Bytes.{behind, operation_type}
+use Rattle.core_puts.specs.Bytes.{behind, operation_type}
 use Rattle.lower_expr.specs.Layout.{copy_of}
 use Rattle.lower_expr.specs.Lowering.{pointer_code, address_code}
-use Rattle.lower_expr.specs.Puts.{copies, sets, test_size}
+use Rattle.core_puts.specs.Puts.{copies, sets, test_size}
 use Rattle.lower_expr.specs.Rows.{struct_row}
 use Rattle.lower_expr.specs.Spots.{spot_of, pointer_bytes}
 use Rattle.lower_expr.specs.declared.places.Spot.TheVariants.{Fixed}

@@ -14,10 +14,10 @@ use Rattle.call_graph.specs.declared.types.FnCopy.{FnCopy}
 use Rattle.core_code.specs.Tree as core
 use Rattle.core_code.specs.Tree.{Tree, many, trees_of}
 use Rattle.core_code.specs.declared.code.Byte.{Byte}
-use Rattle.lower_expr.specs.Bytes.{behind, operation_type}
+use Rattle.core_puts.specs.Bytes.{behind, operation_type}
 use Rattle.lower_expr.specs.Layout.{known_copy, copy_in, copy_of}
 use Rattle.lower_expr.specs.Lowering.{address_code}
-use Rattle.lower_expr.specs.Puts.{choice, test_size}
+use Rattle.core_puts.specs.Puts.{choice, test_size}
 use Rattle.lower_expr.specs.Spots.{spot_of}
 use Rattle.lower_expr.specs.declared.places.Spot.TheVariants.{Fixed}
 use Rattle.lower_stmt.specs.Bodies.{code_of}

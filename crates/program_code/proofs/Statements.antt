@@ -14,7 +14,7 @@ use Rattle.c_typed.specs.declared.statement.LoopForm.TheVariants.{While, Do, For
 use Rattle.call_graph.specs.declared.types.FnCopy.{FnCopy}
 use Rattle.core_code.specs.Tree as core
 use Rattle.core_code.specs.Tree.{Tree, many}
-use Rattle.lower_expr.specs.Puts.{copies}
+use Rattle.core_puts.specs.Puts.{copies}
 use Rattle.lower_stmt.specs.Declarators.{scalar_code, list_code}
 use Rattle.lower_stmt.specs.Ground.{Ground, first, result_byte, local_byte, local_bytes, value_code, effect_code}
 use Rattle.lower_stmt.specs.Ground as ground

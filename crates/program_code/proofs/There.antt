@@ -17,7 +17,7 @@ use Rattle.pic_map.specs.declared.FrameLine.{FrameLine}
 use Rattle.pic_map.specs.declared.ObjLine.{ObjLine}
 use Rattle.pic_map.specs.declared.Placed.{Placed}
 use Rattle.pic_world.specs.declared.Root.{Root}
-use Rattle.ram_place.specs.Memory.{IsLowest, regions, Stands}
+use Rattle.live_frames.specs.Memory.{IsLowest, regions, Stands}
 use Rattle.ram_place.specs.Placement.{IsPlacing}
 use Rattle.ram_place.specs.Sizes.{frame_bytes}
 use Rattle.ram_place.specs.declared.memory.Span.{Span}

@@ -14,7 +14,7 @@ use Rattle.c_typed.specs.Types.{type_bytes}
 use Rattle.c_typed.specs.declared.types.Qualified.{Qualified}
 use Rattle.c_typed.specs.declared.types.Ty.{Ty}
 use Rattle.c_typed.specs.declared.types.Ty.TheVariants.{Void, Int, Pointer, Array, Struct}
-use Rattle.lower_expr.specs.Bytes.{operation_type}
+use Rattle.core_puts.specs.Bytes.{operation_type}
 use Rattle.program_code.proofs.Chain.{never}
 use Rattle.program_code.proofs.Operators.{whole_bytes}
 use Rattle.program_code.proofs.Rows.{some_bytes}

@@ -24,10 +24,10 @@ use Rattle.core_code.specs.Tree as code
 use Rattle.core_code.specs.Tree.{Tree}
 use Rattle.core_code.specs.declared.code.Byte.{Byte}
 use Rattle.core_code.specs.declared.code.Byte.TheVariants as bytes
-use Rattle.lower_expr.specs.Bytes.{beyond, behind, operation_type}
+use Rattle.core_puts.specs.Bytes.{beyond, behind, operation_type}
 use Rattle.lower_expr.specs.Layout.{Layout, width, value_width, place_width, copy_of}
 use Rattle.lower_expr.specs.Lowering.{shifts_by_constant, change_code, arguments_width, update_of, step_of}
-use Rattle.lower_expr.specs.Puts.{copies_if, sets, operator, choice}
+use Rattle.core_puts.specs.Puts.{copies_if, sets, operator, choice}
 use Rattle.lower_expr.specs.Rows.{tested, type_of_size, unary_row, logical_row, binary_row, widened, read_row, written_row, value_row, assigned_row, called_row, change_of, change_row, given_byte, keeps_old, update_row, step_row, step_number}
 use Rattle.lower_expr.specs.Spots.{spot_of, pointer_bytes}
 use Rattle.lower_expr.specs.declared.places.Spot.{Spot}

@@ -9,7 +9,7 @@ use Rattle.c_typed.specs.Trees.{Program, StaticTree}
 use Rattle.c_typed.specs.Types.{type_bytes}
 use Rattle.c_typed.specs.Words.{statics_bytes, start_size}
 use Rattle.pic_map.specs.MapContent.{ObjectLine}
-use Rattle.ram_place.specs.Memory.{covers, count_below, counted, IsLowest, Stands, regions}
+use Rattle.live_frames.specs.Memory.{covers, count_below, counted, IsLowest, Stands, regions}
 use Rattle.ram_place.specs.Placement.{objects_have, IsTaken, AreObjects, ObjectsAreDisjoint}
 
 -- ---- counts

@@ -6,9 +6,10 @@ use Rattle.c_typed.specs.Chains.{graph_of}
 use Rattle.c_typed.specs.Trees.{StaticTree, Program}
 use Rattle.call_graph.specs.declared.types.FnCopy.{FnCopy}
 use Rattle.pic_map.specs.MapContent.{ObjectLine, FrameLine}
-use Rattle.ram_place.specs.Memory.{covers, Stands, AreDisjoint}
-use Rattle.ram_place.specs.Placement.{MayBeLive, objects_have, LiveFramesHave, IsTaken, IsTakenFor, IsPlacing, LiveFramesAreDisjoint, FramesAreClear, ObjectsAreDisjoint}
-use Rattle.ram_place.proofs.FreeRuns.{stands_free}
+use Rattle.live_frames.specs.Memory.{covers, Stands, AreDisjoint}
+use Rattle.live_frames.specs.Together.{MayBeLive, LiveFramesHave}
+use Rattle.ram_place.specs.Placement.{objects_have, IsTaken, IsTakenFor, IsPlacing, LiveFramesAreDisjoint, FramesAreClear, ObjectsAreDisjoint}
+use Rattle.live_frames.proofs.FreeRuns.{stands_free}
 
 get_take : {X : Type 0} (xs : List X) (k j : ℕ) (x : X) → j < k → slice_get xs j ≡ Some x → slice_get (take k xs) j ≡ Some x
 get_take {X} [] k j x less got = absurd (cc)

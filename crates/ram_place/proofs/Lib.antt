@@ -1,7 +1,5 @@
 pub mod Arguments
-pub mod Connected
 pub mod Digits
-pub mod FreeRuns
 pub mod Lawful
 pub mod Loops
 pub mod Standing

@@ -11,12 +11,13 @@ use Rattle.call_graph.specs.declared.types.FnCopy.{FnCopy}
 use Rattle.pic_map.specs.MapContent.{ObjectLine, FrameLine}
 use Rattle.pic_map.specs.declared.FrameLine as code
 use Rattle.ram_place.specs.Answers.{TellsObject, TellsFrame}
-use Rattle.ram_place.specs.Memory.{is_taken, covers, Stands, HasNoPlace}
-use Rattle.ram_place.specs.Placement.{object_line, frame_line, objects_have, frames_have, LiveFramesHave, IsTaken, IsTakenFor, IsObject, IsFrame, AreObjects, AreFrames}
+use Rattle.live_frames.specs.Memory.{is_taken, covers, Stands, HasNoPlace}
+use Rattle.live_frames.specs.Together.{LiveFramesHave}
+use Rattle.ram_place.specs.Placement.{object_line, frame_line, objects_have, frames_have, IsTaken, IsTakenFor, IsObject, IsFrame, AreObjects, AreFrames}
 use Rattle.ram_place.specs.Sizes as sizes
 use Rattle.ram_place.specs.declared.placing.PlaceError.{PlaceError}
 use Rattle.ram_place.specs.declared.placing.PlaceError.TheVariants.{NoMemory, Ram}
-use Rattle.ram_place.proofs.FreeRuns.{too_large, stands_too, no_place_too}
+use Rattle.live_frames.proofs.FreeRuns.{too_large, stands_too, no_place_too}
 
 -- a size that a region holds is told as it is
 uncapped : (n size : ℕ) → size ≡ capped n → size ≤ 96 → size ≡ n

@@ -21,16 +21,16 @@ use Rattle.pic_map.specs.MapView.{object_of, frame_of}
 use Rattle.pic_map.specs.declared.ObjLine.{ObjLine}
 use Rattle.pic_map.specs.declared.FrameLine as code
 use Rattle.ram_place.specs.Answers.{TellsPlacing, TellsObject, TellsFrame, TellsObjects, TellsFrames}
-use Rattle.ram_place.specs.Live.{IsGraphOf}
-use Rattle.ram_place.specs.Memory.{is_taken, covers, Stands, HasNoPlace}
+use Rattle.live_frames.specs.Live.{IsGraphOf}
+use Rattle.live_frames.specs.Memory.{is_taken, covers, Stands, HasNoPlace}
 use Rattle.ram_place.specs.Placement.{objects_have, IsTaken, IsTakenFor, AreObjects, AreFrames, IsPlacing, LacksObject, LacksFrame}
-use Rattle.ram_place.specs.declared.live.Graph.{Graph}
+use Rattle.live_frames.specs.declared.live.Graph.{Graph}
 use Rattle.ram_place.specs.declared.placing.Objects.{Objects}
 use Rattle.pic_map.specs.declared.Placed.{Placed}
 use Rattle.ram_place.specs.declared.placing.PlaceError.{PlaceError}
 use Rattle.ram_place.specs.declared.placing.PlaceError.TheVariants.{NoMemory, Ram}
-use Rattle.ram_place.proofs.Connected.{got_of, rows_length}
-use Rattle.ram_place.proofs.FreeRuns.{no_place_too}
+use Rattle.live_frames.proofs.Connected.{got_of, rows_length}
+use Rattle.live_frames.proofs.FreeRuns.{no_place_too}
 use Rattle.ram_place.proofs.Standing.{objects_pushed, frames_pushed, objects_have_more}
 
 none_got : {X : Type 0} (xs : List X) (k : ℕ) (x : X) → xs ≡ [] → slice_get xs k ≡ Some x → ⊥

@@ -9,7 +9,7 @@ use Rattle.pic_map.specs.MapContent as content
 use Rattle.pic_map.specs.MapView.{object_of, frame_of}
 use Rattle.pic_map.specs.declared.ObjLine.{ObjLine}
 use Rattle.pic_map.specs.declared.FrameLine.{FrameLine}
-use Rattle.ram_place.specs.Memory.{is_taken, Stands, HasNoPlace}
+use Rattle.live_frames.specs.Memory.{is_taken, Stands, HasNoPlace}
 use Rattle.ram_place.specs.Placement.{object_line, frame_line, objects_have, AreObjects, AreFrames, IsPlacing, LacksObject, LacksFrame, LacksFrameBehind}
 use Rattle.ram_place.specs.Sizes as sizes
 use Rattle.ram_place.specs.declared.placing.Objects.{Objects}

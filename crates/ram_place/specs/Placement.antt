@@ -1,17 +1,14 @@
 -- Where the static objects and the frames of a program stand (compiled stack as in the HI-TECH PICC manual; one copy of a
 -- function for each root, and the order of placing, are the project's own).
 use Rattle.std.specs.Prelude.{◌≡◌, ℕ, ◌+◌, ◌<◌, Bool, true, false, ◌||◌, ◌⊎◌, List, [], ◌∷◌, length, take, Some, slice_get}
-use Rattle.c_typed.specs.Chains.{number_of, graph_of, Reaches}
+use Rattle.c_typed.specs.Chains.{graph_of}
 use Rattle.c_typed.specs.Trees.{StaticTree, Program}
 use Rattle.c_typed.specs.Types.{type_bytes}
 use Rattle.call_graph.specs.declared.types.FnCopy.{FnCopy}
 use Rattle.pic_map.specs.MapContent.{ObjectLine, FrameLine}
-use Rattle.ram_place.specs.Memory.{covers, AreDisjoint, Stands, HasNoPlace, count_below}
+use Rattle.live_frames.specs.Memory.{covers, AreDisjoint, Stands, HasNoPlace, count_below}
+use Rattle.live_frames.specs.Together.{MayBeLive, LiveFramesHave}
 use Rattle.ram_place.specs.Sizes as sizes
-
--- Two copies may be live together where their roots differ, or one reaches the other.
-abbrev pub MayBeLive : List (List ℕ) → ℕ → FnCopy → FnCopy → Type 0
-MayBeLive graph functions a b = (a.root ≡ b.root → ⊥) ⊎ (Reaches graph (number_of functions a.function) (number_of functions b.function) ⊎ Reaches graph (number_of functions b.function) (number_of functions a.function))
 
 -- the line of a static object, and that of a copy's frame, at an address
 abbrev pub object_line : Program → StaticTree → ℕ → ObjectLine
@@ -28,13 +25,6 @@ objects_have (line ∷ lines) x = covers line.address line.size x || objects_hav
 abbrev pub frames_have : List FrameLine → ℕ → Bool
 frames_have [] x = false
 frames_have (line ∷ lines) x = covers line.address line.size x || frames_have lines x
-
--- One of the frames that may be live together with that of the copy has the byte at x. The frames are those of the first of the
--- copies.
-abbrev pub LiveFramesHave : List (List ℕ) → ℕ → FnCopy → List FnCopy → List FrameLine → ℕ → Type 0
-LiveFramesHave graph functions copy [] lines x = ⊥
-LiveFramesHave graph functions copy (other ∷ others) [] x = ⊥
-LiveFramesHave graph functions copy (other ∷ others) (line ∷ lines) x = (MayBeLive graph functions other copy × (covers line.address line.size x ≡ true)) ⊎ LiveFramesHave graph functions copy others lines x
 
 -- An object overlaps no earlier one.
 abbrev pub IsTaken : List ObjectLine → ℕ → Type 0

@@ -6,8 +6,6 @@
 
 mod amount;
 mod frame;
-mod live;
-mod memory;
 mod naming;
 mod placing;
 mod room;

@@ -5,17 +5,16 @@ ghost use Rattle.c_typed.specs.Views.{program_of, static_of};
 ghost use Rattle.pic_map.specs.MapView.{object_of, frame_of};
 ghost use Rattle.call_graph.specs.Copies.{AreCopies};
 ghost use Rattle.ram_place.specs.Answers as answers;
-ghost use Rattle.ram_place.specs.Live.{IsGraphOf, IsSound, IsIn};
-ghost use Rattle.ram_place.specs.Memory.{is_taken};
+ghost use Rattle.live_frames.specs.Live.{IsGraphOf, IsSound, IsIn};
+ghost use Rattle.live_frames.specs.Memory.{is_taken};
 ghost use Rattle.ram_place.specs.Placement as stated;
 ghost use Rattle.ram_place.specs.declared.placing.PlaceError.TheVariants.{NoMemory};
 
 use crate::frame::frame_bytes;
-use crate::live::Graph;
-use crate::memory::{Span, Taken};
 use crate::naming::{copied, name_of};
 use c_typed::{Static, Typed, bytes_of};
 use call_graph::{Copies, FnCopy};
+use live_frames::{Graph, Span, Taken};
 use pic_map::{FrameLine, ObjLine, Placed};
 use std::alloc::{AllocError, Global};
 

@@ -2,7 +2,7 @@ use Rattle.std.proofs.Common.{◌∙◌, arith}
 use Rattle.pic_map.specs.MapView.{content_of}
 use Rattle.picc_cli.proofs.ChipNames.{one_shown}
 use Rattle.picc_cli.proofs.EventLines.{more_shown, more_printed, line_broken}
-use Rattle.picc_cli.proofs.Files.{on_err}
+use Rattle.host_lines.proofs.Prefixes.{on_err}
 use Rattle.picc_cli.proofs.simulating.print_events.Goals as goal
 
 pub returns-in_err-print_event-clause-prefix : goal.returns-in_err-print_event-clause-prefix

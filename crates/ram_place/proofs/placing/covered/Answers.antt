@@ -1,8 +1,8 @@
 use Rattle.std.proofs.Common.{◌≡◌, ℕ, Bool, ◌||◌, map, ap, ◌∙◌}
 use Rattle.pic_map.specs.MapView.{object_of, frame_of}
-use Rattle.ram_place.specs.Memory.{is_taken}
+use Rattle.live_frames.specs.Memory.{is_taken}
 use Rattle.ram_place.specs.Placement.{objects_have, frames_have}
-use Rattle.ram_place.proofs.FreeRuns.{same_count}
+use Rattle.live_frames.proofs.FreeRuns.{same_count}
 use Rattle.ram_place.proofs.placing.covered.Goals as goal
 
 pub returns : goal.returns

@@ -1,6 +1,6 @@
 use Rattle.std.proofs.Common.{◌≡◌, ℕ, true}
 use Rattle.c_typed.specs.Views.{program_of}
-use Rattle.ram_place.specs.Memory.{is_taken}
+use Rattle.live_frames.specs.Memory.{is_taken}
 use Rattle.ram_place.specs.Sizes as sizes
 use Rattle.ram_place.proofs.Standing.{frame_told, none_uncapped}
 use Rattle.ram_place.proofs.placing.frame_line.Goals as goal

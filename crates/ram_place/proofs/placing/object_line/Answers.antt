@@ -2,7 +2,7 @@ use Rattle.std.proofs.Common.{◌≡◌, ℕ, List, map, true, ap, ◌∙◌, su
 use Rattle.c_typed.specs.Types.{type_bytes}
 use Rattle.c_typed.specs.Views.{program_of, static_of, size_of}
 use Rattle.c_typed.specs.declared.types.Structure.{Structure}
-use Rattle.ram_place.specs.Memory.{is_taken, HasNoPlace}
+use Rattle.live_frames.specs.Memory.{is_taken, HasNoPlace}
 use Rattle.ram_place.proofs.Standing.{object_told}
 use Rattle.ram_place.proofs.placing.object_line.Goals as goal
 

@@ -1,7 +1,7 @@
 use Rattle.std.proofs.Common.{◌≡◌, ℕ, ◌<◌, length, map}
 use Rattle.c_typed.specs.Views.{program_of}
 use Rattle.pic_map.specs.MapView.{object_of}
-use Rattle.ram_place.specs.Memory.{is_taken}
+use Rattle.live_frames.specs.Memory.{is_taken}
 use Rattle.ram_place.specs.Placement.{AreObjects, objects_have}
 use Rattle.ram_place.proofs.placing.place_objects.Given as goal
 

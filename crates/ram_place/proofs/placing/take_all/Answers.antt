@@ -2,9 +2,9 @@ use Rattle.std.proofs.Common.{◌≡◌, ℕ, ◌+◌, ◌≤◌, Bool, ◌||◌
 use Rattle.std.proofs.lemmas.List.{length-map, drop_all}
 use Rattle.pic_map.specs.MapContent.{FrameLine}
 use Rattle.pic_map.specs.MapView.{frame_of}
-use Rattle.ram_place.specs.Memory.{is_taken}
+use Rattle.live_frames.specs.Memory.{is_taken}
 use Rattle.ram_place.specs.Placement.{frames_have}
-use Rattle.ram_place.proofs.Connected.{drop_got, got_of}
+use Rattle.live_frames.proofs.Connected.{drop_got, got_of}
 use Rattle.ram_place.proofs.Standing.{frames_have_more, frames_have_none}
 use Rattle.ram_place.proofs.placing.take_all.Goals as goal
 

@@ -1,6 +1,6 @@
 use Rattle.std.proofs.Common.{◌≡◌, ℕ, ◌<◌, ◌||◌, map, drop}
 use Rattle.pic_map.specs.MapView.{frame_of}
-use Rattle.ram_place.specs.Memory.{is_taken}
+use Rattle.live_frames.specs.Memory.{is_taken}
 use Rattle.ram_place.specs.Placement.{frames_have}
 use Rattle.ram_place.proofs.placing.take_all.Given as goal
 

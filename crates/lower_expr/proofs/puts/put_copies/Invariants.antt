@@ -1,7 +1,0 @@
-use Rattle.std.proofs.Common.{◌≡◌, ◌++◌}
-use Rattle.core_code.specs.View.{trees_in}
-use Rattle.lower_expr.specs.Puts.{copies}
-use Rattle.lower_expr.proofs.puts.put_copies.Given as goal
-
-abbrev pub invariant-loop-i : goal.invariant-loop-i
-invariant-loop-i l = trees_in l.out.items ≡ trees_in l.fn.out.items ++ copies l.to l.from l.i

@@ -1,6 +1,0 @@
-use Rattle.std.proofs.Common.{◌≡◌, true}
-use Rattle.ram_place.specs.Memory.{is_taken, IsFree}
-use Rattle.ram_place.proofs.memory.Taken.is_free.Given as goal
-
-abbrev pub invariant-loop-k : goal.invariant-loop-k
-invariant-loop-k l = IsFree (λ x. is_taken l.self.marks x ≡ true) l.span.address l.k
