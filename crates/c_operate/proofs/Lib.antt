@@ -1,3 +1,4 @@
 pub mod PlaceSteps
 pub mod WriteSteps
 pub mod CallSteps
+pub mod OperatorSteps

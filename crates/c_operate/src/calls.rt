@@ -1,11 +1,12 @@
 //! Calls of functions (ISO/IEC 9899:1990, 6.3.2.2).
 
-ghost use Rattle.std.specs.Prelude.{◌≡◌, ◌∷◌, [], MatchOption, length, map, nat_eq, slice_get};
+ghost use Rattle.std.specs.Prelude.{◌≡◌, ◌∷◌, [], Err, MatchOption, length, map, nat_eq, slice_get};
 ghost use Rattle.c_typed.specs.Views.{arguments_of, expression_of};
 ghost use Rattle.type_rules.specs.Known.{Known};
 ghost use Rattle.type_rules.specs.Writes as rule;
 ghost use Rattle.c_tables.specs.Answers.{Answers, Learns};
 ghost use Rattle.c_tables.specs.Tables.{known_of, signature_of, types_in};
+ghost use Rattle.c_tables.specs.declared.error.CheckError.TheVariants as errors;
 ghost use Rattle.c_terms.specs.Terms.{form_of, operand_of, term_of};
 
 use c_tables::checker::Checker;
@@ -91,23 +92,35 @@ fn passed(
     Ok(made)
 }
 
+// The refusal of a call, which lets the term and the arguments go.
+fn refused_call(
+    _term: Term,
+    _arguments: Vec<Operand>,
+    kind: Kind,
+    line: u32,
+) -> Result<Term, CheckError>
+    ensures { result ≡ Err (errors.Kind kind line) }
+{
+    refused(kind, line)
+}
+
 /// The call of what a term names, with arguments.
 pub fn call(checker: &Checker, term: Term, arguments: Vec<Operand>) -> Result<Term, CheckError>
     ensures { Answers term_of result (known_of checker.now) (rule.call (term_of term) (map operand_of arguments.items) (known_of checker.now)) }
 {
     let line = term.start;
     let Some(number) = function_of(&term) else {
-        return refused(Kind::Call, line);
+        return refused_call(term, arguments, Kind::Call, line);
     };
     let Some(signature) = checker.functions.signature(number) else {
-        return refused(Kind::Call, line);
+        return refused_call(term, arguments, Kind::Call, line);
     };
     let Some(function) = signature.definition else {
-        return refused(Kind::Name, line);
+        return refused_call(term, arguments, Kind::Name, line);
     };
     let params = signature.params.as_slice();
     if !same_length(params, arguments.as_slice()) {
-        return refused(Kind::Call, line);
+        return refused_call(term, arguments, Kind::Call, line);
     }
     let values = passed(checker.alloc, &checker.types, arguments, params, line)?;
     let value = call_node(function, values, signature.result.ty, line);

@@ -1,6 +1,6 @@
 //! Operators whose operands are checked already (ISO/IEC 9899:1990, 6.3.3 to 6.3.17).
 
-ghost use Rattle.std.specs.Prelude.{◌≡◌, IfOk};
+ghost use Rattle.std.specs.Prelude.{◌≡◌, Err, IfOk};
 ghost use Rattle.std.specs.Option.{option_map};
 ghost use Rattle.c_token.specs.declared.token.TokKind.TheVariants as kinds;
 ghost use Rattle.c_typed.specs.Trees as typed;
@@ -11,6 +11,8 @@ ghost use Rattle.type_rules.specs.Operators as rule;
 ghost use Rattle.type_rules.specs.Terms.{value_term};
 ghost use Rattle.c_tables.specs.Answers.{Answers};
 ghost use Rattle.c_tables.specs.Tables.{types_in};
+ghost use Rattle.c_tables.specs.declared.error.CheckError.TheVariants as errors;
+ghost use Rattle.c_tables.specs.declared.error.Kind.TheVariants as faults;
 ghost use Rattle.c_terms.specs.Terms.{node_of, operation_of, operand_of, reach_moved, reach_of, side_of as shown_side, term_of};
 
 use c_ints::{BinOp, IntTy, UnOp, promote, usual};
@@ -26,6 +28,31 @@ use c_terms::term::{Form, Operand, Reach, Side, Term, first_reach, value_term};
 use c_token::Punct;
 use c_typed::{LogicalOp, Qualified, TExpr, Ty, is_pointer, is_scalar, same_type};
 use std::alloc::{AllocError, Global};
+
+// The refusals of one, two and three operands. Each place where an owned operand is let go costs some seconds of proof, so operands
+// are let go here, and elsewhere only where a call fails.
+pub(crate) fn refused_one(_operand: Operand, kind: Kind, line: u32) -> Result<Term, CheckError>
+    ensures { result ≡ Err (errors.Kind kind line) }
+{
+    refused(kind, line)
+}
+
+pub(crate) fn refused_two(_left: Operand, right: Operand, line: u32) -> Result<Term, CheckError>
+    ensures { result ≡ Err (errors.Kind faults.Operand line) }
+{
+    refused_one(right, Kind::Operand, line)
+}
+
+fn refused_three(
+    _condition: Operand,
+    first: Operand,
+    second: Operand,
+    line: u32,
+) -> Result<Term, CheckError>
+    ensures { result ≡ Err (errors.Kind faults.Operand line) }
+{
+    refused_two(first, second, line)
+}
 
 // The node of an operator on these two values.
 fn binary_value(
@@ -56,8 +83,22 @@ fn binary(
 {
     let line = left.start;
     let Some(found) = operation_of(types, op, left.side(), right.side()) else {
-        return refused(Kind::Operand, line);
+        return refused_two(left, right, line);
     };
+    operated(alloc, op, left, right, found)
+}
+
+// The term of an operator on two operands, each in the type that the operator has it in.
+fn operated(
+    alloc: Global,
+    op: BinOp,
+    left: Operand,
+    right: Operand,
+    found: Operation,
+) -> Result<Term, CheckError>
+    ensures { (known : Known) → Answers term_of result known (given (rule.binary_term op (operand_of left) (operand_of right) (operation_of found)) known) }
+{
+    let line = left.start;
     let reach = reach_behind(found.node, first_reach(left.reach, right.reach));
     let left = in_type(alloc, left, found.left)?;
     let right = in_type(alloc, right, found.right)?;
@@ -86,7 +127,7 @@ fn logical(alloc: Global, op: LogicalOp, left: Operand, right: Operand) -> Resul
 {
     let line = left.start;
     if !(is_scalar(left.value.ty()) && is_scalar(right.value.ty())) {
-        return refused(Kind::Operand, line);
+        return refused_two(left, right, line);
     }
     let value = logical_node(alloc, op, left.value, right.value, line)?;
     Ok(value_term(value, line))
@@ -102,13 +143,14 @@ pub fn combined(
 ) -> Result<Term, CheckError>
     ensures { (known : Known) → Answers term_of result (types_in types.now known) (rule.between (kinds.Punct sign) (operand_of left) (operand_of right) (types_in types.now known)) }
 {
+    let line = left.start;
     match sign {
         Punct::And => logical(alloc, LogicalOp::And, left, right),
         Punct::Or => logical(alloc, LogicalOp::Or, left, right),
         Punct::Comma => sequenced(alloc, left, right),
         _ => match binary_operator(sign) {
             Some(op) => binary(alloc, types, op, left, right),
-            None => refused(Kind::Operand, left.start),
+            None => refused_two(left, right, line),
         },
     }
 }
@@ -182,11 +224,25 @@ pub fn chosen(
 {
     let line = condition.start;
     if !is_scalar(condition.value.ty()) {
-        return refused(Kind::Operand, line);
+        return refused_three(condition, first, second, line);
     }
     let Some(ty) = chosen_type(types, first.side(), second.side()) else {
-        return refused(Kind::Operand, line);
+        return refused_three(condition, first, second, line);
     };
+    chosen_in(alloc, condition, first, second, ty)
+}
+
+// The choice between two operands in this type.
+fn chosen_in(
+    alloc: Global,
+    condition: Operand,
+    first: Operand,
+    second: Operand,
+    ty: Ty,
+) -> Result<Term, CheckError>
+    ensures { (known : Known) → Answers term_of result known (given (value_term (typed.Conditional (expression_of condition.value) (rule_converted (operand_of first) ty) (rule_converted (operand_of second) ty) ty condition.start) condition.start) known) }
+{
+    let line = condition.start;
     let first = in_type(alloc, first, ty)?;
     let second = in_type(alloc, second, ty)?;
     let value = conditional_node(alloc, condition.value, first, second, ty, line)?;
@@ -204,7 +260,7 @@ pub fn cast_to(
 {
     let ty = ty.ty;
     if !is_castable(operand.side(), ty) {
-        return refused(Kind::Operand, line);
+        return refused_one(operand, Kind::Operand, line);
     }
     let null = operand.null && is_pointer(ty);
     let value = cast_node(alloc, operand.value, ty, line)?;
@@ -224,7 +280,7 @@ pub fn arithmetic(alloc: Global, op: UnOp, operand: Operand, line: u32) -> Resul
     match operand.value.ty() {
         Ty::Int(ty) => promoted_unary(alloc, op, operand, Ty::Int(promote(ty)), line),
         Ty::Void | Ty::Pointer(_) | Ty::Array { .. } | Ty::Struct(_) => {
-            refused(Kind::Operand, line)
+            refused_one(operand, Kind::Operand, line)
         }
     }
 }
@@ -249,7 +305,7 @@ pub fn negation(alloc: Global, operand: Operand, line: u32) -> Result<Term, Chec
     ensures { (known : Known) → Answers term_of result known (rule.negation (operand_of operand) line known) }
 {
     if !is_scalar(operand.value.ty()) {
-        return refused(Kind::Operand, line);
+        return refused_one(operand, Kind::Operand, line);
     }
     let value = unary_node(alloc, UnOp::Bang, operand.value, Ty::Int(IntTy::Int), line)?;
     Ok(value_term(value, line))

@@ -9,6 +9,7 @@ ghost use Rattle.c_tables.specs.Answers.{Answers};
 ghost use Rattle.c_tables.specs.Tables.{field_of, types_in};
 ghost use Rattle.c_terms.specs.Terms.{form_of, lvalue_reach, operand_of, operation_of, reach_of, term_of};
 
+use crate::operators::{refused_one, refused_two};
 use c_ints::{BinOp, IntTy};
 use c_tables::error::{CheckError, Kind, refused};
 use c_tables::types::{Field, Types};
@@ -58,7 +59,7 @@ pub fn pointed(
     ensures { (known : Known) → Answers term_of result (types_in types.now known) (rule.dereference (operand_of operand) line (types_in types.now known)) }
 {
     let Some(ty) = object_pointed(types, operand.value.ty()) else {
-        return refused(Kind::Operand, line);
+        return refused_one(operand, Kind::Operand, line);
     };
     let reach = operand.reach;
     let place = deref_place(alloc, operand.value, ty, line)?;
@@ -196,10 +197,10 @@ pub fn element(
     let left = indexed(alloc, types, whole)?;
     let right = indexed(alloc, types, index)?;
     let Some(found) = operation_of(types, BinOp::Add, left.side(), right.side()) else {
-        return refused(Kind::Operand, line);
+        return refused_two(left, right, line);
     };
     let Some(ty) = pointed_type(types, found.ty) else {
-        return refused(Kind::Operand, line);
+        return refused_two(left, right, line);
     };
     element_at(alloc, left, right, found, ty, line)
 }
@@ -290,7 +291,7 @@ pub fn pointed_member(
     ensures { (known : Known) → Answers term_of result (types_in types.now known) (rule.pointed_member (operand_of pointer) name.now line (types_in types.now known)) }
 {
     let Some(_) = object_pointed(types, pointer.value.ty()) else {
-        return refused(Kind::Member, line);
+        return refused_one(pointer, Kind::Member, line);
     };
     let whole = pointed(alloc, types, pointer, line)?;
     member(alloc, types, whole, name, line)

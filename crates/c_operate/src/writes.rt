@@ -1,6 +1,6 @@
 //! Assignments, `++` and `--` (ISO/IEC 9899:1990, 6.3.2.4, 6.3.3.1 and 6.3.16).
 
-ghost use Rattle.std.specs.Prelude.{◌≡◌};
+ghost use Rattle.std.specs.Prelude.{◌≡◌, Err};
 ghost use Rattle.std.specs.Option.{option_map};
 ghost use Rattle.c_token.specs.declared.token.TokKind.TheVariants as kinds;
 ghost use Rattle.c_typed.specs.Sameness as stated;
@@ -11,6 +11,7 @@ ghost use Rattle.type_rules.specs.Terms as terms;
 ghost use Rattle.type_rules.specs.Writes as rule;
 ghost use Rattle.c_tables.specs.Answers.{Answers};
 ghost use Rattle.c_tables.specs.Tables.{types_in};
+ghost use Rattle.c_tables.specs.declared.error.CheckError.TheVariants as errors;
 ghost use Rattle.c_terms.specs.Terms.{node_of, operand_of, term_of, valued};
 
 use c_ints::{BinOp, IntTy, usual};
@@ -24,6 +25,13 @@ use c_token::Punct;
 use c_typed::{StepOp, TExpr, TPlace, Ty, is_int, same_type};
 use std::alloc::Global;
 
+// The refusal of a write, which lets the place and the value go: each place where something owned is let go costs some seconds of proof.
+fn refused_write(_place: TPlace, _from: Operand, kind: Kind, line: u32) -> Result<TExpr, CheckError>
+    ensures { result ≡ Err (errors.Kind kind line) }
+{
+    refused(kind, line)
+}
+
 // The assignment of a structure to a structure's place.
 fn copied(
     alloc: Global,
@@ -36,7 +44,7 @@ fn copied(
 {
     let ty = place.ty().ty;
     if !same_type(from.value.ty(), ty) {
-        return refused(Kind::Convert, line);
+        return refused_write(place, from, Kind::Convert, line);
     }
     let Some(source) = read_from(from.value) else {
         return refused(Kind::Convert, line);
@@ -95,10 +103,10 @@ fn compound(
     let ty = place.ty().ty;
     let left = Side { ty, null: false };
     let Some(found) = operation_of(types, op, left, from.side()) else {
-        return refused(Kind::Operand, line);
+        return refused_write(place, from, Kind::Operand, line);
     };
     if !keeps_type(found.node, ty, found.ty) {
-        return refused(Kind::Convert, line);
+        return refused_write(place, from, Kind::Convert, line);
     }
     let value = converted(alloc, from, found.right)?;
     Ok(update_node(alloc, op, place, value, found.left, found.size, ty, line)?)
