@@ -1,7 +1,9 @@
-//! Cases of what stands outside the compiler: files of images, maps and scripts, cut off anywhere too; hosts that hold files; and
-//! boards that answer the chip, with anything too.
+//! Cases of the chip and of what stands outside the compiler: words and names of the data sheet, and small images that run step by
+//! step; files of images, maps and scripts, cut off anywhere too; hosts that hold files; and boards that answer the chip, with
+//! anything too.
 //!
-//! In: texts, and boards and hosts made for a case. Out: nothing; these are tests of hex_image, pic_map, schedule, host_io and pic_sim.
+//! In: texts, and boards and hosts made for a case. Out: nothing; these are tests of pic_isa, pic_world, pic_chip, hex_image, pic_map,
+//! schedule, host_io and pic_sim.
 #![tactic(auto)]
 
 #[cfg(test)]
@@ -11,6 +13,10 @@ mod cuts;
 #[cfg(test)]
 mod hosts;
 #[cfg(test)]
+mod images;
+#[cfg(test)]
 mod runs;
+#[cfg(test)]
+mod tables;
 #[cfg(test)]
 mod texts;

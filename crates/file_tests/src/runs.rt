@@ -10,7 +10,6 @@ use pic_map::{Map, Tracer, read_map};
 use pic_sim::{Board, ScriptBoard, SimEnd, simulate};
 use pic_world::{Arrival, Cell, Event, Flag, Script, Trace};
 use std::alloc::{AllocError, Global};
-use std::process::Abort;
 use std::test::Fail;
 
 /// How a run over a board ended, the chip after it, and its events.
@@ -104,12 +103,9 @@ const ARRIVALS: [Arrival; 4] = [
 #[test]
 fn a_script_board_answers_as_its_script(rt: HostRuntime) -> Result<(), Fail> {
     let mut board = fed(rt.alloc(), &[0x01, 0x02], &ARRIVALS, 3)?;
-    for wanted in [0x01, 0x02, 0x00] {
-        assert_eq!(rt; board.read(5)?, wanted);
-    }
-    for (t, wanted) in [(6, 0), (7, 0x206), (2, 1)] {
-        assert_eq!(rt; board.tick(t)?, wanted);
-    }
+    let bytes = [board.read(5)?, board.read(5)?, board.read(5)?];
+    let masks = [board.tick(6)?, board.tick(7)?, board.tick(2)?];
+    assert!(rt; bytes == [0x01, 0x02, 0x00] && masks == [0, 0x206, 1]);
     board.write(6, 0xff)?;
     Ok(())
 }
@@ -148,6 +144,20 @@ const COPIED: [Event; 5] = [
     Event::End,
 ];
 
+fn is_copied(ran: &Ran) -> bool {
+    if ran.end != SimEnd::Done || ran.trace.len() != 5 {
+        return false;
+    }
+    let events = [
+        ran.trace.get(0),
+        ran.trace.get(1),
+        ran.trace.get(2),
+        ran.trace.get(3),
+        ran.trace.get(4),
+    ];
+    events == COPIED
+}
+
 #[test]
 fn a_script_board_gives_bytes_and_flags(rt: HostRuntime) -> Result<(), Fail> {
     let alloc = rt.alloc();
@@ -155,14 +165,9 @@ fn a_script_board_gives_bytes_and_flags(rt: HostRuntime) -> Result<(), Fail> {
     let map = map_of(alloc, 4);
     let mut board: Box<dyn Board> = Box::new(alloc, fed(alloc, &[0x5a], &[], 6)?)?;
     let ran = run(alloc, &image, &map, &mut board, 6)?;
-    assert!(rt; ran.end == SimEnd::Done && ran.trace.len() == COPIED.len());
-    for (number, wanted) in COPIED.iter().enumerate() {
-        if number < ran.trace.len() {
-            assert_eq!(rt; ran.trace.get(number), *wanted);
-        }
-    }
-    let ran = run(alloc, &image, &map, &mut board, 0)?;
-    assert!(rt; shown(alloc, &ran)?.as_str() == "Done 0 0 0 0 0");
+    let none = run(alloc, &image, &map, &mut board, 0)?;
+    let end = shown(alloc, &none)?;
+    assert!(rt; is_copied(&ran) && end.as_str() == "Done 0 0 0 0 0");
     Ok(())
 }
 
@@ -173,16 +178,25 @@ fn handled(alloc: Global, mut board: Box<dyn Board>) -> Result<String, AllocErro
     shown(alloc, &ran)
 }
 
+// The same over a script board with room.
+fn handled_by_script(
+    alloc: Global,
+    input: &[u8],
+    arrivals: &[Arrival],
+) -> Result<String, AllocError> {
+    let board = fed(alloc, input, arrivals, 9)?;
+    handled(alloc, Box::new(alloc, board)?)
+}
+
 #[test]
 fn a_due_interrupt_is_taken_before_a_stop(rt: HostRuntime) -> Result<(), Fail> {
-    let alloc = rt.alloc();
-    let quiet = handled(alloc, Box::new(alloc, fed(alloc, &[], &[], 9)?)?)?;
+    let quiet = handled_by_script(rt.alloc(), &[], &[])?;
     assert!(rt; quiet.as_str() == "Unmodelled(2) 2 2 0 0 1", "{quiet}");
     let arrival = Arrival {
         t: 2,
         flag: Flag::Intf,
     };
-    let due = handled(alloc, Box::new(alloc, fed(alloc, &[0x77], &[arrival], 9)?)?)?;
+    let due = handled_by_script(rt.alloc(), &[0x77], &[arrival])?;
     assert!(rt; due.as_str() == "Unmodelled(6) 4 6 1 119 2", "{due}");
     Ok(())
 }
@@ -191,12 +205,16 @@ fn a_due_interrupt_is_taken_before_a_stop(rt: HostRuntime) -> Result<(), Fail> {
 #[test]
 fn any_answers_will_do(rt: HostRuntime) -> Result<(), Fail> {
     let alloc = rt.alloc();
-    for (refused, wanted) in [(3, "NoMemory 2 2 0 0 1"), (99, "Unmodelled(6) 4 6 1 255 2")] {
-        let board = Stubborn::new(alloc, LOUD, refused);
-        let ran = handled(alloc, Box::new(alloc, board)?)?;
-        assert!(rt; ran.as_str() == wanted, "{refused}: {ran}");
-    }
+    let refused = handled(alloc, stubborn(alloc, LOUD, 3)?)?;
+    assert!(rt; refused.as_str() == "NoMemory 2 2 0 0 1", "{refused}");
+    let taken = handled(alloc, stubborn(alloc, LOUD, 99)?)?;
+    assert!(rt; taken.as_str() == "Unmodelled(6) 4 6 1 255 2", "{taken}");
     Ok(())
+}
+
+fn stubborn(alloc: Global, manner: Manner, refused: u64) -> Result<Box<dyn Board>, AllocError> {
+    let board: Box<dyn Board> = Box::new(alloc, Stubborn::new(alloc, manner, refused))?;
+    Ok(board)
 }
 
 /// All flags at each instruction, and all bits at each read.
@@ -205,56 +223,61 @@ const LOUD: Manner = Manner::Same {
     byte: 0xff,
 };
 
+/// No flags, and the same byte at each read.
+const STEADY: Manner = Manner::Same {
+    flags: 0,
+    byte: 0x3c,
+};
+
+// Whether the loop was left where this call was refused: three of its instructions make five calls, and two events.
+fn leaves_whole(alloc: Global, image: &Image, map: &Map, refused: u8) -> Result<bool, AllocError> {
+    let mut board = stubborn(alloc, STEADY, refused as u64)?;
+    let ran = run(alloc, image, map, &mut board, 40)?;
+    let part = [0u8, 0, 1, 1, 2][(refused % 5) as usize] as u16;
+    let rounds = (refused / 5) as u16;
+    let (index, events) = (3 * rounds + part, 2 * rounds + part);
+    let wanted = format!(in alloc; "NoMemory {index} {part} 0 0 {events}")?;
+    Ok(shown(alloc, &ran)?.as_str() == wanted.as_str())
+}
+
 #[test]
 fn a_refusal_leaves_the_last_whole_instruction(rt: HostRuntime) -> Result<(), Fail> {
     let alloc = rt.alloc();
     let image = image_of(alloc, LOOP)?;
     let map = map_of(alloc, 0x1fff);
-    let manner = Manner::Same {
-        flags: 0,
-        byte: 0x3c,
-    };
-    // Three instructions of the loop make five calls, and two events.
-    let whole = [0u8, 0, 1, 1, 2];
     for refused in 0..40u8 {
-        let board = Stubborn::new(alloc, manner, refused as u64);
-        let mut board: Box<dyn Board> = Box::new(alloc, board)?;
-        let ran = run(alloc, &image, &map, &mut board, 40)?;
-        let part = whole[(refused % 5) as usize];
-        let index = 3 * (refused / 5) + part;
-        let events = 2 * (refused / 5) + part;
-        let wanted = format!(in alloc; "NoMemory {index} {part} 0 0 {events}")?;
-        assert!(rt;
-            shown(alloc, &ran)?.as_str() == wanted.as_str(),
-            "{refused}"
-        );
+        assert!(rt; leaves_whole(alloc, &image, &map, refused)?, "{refused}");
     }
     Ok(())
 }
 
-fn same_general_bytes(a: &Chip, b: &Chip) -> bool {
-    (0..512u16).all(|address| a.general(address) == b.general(address))
+fn is_same_chip(a: &Chip, b: &Chip) -> bool {
+    for address in 0..512u16 {
+        if a.general(address) != b.general(address) {
+            return false;
+        }
+    }
+    a.index() == b.index() && a.pc() == b.pc() && a.depth() == b.depth()
 }
 
-/// A run over a board is the one beside a second board of the same kind. How it ended, and after how many instructions.
-fn check(
-    rt: &impl Abort,
+/// How a run over a board ended, and after how many instructions, where it is the one beside a second board of the same kind.
+fn ended(
     alloc: Global,
     image: &Image,
     map: &Map,
     manner: Manner,
     refused: u64,
-) -> Result<(SimEnd, u64), AllocError> {
-    let mut board: Box<dyn Board> = Box::new(alloc, Stubborn::new(alloc, manner, refused))?;
+) -> Result<Option<(SimEnd, u64)>, AllocError> {
+    let mut board = stubborn(alloc, manner, refused)?;
     let ran = run(alloc, image, map, &mut board, 3000)?;
     let mut wanted = Chip::reset(&START);
     let mut beside = Stubborn::new(alloc, manner, refused);
     let end = run_beside(&mut wanted, image, &mut beside, 3000);
-    let chip = ran.chip;
-    assert!(rt; ran.end == end && chip.index() == wanted.index());
-    assert!(rt; chip.pc() == wanted.pc() && chip.depth() == wanted.depth());
-    assert!(rt; same_general_bytes(&chip, &wanted));
-    Ok((end, chip.index()))
+    if ran.end == end && is_same_chip(&ran.chip, &wanted) {
+        Ok(Some((end, wanted.index())))
+    } else {
+        Ok(None)
+    }
 }
 
 /// The image and the map that were made of a text whose handler writes PORTB and clears its flag, while main waits:
@@ -286,17 +309,20 @@ fn any_board_leads_where_its_answers_lead(rt: HostRuntime) -> Result<(), Fail> {
     let alloc = rt.alloc();
     let image = read_hex(alloc, WAITS_HEX.as_bytes())?;
     let map = read_map(alloc, WAITS_MAP.as_bytes())?;
-    for manner in [LOUD, Manner::Counting] {
-        let ran = check(&rt, alloc, &image, &map, manner, u64::MAX)?;
-        assert_eq!(rt; ran, (SimEnd::Done, 3000));
-    }
+    let loud = ended(alloc, &image, &map, LOUD, u64::MAX)?;
+    let counting = ended(alloc, &image, &map, Manner::Counting, u64::MAX)?;
+    let whole = Some((SimEnd::Done, 3000));
+    assert!(rt; loud == whole && counting == whole);
     let mut before = 0;
     for refused in 0..=200u8 {
-        let (end, index) = check(&rt, alloc, &image, &map, LOUD, refused as u64)?;
-        assert_eq!(rt; end, SimEnd::NoMemory);
-        // Each call is one of at most three of an instruction.
-        assert!(rt; index >= before && index <= refused as u64);
-        before = index;
+        match ended(alloc, &image, &map, LOUD, refused as u64)? {
+            // Each call is one of at most three of an instruction.
+            Some((SimEnd::NoMemory, index)) => {
+                assert!(rt; index >= before && index <= refused as u64);
+                before = index;
+            }
+            _ => assert!(rt; false, "{refused}"),
+        }
     }
     Ok(())
 }

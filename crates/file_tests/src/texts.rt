@@ -1,6 +1,6 @@
 //! Texts worked out by hand: what is read, what is written, and where reading stops.
 
-ghost use Rattle.std.specs.Prelude.{IsTrue};
+ghost use Rattle.std.specs.Prelude.{◌<◌, ◌^◌, length, IsTrue};
 ghost use Rattle.pic_map.specs.EventText.{CanBeShown, HasName};
 ghost use Rattle.pic_map.specs.MapView.{content_of};
 
@@ -151,45 +151,68 @@ fn shown_script(alloc: Global, script: &Script) -> Result<String, AllocError> {
     Ok(shown)
 }
 
-/// What is read of a text, or why nothing is.
-fn answer(alloc: Global, kind: &str, text: &[u8]) -> Result<String, Fail> {
-    if text.len() > LONGEST {
-        return Err(Fail::new("too long"));
+fn said_of_image(alloc: Global, text: &[u8]) -> Result<String, AllocError>
+    requires { length text.now < 2 ^ 32 }
+{
+    match read_hex(alloc, text) {
+        Ok(image) => shown_image(alloc, &image),
+        Err(error) => format!(in alloc; "{error:?}"),
     }
-    let shown = match kind {
-        "hex" => match read_hex(alloc, text) {
-            Ok(image) => shown_image(alloc, &image)?,
-            Err(error) => format!(in alloc; "{error:?}")?,
-        },
-        "map" => match read_map(alloc, text) {
-            Ok(_) => String::from_str(alloc, "a map")?,
-            Err(error) => format!(in alloc; "{error:?}")?,
-        },
-        _ => match read_script(alloc, text) {
-            Ok(script) => shown_script(alloc, &script)?,
-            Err(error) => format!(in alloc; "{error:?}")?,
-        },
-    };
-    Ok(shown)
+}
+
+fn said_of_map(alloc: Global, text: &[u8]) -> Result<String, AllocError>
+    requires { length text.now < 2 ^ 32 }
+{
+    match read_map(alloc, text) {
+        Ok(_) => String::from_str(alloc, "a map"),
+        Err(error) => format!(in alloc; "{error:?}"),
+    }
+}
+
+fn said_of_script(alloc: Global, text: &[u8]) -> Result<String, AllocError>
+    requires { length text.now < 2 ^ 32 }
+{
+    match read_script(alloc, text) {
+        Ok(script) => shown_script(alloc, &script),
+        Err(error) => format!(in alloc; "{error:?}"),
+    }
+}
+
+/// What is read of a text, or why nothing is.
+fn answer(alloc: Global, kind: &str, text: &[u8]) -> Result<String, AllocError> {
+    if text.len() > LONGEST {
+        return String::from_str(alloc, "too long");
+    }
+    match kind {
+        "hex" => said_of_image(alloc, text),
+        "map" => said_of_map(alloc, text),
+        _ => said_of_script(alloc, text),
+    }
+}
+
+// Whether what is read of a line's text is what the line says.
+fn is_answered(alloc: Global, line: &str) -> Result<bool, AllocError> {
+    let (kind, rest) = line.split_once('|').unwrap_or((line, ""));
+    let (text, wanted) = rest.split_once('|').unwrap_or((rest, ""));
+    let text = unpacked(alloc, text)?;
+    Ok(answer(alloc, kind, &text)?.as_str() == wanted)
 }
 
 #[test]
 fn texts_are_read_or_told_where_they_are_wrong(rt: HostRuntime) -> Result<(), Fail> {
     let mut count: u32 = 0;
     for line in TEXTS.lines() {
-        let (kind, rest) = line.split_once('|').unwrap_or((line, ""));
-        let (text, wanted) = rest.split_once('|').unwrap_or((rest, ""));
-        let shown = answer(rt.alloc(), kind, &unpacked(rt.alloc(), text)?)?;
-        assert!(rt; shown.as_str() == wanted, "{line}: {shown}");
+        assert!(rt; is_answered(rt.alloc(), line)?, "{line}");
         count = count.saturating_add(1);
     }
-    assert_eq!(rt; count, 80);
+    assert!(rt; count == 80);
     schedule::one_content();
     schedule::worked_example();
     Ok(())
 }
 
-fn number(text: &str) -> u16 {
+/// A number in hexadecimal digits.
+pub fn number(text: &str) -> u16 {
     u16::from_str_radix(text, 16).unwrap_or(u16::MAX)
 }
 
@@ -206,22 +229,24 @@ pub fn image_of(alloc: Global, words: &str) -> Result<Image, AllocError> {
     Ok(image)
 }
 
+// Whether the image of a line is written as the line says, and read as it was.
+fn is_written(alloc: Global, line: &str) -> Result<bool, AllocError> {
+    let (words, wanted) = line.split_once('|').unwrap_or((line, ""));
+    let image = image_of(alloc, words)?;
+    let text = write_hex(alloc, &image)?;
+    let wanted = unpacked(alloc, wanted)?;
+    let again = answer(alloc, "hex", &text)?;
+    Ok(text.as_slice() == wanted.as_slice() && again.as_str() == words)
+}
+
 #[test]
 fn what_is_written_is_read(rt: HostRuntime) -> Result<(), Fail> {
-    let alloc = rt.alloc();
     let mut count: u32 = 0;
     for line in IMAGES.lines() {
-        let (words, wanted) = line.split_once('|').unwrap_or((line, ""));
-        let text = write_hex(alloc, &image_of(alloc, words)?)?;
-        assert!(rt;
-            text.as_slice() == unpacked(alloc, wanted)?.as_slice(),
-            "{line}"
-        );
-        let again = answer(alloc, "hex", &text)?;
-        assert!(rt; again.as_str() == words, "{line}: {again}");
+        assert!(rt; is_written(rt.alloc(), line)?, "{line}");
         count = count.saturating_add(1);
     }
-    assert_eq!(rt; count, 3);
+    assert!(rt; count == 3);
     exact_reading();
     hex_image::one_content();
     Ok(())
@@ -235,25 +260,63 @@ pub const WRITTEN: &str = "picc map 1/main 0005/halt 1FFF/static t.0.lo 0020 2/c
 const OTHER: &str = "picc map 1~/main 0005~/halt 1fff/static t.0.lo 0020 2/const k 01f0 12/\
     frame main main 002a 0/frame isr h 0070 10/frame main $mul2 00a0 352/end";
 
+// Whether the second object is that one.
+fn has_k(map: &Map) -> bool {
+    match map.objects.get(1) {
+        Some(k) => k.fixed
+            && k.name.as_slice() == b"k".as_slice()
+            && k.address == 0x1f0
+            && k.size == 12,
+        None => false,
+    }
+}
+
+// Whether the second frame is that one.
+fn has_h(map: &Map) -> bool {
+    match map.frames.get(1) {
+        Some(h) => h.root == Root::Isr
+            && h.name.as_slice() == b"h".as_slice()
+            && h.address == 0x70
+            && h.size == 10,
+        None => false,
+    }
+}
+
+fn has_parts(map: &Map) -> bool {
+    map.main == 5
+        && map.halt == 0x1fff
+        && map.objects.len() == 2
+        && map.frames.len() == 3
+        && has_k(map)
+        && has_h(map)
+}
+
+// The map of a text, which is a short one.
+fn map_read(alloc: Global, text: &str) -> Result<Map, Fail> {
+    let text = unpacked(alloc, text)?;
+    if text.len() > LONGEST {
+        return Err(Fail::new("too long"));
+    }
+    Ok(read_map(alloc, &text)?)
+}
+
+// Whether that map is read of a text, and written as this one.
+fn is_that_map(alloc: Global, given: &str, wanted: &[u8]) -> Result<bool, Fail> {
+    let given = unpacked(alloc, given)?;
+    if given.len() > LONGEST {
+        return Ok(false);
+    }
+    let map = read_map(alloc, &given)?;
+    let written = write_map(alloc, &map)?;
+    Ok(has_parts(&map) && written.as_slice() == wanted)
+}
+
 #[test]
 fn a_map_is_read_as_it_was_written(rt: HostRuntime) -> Result<(), Fail> {
     let alloc = rt.alloc();
     let text = unpacked(alloc, WRITTEN)?;
     for given in [WRITTEN, OTHER] {
-        let given = unpacked(alloc, given)?;
-        if given.len() > LONGEST {
-            return Err(Fail::new("too long"));
-        }
-        let map = read_map(alloc, &given)?;
-        assert!(rt; map.main == 5 && map.halt == 0x1fff);
-        assert!(rt; map.objects.len() == 2 && map.frames.len() == 3);
-        let object = &map.objects[1];
-        assert!(rt; object.fixed && object.name.as_slice() == b"k".as_slice());
-        assert!(rt; object.address == 0x1f0 && object.size == 12);
-        let frame = &map.frames[1];
-        assert!(rt; frame.root == Root::Isr && frame.name.as_slice() == b"h".as_slice());
-        assert!(rt; frame.address == 0x70 && frame.size == 10);
-        assert!(rt; write_map(alloc, &map)?.as_slice() == text.as_slice());
+        assert!(rt; is_that_map(alloc, given, &text)?);
     }
     pic_map::worked_example();
     pic_map::one_content();
@@ -299,21 +362,20 @@ const EVENTS: [(Event, &str); 5] = [
     (Event::End, "End\n"),
 ];
 
+// Whether an event has a name, and is shown so.
+fn is_shown(alloc: Global, map: &Map, event: Event, wanted: &str) -> Result<bool, AllocError> {
+    if !is_named(map, event) {
+        return Ok(false);
+    }
+    Ok(event_line(alloc, map, event)?.as_slice() == wanted.as_bytes())
+}
+
 #[test]
 fn events_are_shown_by_name(rt: HostRuntime) -> Result<(), Fail> {
     let alloc = rt.alloc();
-    let text = unpacked(alloc, WRITTEN)?;
-    if text.len() > LONGEST {
-        return Err(Fail::new("too long"));
-    }
-    let map = read_map(alloc, &text)?;
+    let map = map_read(alloc, WRITTEN)?;
     for (event, wanted) in EVENTS {
-        if is_named(&map, event) {
-            let line = event_line(alloc, &map, event)?;
-            assert!(rt; line.as_slice() == wanted.as_bytes());
-        } else {
-            return Err(Fail::new("no name"));
-        }
+        assert!(rt; is_shown(alloc, &map, event, wanted)?);
     }
     Ok(())
 }

@@ -1,5 +1,4 @@
-//! Worked examples of the definitions on which the theorems rest, computed by the checker; and of the chip's steps, of the table
-//! of instructions and of the names of registers, run as tests.
+//! Worked examples of the definitions on which the theorems rest, computed by the checker.
 //!
 //! In: nothing. Out: nothing. The promise: the definitions give the typed programs, the broken rules, the events and the undefined
 //! steps that ISO/IEC 9899:1990, docs/language.md and the rules of interrupts give by hand, and the values of the data sheet.
@@ -9,11 +8,6 @@ ghost use Rattle.spec_tests.specs.ChipExamples.{WorkedExamples};
 ghost use Rattle.spec_tests.specs.RuleExamples.{WorkedRules};
 ghost use Rattle.spec_tests.specs.RunExamples.{WorkedRuns};
 ghost use Rattle.spec_tests.specs.WordExamples.{WorkedWords};
-
-#[cfg(test)]
-mod images;
-#[cfg(test)]
-mod tables;
 
 /// Small units with their typed programs, or with the first rule that each breaks.
 pub fn worked_rules()

@@ -1,6 +1,7 @@
 //! Small images, assembled by hand, run by the chip's steps. What is wanted was worked out by hand from the data sheet of
 //! the PIC16F877A (Microchip DS39582).
 
+use crate::texts::number;
 use pic_chip::{Access, Accesses, Chip, Image, Start, StepEnd};
 use pic_world::Script;
 use schedule::read_script;
@@ -327,10 +328,6 @@ fn powered(w: u8, fsr: u8) -> Chip {
     })
 }
 
-fn number(text: &str) -> u16 {
-    u16::from_str_radix(text, 16).unwrap_or(u16::MAX)
-}
-
 fn byte_of(text: &str) -> u8 {
     u8::from_str_radix(text, 16).unwrap_or(u8::MAX)
 }
@@ -452,6 +449,6 @@ fn small_images_run_as_the_data_sheet_says(rt: HostRuntime) -> Result<(), Fail> 
             None => bench.act(rt.alloc(), line, key, first, rest)?,
         }
     }
-    assert_eq!(rt; checks, 95);
+    assert!(rt; checks == 95);
     Ok(())
 }
