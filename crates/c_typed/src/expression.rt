@@ -223,7 +223,7 @@ pub enum TPlace {
 
 impl TExpr {
     /// The type of the value.
-    #[tactic(auto, using(crate::proofs::TypeSights::types))]
+    #[tactic(auto, using(crate::proofs::Shapes::expression_shapes))]
     pub fn ty(&self) -> Ty
         ensures { result ≡ type_of (expression_of self.now) }
     {
@@ -249,7 +249,7 @@ impl TExpr {
 
     /// Whether this is an integer constant expression (ISO/IEC 9899:1990, 6.4): it has only constants,
     /// `sizeof`, casts to integer types, and operators other than assignments and the comma.
-    #[tactic(auto, using(crate::proofs::TypeSights::constants))]
+    #[tactic(auto, using(crate::proofs::Shapes::expression_shapes), unfolding(crate::specs::Types::is_constant))]
     pub fn is_constant(&self) -> bool
         ensures { result ≡ is_constant (expression_of self.now) }
     {
@@ -307,7 +307,7 @@ impl TExpr {
 
 impl TPlace {
     /// The type of the place. A bit is an unsigned char that is volatile, as its register is.
-    #[tactic(auto, using(crate::proofs::TypeSights::place_types))]
+    #[tactic(auto, using(crate::proofs::Shapes::place_shapes))]
     pub fn ty(&self) -> Qualified
         ensures { result ≡ place_type (place_of self.now) }
     {
@@ -322,7 +322,7 @@ impl TPlace {
     }
 
     /// How the place is found.
-    #[tactic(auto, using(crate::proofs::TypeSights::forms))]
+    #[tactic(auto, using(crate::proofs::Shapes::place_shapes))]
     pub fn form(&self) -> PlaceForm
         ensures { result ≡ form_of (place_of self.now) }
     {

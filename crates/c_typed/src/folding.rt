@@ -27,7 +27,7 @@ fn truth_value(is: bool) -> Value
     Value::new(IntTy::Int, if is { 1 } else { 0 })
 }
 
-#[tactic(auto, using(crate::proofs::FoldSights::bits_is))]
+#[tactic(auto, unfolding(crate::specs::Folding::bits))]
 fn holds(value: Value) -> bool
     ensures { result ≡ stated.holds value }
 {
@@ -152,7 +152,7 @@ fn chosen(condition: Option<Value>, yes: Option<Value>, no: Option<Value>) -> Op
 }
 
 // The value of an expression that is an integer constant expression, if it has one.
-#[tactic(auto, using(crate::proofs::FoldSights::all_constants))]
+#[tactic(auto, using(crate::proofs::Shapes::expression_shapes), unfolding(crate::specs::Folding::constant_value))]
 fn constant_value(e: &TExpr) -> Option<Value>
     ensures { result ≡ stated.constant_value (expression_of e.now) }
 {
@@ -197,7 +197,7 @@ fn constant_value(e: &TExpr) -> Option<Value>
     }
 }
 
-#[tactic(auto, using(crate::proofs::FoldSights::bits_is))]
+#[tactic(auto, unfolding(crate::specs::Folding::bits))]
 fn bits_of(value: Option<Value>) -> u32
     ensures { result ≡ stated.bits_of value }
 {

@@ -1,155 +1,18 @@
 -- The depth of each node of the code from the depths of its parts, and of lists.
-use Rattle.std.proofs.Common.{◌≡◌, ℕ, ◌+◌, ◌<◌, ◌≤◌, ◌^◌, max, List, [], ◌∷◌, Option, Some, None, map, drop, length, refl, sym, ap, ◌∙◌, arith}
+use Rattle.std.proofs.Common.{◌≡◌, ℕ, ◌+◌, ◌<◌, ◌≤◌, ◌^◌, max, List, [], ◌∷◌, Some, None, map, drop, length, refl, sym, ap, ◌∙◌, arith}
 use Rattle.std.proofs.Math.ListN.{get_or}
 use Rattle.std.proofs.lemmas.List.{drop_more, drop_all}
 use Rattle.std.specs.Global.{Box}
-use Rattle.std.specs.Option.{option_map}
-use Rattle.c_typed.proofs.Shapes.{show_expression_constant, show_expression_read, show_expression_address, show_expression_convert, show_expression_cast, show_expression_unary, show_expression_binary, show_expression_offset, show_expression_difference, show_expression_logical, show_expression_conditional, show_expression_comma, show_expression_assign, show_expression_struct_assign, show_expression_update, show_expression_step, show_expression_call, show_place_name, show_place_bit, show_place_member, show_place_deref, show_statement_block, show_statement_empty, show_statement_expr, show_statement_declare, show_statement_init_scalar, show_statement_init_list, show_statement_loop, show_statement_switch, show_statement_break, show_statement_continue, show_statement_return, show_statement_if_alone, show_statement_if_else, show_arm}
+use Rattle.c_typed.proofs.Shapes.{show_arm}
 use Rattle.c_typed.specs.Nodes.{capped}
-use Rattle.c_typed.specs.Views.{expression_of, place_of, arguments_of, item_of, statement_of, statements_of, arm_of, arms_of, last_arm_of, function_of}
+use Rattle.c_typed.specs.Views.{expression_of, arguments_of, item_of, statement_of, statements_of, arm_of, arms_of, last_arm_of, function_of}
 use Rattle.c_typed.specs.declared.expression.TExpr.{TExpr}
-use Rattle.c_typed.specs.declared.expression.TExpr.TheVariants as TExpr
-use Rattle.c_typed.specs.declared.expression.TPlace.TheVariants as TPlace
 use Rattle.c_typed.specs.declared.program.Function.{Function}
 use Rattle.c_typed.specs.declared.statement.TArm.{TArm}
 use Rattle.c_typed.specs.declared.statement.TItem.{TItem}
 use Rattle.c_typed.specs.declared.statement.TStmt as StmtOf
-use Rattle.c_typed.specs.declared.statement.TStmt.TheVariants as TStmt
 use Rattle.c_typed.specs.declared.statement.TStmt.TheViews.{out-TArm}
-use Rattle.source_room.specs.Depth.{expression_depth, arguments_depth, place_depth, any_depth, item_depth, items_depth, statement_depth, body_depth, arm_depth, arms_depth, last_depth, function_depth, functions_depth, deepest_of}
-
-pub see_expression_constant : (value : _) (line : _) → expression_depth (expression_of (TExpr.Constant value line)) ≡ 1
-unfolding expression_depth
-see_expression_constant value line = ap expression_depth (show_expression_constant value line)
-
-pub see_expression_read : (place : _) (ty : _) (line : _) → expression_depth (expression_of (TExpr.Read place ty line)) ≡ 1 + place_depth (place_of place.value)
-unfolding expression_depth
-see_expression_read place ty line = ap expression_depth (show_expression_read place ty line)
-
-pub see_expression_address : (place : _) (ty : _) (line : _) → expression_depth (expression_of (TExpr.Address place ty line)) ≡ 1 + place_depth (place_of place.value)
-unfolding expression_depth
-see_expression_address place ty line = ap expression_depth (show_expression_address place ty line)
-
-pub see_expression_convert : (operand : _) (ty : _) (line : _) → expression_depth (expression_of (TExpr.Convert operand ty line)) ≡ 1 + expression_depth (expression_of operand.value)
-unfolding expression_depth
-see_expression_convert operand ty line = ap expression_depth (show_expression_convert operand ty line)
-
-pub see_expression_cast : (operand : _) (ty : _) (line : _) → expression_depth (expression_of (TExpr.Cast operand ty line)) ≡ 1 + expression_depth (expression_of operand.value)
-unfolding expression_depth
-see_expression_cast operand ty line = ap expression_depth (show_expression_cast operand ty line)
-
-pub see_expression_unary : (op : _) (operand : _) (ty : _) (line : _) → expression_depth (expression_of (TExpr.Unary op operand ty line)) ≡ 1 + expression_depth (expression_of operand.value)
-unfolding expression_depth
-see_expression_unary op operand ty line = ap expression_depth (show_expression_unary op operand ty line)
-
-pub see_expression_binary : (op : _) (left : _) (right : _) (ty : _) (line : _) → expression_depth (expression_of (TExpr.Binary op left right ty line)) ≡ 1 + max (expression_depth (expression_of left.value)) (expression_depth (expression_of right.value))
-unfolding expression_depth
-see_expression_binary op left right ty line = ap expression_depth (show_expression_binary op left right ty line)
-
-pub see_expression_offset : (op : _) (left : _) (right : _) (size : _) (ty : _) (line : _) → expression_depth (expression_of (TExpr.Offset op left right size ty line)) ≡ 1 + max (expression_depth (expression_of left.value)) (expression_depth (expression_of right.value))
-unfolding expression_depth
-see_expression_offset op left right size ty line = ap expression_depth (show_expression_offset op left right size ty line)
-
-pub see_expression_difference : (left : _) (right : _) (size : _) (line : _) → expression_depth (expression_of (TExpr.Difference left right size line)) ≡ 1 + max (expression_depth (expression_of left.value)) (expression_depth (expression_of right.value))
-unfolding expression_depth
-see_expression_difference left right size line = ap expression_depth (show_expression_difference left right size line)
-
-pub see_expression_logical : (op : _) (left : _) (right : _) (line : _) → expression_depth (expression_of (TExpr.Logical op left right line)) ≡ 1 + max (expression_depth (expression_of left.value)) (expression_depth (expression_of right.value))
-unfolding expression_depth
-see_expression_logical op left right line = ap expression_depth (show_expression_logical op left right line)
-
-pub see_expression_conditional : (condition : _) (chosen : _) (otherwise : _) (ty : _) (line : _) → expression_depth (expression_of (TExpr.Conditional condition chosen otherwise ty line)) ≡ 1 + max (expression_depth (expression_of condition.value)) (max (expression_depth (expression_of chosen.value)) (expression_depth (expression_of otherwise.value)))
-unfolding expression_depth
-see_expression_conditional condition chosen otherwise ty line = ap expression_depth (show_expression_conditional condition chosen otherwise ty line)
-
-pub see_expression_comma : (left : _) (right : _) (ty : _) (line : _) → expression_depth (expression_of (TExpr.Comma left right ty line)) ≡ 1 + max (expression_depth (expression_of left.value)) (expression_depth (expression_of right.value))
-unfolding expression_depth
-see_expression_comma left right ty line = ap expression_depth (show_expression_comma left right ty line)
-
-pub see_expression_assign : (place : _) (value : _) (ty : _) (line : _) → expression_depth (expression_of (TExpr.Assign place value ty line)) ≡ 1 + max (place_depth (place_of place.value)) (expression_depth (expression_of value.value))
-unfolding expression_depth
-see_expression_assign place value ty line = ap expression_depth (show_expression_assign place value ty line)
-
-pub see_expression_struct_assign : (place : _) (from : _) (size : _) (line : _) → expression_depth (expression_of (TExpr.StructAssign place from size line)) ≡ 1 + max (place_depth (place_of place.value)) (place_depth (place_of from.value))
-unfolding expression_depth
-see_expression_struct_assign place from size line = ap expression_depth (show_expression_struct_assign place from size line)
-
-pub see_expression_update : (op : _) (place : _) (value : _) (operation : _) (size : _) (ty : _) (line : _) → expression_depth (expression_of (TExpr.Update op place value operation size ty line)) ≡ 1 + max (place_depth (place_of place.value)) (expression_depth (expression_of value.value))
-unfolding expression_depth
-see_expression_update op place value operation size ty line = ap expression_depth (show_expression_update op place value operation size ty line)
-
-pub see_expression_step : (op : _) (place : _) (operation : _) (size : _) (ty : _) (line : _) → expression_depth (expression_of (TExpr.Step op place operation size ty line)) ≡ 1 + place_depth (place_of place.value)
-unfolding expression_depth
-see_expression_step op place operation size ty line = ap expression_depth (show_expression_step op place operation size ty line)
-
-pub see_expression_call : (function : _) (arguments : _) (ty : _) (line : _) → expression_depth (expression_of (TExpr.Call function arguments ty line)) ≡ 1 + arguments_depth (arguments_of (map expression_of arguments.items))
-unfolding expression_depth
-see_expression_call function arguments ty line = ap expression_depth (show_expression_call function arguments ty line)
-
-pub see_place_name : (object : _) (ty : _) (line : _) → place_depth (place_of (TPlace.Name object ty line)) ≡ 1
-unfolding place_depth
-see_place_name object ty line = ap place_depth (show_place_name object ty line)
-
-pub see_place_bit : (register : _) (bit : _) (line : _) → place_depth (place_of (TPlace.Bit register bit line)) ≡ 1
-unfolding place_depth
-see_place_bit register bit line = ap place_depth (show_place_bit register bit line)
-
-pub see_place_member : (whole : _) (member : _) (offset : _) (ty : _) (line : _) → place_depth (place_of (TPlace.Member whole member offset ty line)) ≡ 1 + place_depth (place_of whole.value)
-unfolding place_depth
-see_place_member whole member offset ty line = ap place_depth (show_place_member whole member offset ty line)
-
-pub see_place_deref : (pointer : _) (ty : _) (line : _) → place_depth (place_of (TPlace.Deref pointer ty line)) ≡ 1 + expression_depth (expression_of pointer.value)
-unfolding place_depth
-see_place_deref pointer ty line = ap place_depth (show_place_deref pointer ty line)
-
-pub see_statement_block : (statements : _) (line : _) → statement_depth (statement_of (TStmt.Block statements line)) ≡ 1 + body_depth (statements_of (map statement_of statements.items))
-unfolding statement_depth
-see_statement_block statements line = ap statement_depth (show_statement_block statements line)
-
-pub see_statement_empty : (line : _) → statement_depth (statement_of (TStmt.Empty line)) ≡ 1
-unfolding statement_depth
-see_statement_empty line = ap statement_depth (show_statement_empty line)
-
-pub see_statement_expr : (value : _) (line : _) → statement_depth (statement_of (TStmt.Expr value line)) ≡ 1 + expression_depth (expression_of value)
-unfolding statement_depth
-see_statement_expr value line = ap statement_depth (show_statement_expr value line)
-
-pub see_statement_declare : (local : _) (line : _) → statement_depth (statement_of (TStmt.Declare local line)) ≡ 1
-unfolding statement_depth
-see_statement_declare local line = ap statement_depth (show_statement_declare local line)
-
-pub see_statement_init_scalar : (local : _) (value : _) (line : _) → statement_depth (statement_of (TStmt.InitScalar local value line)) ≡ 1 + expression_depth (expression_of value)
-unfolding statement_depth
-see_statement_init_scalar local value line = ap statement_depth (show_statement_init_scalar local value line)
-
-pub see_statement_init_list : (local : _) (items : _) (line : _) → statement_depth (statement_of (TStmt.InitList local items line)) ≡ 1 + items_depth (map item_of items.items)
-unfolding statement_depth
-see_statement_init_list local items line = ap statement_depth (show_statement_init_list local items line)
-
-pub see_statement_loop : (shape : _) (begin : _) (condition : _) (step : _) (body : _) (line : _) → statement_depth (statement_of (TStmt.Loop shape begin condition step body line)) ≡ 1 + max (any_depth (option_map expression_of begin)) (max (any_depth (option_map expression_of condition)) (max (any_depth (option_map expression_of step)) (statement_depth (statement_of body.value))))
-unfolding statement_depth
-see_statement_loop shape begin condition step body line = ap statement_depth (show_statement_loop shape begin condition step body line)
-
-pub see_statement_switch : (value : _) (cases : _) (default : _) (statements : _) (line : _) → statement_depth (statement_of (TStmt.Switch value cases default statements line)) ≡ 1 + max (expression_depth (expression_of value)) (1 + body_depth (statements_of (map statement_of statements.items)))
-unfolding statement_depth
-see_statement_switch value cases default statements line = ap statement_depth (show_statement_switch value cases default statements line)
-
-pub see_statement_break : (line : _) → statement_depth (statement_of (TStmt.Break line)) ≡ 1
-unfolding statement_depth
-see_statement_break line = ap statement_depth (show_statement_break line)
-
-pub see_statement_continue : (line : _) → statement_depth (statement_of (TStmt.Continue line)) ≡ 1
-unfolding statement_depth
-see_statement_continue line = ap statement_depth (show_statement_continue line)
-
-pub see_statement_return : (value : _) (line : _) → statement_depth (statement_of (TStmt.Return value line)) ≡ 1 + any_depth (option_map expression_of value)
-unfolding statement_depth
-see_statement_return value line = ap statement_depth (show_statement_return value line)
-
-pub see_statement_if : (arms : _) (last : Option (Box StmtOf.TStmt)) (line : _) → statement_depth (statement_of (TStmt.If arms last line)) ≡ 1 + max (arms_depth (arms_of (map arm_of arms.items))) (last_depth (last_arm_of last))
-unfolding statement_depth
-see_statement_if arms None line = ap statement_depth (show_statement_if_alone arms line)
-see_statement_if arms (Some last) line = ap statement_depth (show_statement_if_else arms last line)
+use Rattle.source_room.specs.Depth.{expression_depth, arguments_depth, item_depth, items_depth, statement_depth, body_depth, arm_depth, arms_depth, last_depth, function_depth, functions_depth, deepest_of}
 
 pub see_arm : (arm : TArm) → arm_depth (arm_of arm) ≡ max (expression_depth (expression_of (out-TArm arm).condition)) (statement_depth (statement_of (out-TArm arm).then))
 unfolding statement_depth
@@ -164,12 +27,6 @@ unfolding statement_depth
 see_no_last = refl
 
 pub ruleset lasts = (see_some_last, see_no_last)
-
-pub ruleset expressions = (see_expression_constant, see_expression_read, see_expression_address, see_expression_convert, see_expression_cast, see_expression_unary, see_expression_binary, see_expression_offset, see_expression_difference, see_expression_logical, see_expression_conditional, see_expression_comma, see_expression_assign, see_expression_struct_assign, see_expression_update, see_expression_step, see_expression_call)
-
-pub ruleset places = (see_place_name, see_place_bit, see_place_member, see_place_deref)
-
-pub ruleset all_statements = (see_statement_block, see_statement_empty, see_statement_expr, see_statement_declare, see_statement_init_scalar, see_statement_init_list, see_statement_loop, see_statement_switch, see_statement_break, see_statement_continue, see_statement_return, see_statement_if)
 
 -- ---- lists
 one_apart : {A : Type 0} (F : List A → ℕ) (xs : List A) (i : ℕ) (x : A) → i < length xs → x ≡ get_or xs i x → F (drop i xs) ≡ F (x ∷ drop (i + 1) xs)

@@ -26,7 +26,7 @@ fn greatest(a: u64, b: u64) -> u64
 }
 
 #[cycle(expressions)]
-#[tactic(auto, using(crate::proofs::Seen::expressions))]
+#[tactic(auto, using(c_typed::proofs::Shapes::expression_shapes), unfolding(crate::specs::Depth::expression_depth))]
 fn depth_of_expression(expr: &TExpr) -> u64
     ensures { result ≡ capped (depth.expression_depth (expression_of expr.now)) }
 {
@@ -70,7 +70,7 @@ fn depth_of_expression(expr: &TExpr) -> u64
 }
 
 #[cycle(expressions)]
-#[tactic(auto, using(crate::proofs::Seen::places))]
+#[tactic(auto, using(c_typed::proofs::Shapes::place_shapes), unfolding(crate::specs::Depth::expression_depth))]
 fn depth_of_place(place: &TPlace) -> u64
     ensures { result ≡ capped (depth.place_depth (place_of place.now)) }
 {
@@ -124,7 +124,7 @@ fn depth_of_items(items: &[TItem]) -> u64
 }
 
 #[cycle(statements)]
-#[tactic(auto, using(crate::proofs::Seen::all_statements))]
+#[tactic(auto, using(c_typed::proofs::Shapes::statement_shapes), unfolding(crate::specs::Depth::statement_depth))]
 fn depth_of_statement(statement: &TStmt) -> u64
     ensures { result ≡ capped (depth.statement_depth (statement_of statement.now)) }
 {
