@@ -2,20 +2,32 @@
 //!
 //! A field of type `u32` that is named after a token is the line of that token. What stands in a list behind a token or
 //! before one is a pair: types that reach one another are dear to prove by their number, and a pair adds none to them.
+//!
+//! Types that reach one another say themselves how they are let go, by a pattern that names their parts: a crate above calls
+//! that, where what is derived would be proved again in each crate that lets one of them go. `Cond` and `Binary` derive
+//! it, since only what derives it can be taken apart elsewhere.
 
 use crate::word::{Constant, Infix, Name, Pointer, Sign, Word};
 
 /// The specifiers of a declaration (ISO/IEC 9899:1990, 6.5), at least one.
 #[cycle(expression)]
-#[derive(Drop)]
 pub struct Specs {
     pub first: Spec,
     pub others: Vec<Spec>,
 }
 
+impl Drop for Specs {
+    #[cycle(expression)]
+    fn drop(self) {
+        let Specs {
+            first: _,
+            others: _,
+        } = self;
+    }
+}
+
 /// A specifier: a word, the name of a type, a structure, or an enumeration.
 #[cycle(expression)]
-#[derive(Drop)]
 pub enum Spec {
     Word(Word),
     /// A name that a `typedef` declared (ISO/IEC 9899:1990, 6.5.6)
@@ -30,9 +42,22 @@ pub enum Spec {
     EnumBody(Box<EnumBody>),
 }
 
+impl Drop for Spec {
+    #[cycle(expression)]
+    fn drop(self) {
+        match self {
+            Spec::Word(_)
+            | Spec::TypeName(_)
+            | Spec::Reference { keyword: _, tag: _ }
+            | Spec::Body(_)
+            | Spec::EnumReference { keyword: _, tag: _ }
+            | Spec::EnumBody(_) => {}
+        }
+    }
+}
+
 /// A structure with its members, at least one (ISO/IEC 9899:1990, 6.5.2.1).
 #[cycle(expression)]
-#[derive(Drop)]
 pub struct StructBody {
     pub keyword: u32,
     pub tag: Option<Name>,
@@ -42,10 +67,23 @@ pub struct StructBody {
     pub closing: u32,
 }
 
+impl Drop for StructBody {
+    #[cycle(expression)]
+    fn drop(self) {
+        let StructBody {
+            keyword: _,
+            tag: _,
+            opening: _,
+            first: _,
+            others: _,
+            closing: _,
+        } = self;
+    }
+}
+
 /// An enumeration with its enumerators, at least one, with a comma after the last or without one
 /// (ISO/IEC 9899:1990, 6.5.2.2).
 #[cycle(expression)]
-#[derive(Drop)]
 pub struct EnumBody {
     pub keyword: u32,
     pub tag: Option<Name>,
@@ -56,12 +94,26 @@ pub struct EnumBody {
     pub closing: u32,
 }
 
+impl Drop for EnumBody {
+    #[cycle(expression)]
+    fn drop(self) {
+        let EnumBody {
+            keyword: _,
+            tag: _,
+            opening: _,
+            first: _,
+            others: _,
+            last_comma: _,
+            closing: _,
+        } = self;
+    }
+}
+
 /// The line of a comma, and an enumerator.
 pub type NextEnumerator = (u32, Enumerator);
 
 /// The name of a number, with its value or without one.
 #[cycle(expression)]
-#[derive(Drop)]
 pub enum Enumerator {
     /// `NAME`
     Bare(Name),
@@ -73,9 +125,22 @@ pub enum Enumerator {
     },
 }
 
+impl Drop for Enumerator {
+    #[cycle(expression)]
+    fn drop(self) {
+        match self {
+            Enumerator::Bare(_)
+            | Enumerator::Valued {
+                name: _,
+                equals: _,
+                value: _,
+            } => {}
+        }
+    }
+}
+
 /// Members of one type.
 #[cycle(expression)]
-#[derive(Drop)]
 pub struct Member {
     pub specs: Specs,
     pub first: Declarator,
@@ -83,21 +148,42 @@ pub struct Member {
     pub semicolon: u32,
 }
 
+impl Drop for Member {
+    #[cycle(expression)]
+    fn drop(self) {
+        let Member {
+            specs: _,
+            first: _,
+            others: _,
+            semicolon: _,
+        } = self;
+    }
+}
+
 /// The line of a comma, and a declarator.
 pub type NextDeclarator = (u32, Declarator);
 
 /// A declarator: pointers, the name that it declares, and suffixes (ISO/IEC 9899:1990, 6.5.4).
 #[cycle(expression)]
-#[derive(Drop)]
 pub struct Declarator {
     pub pointers: Vec<Pointer>,
     pub name: Name,
     pub suffixes: Vec<Suffix>,
 }
 
+impl Drop for Declarator {
+    #[cycle(expression)]
+    fn drop(self) {
+        let Declarator {
+            pointers: _,
+            name: _,
+            suffixes: _,
+        } = self;
+    }
+}
+
 /// What makes an array or a function of what is declared.
 #[cycle(expression)]
-#[derive(Drop)]
 pub enum Suffix {
     /// `[LENGTH]`, where the length may be left out
     Array {
@@ -125,12 +211,39 @@ pub enum Suffix {
     },
 }
 
+impl Drop for Suffix {
+    #[cycle(expression)]
+    fn drop(self) {
+        match self {
+            Suffix::Array {
+                opening: _,
+                length: _,
+                closing: _,
+            }
+            | Suffix::Empty {
+                opening: _,
+                closing: _,
+            }
+            | Suffix::Void {
+                opening: _,
+                void: _,
+                closing: _,
+            }
+            | Suffix::Params {
+                opening: _,
+                first: _,
+                others: _,
+                closing: _,
+            } => {}
+        }
+    }
+}
+
 /// The line of a comma, and a parameter.
 pub type NextParam = (u32, Param);
 
 /// A parameter, with a name or without one.
 #[cycle(expression)]
-#[derive(Drop)]
 pub enum Param {
     Named {
         specs: Specs,
@@ -143,16 +256,42 @@ pub enum Param {
     },
 }
 
+impl Drop for Param {
+    #[cycle(expression)]
+    fn drop(self) {
+        match self {
+            Param::Named {
+                specs: _,
+                declarator: _,
+            }
+            | Param::Unnamed {
+                specs: _,
+                pointers: _,
+                suffixes: _,
+            } => {}
+        }
+    }
+}
+
 /// The name of a type in a cast or in `sizeof` (ISO/IEC 9899:1990, 6.5.5): specifiers and pointers.
 pub type TypeName = (Specs, Vec<Pointer>);
 
 /// An expression: assignments between commas (ISO/IEC 9899:1990, 6.3.17). The arguments of a call
 /// have the same form.
 #[cycle(expression)]
-#[derive(Drop)]
 pub struct Expr {
     pub first: Assign,
     pub others: Vec<NextAssign>,
+}
+
+impl Drop for Expr {
+    #[cycle(expression)]
+    fn drop(self) {
+        let Expr {
+            first: _,
+            others: _,
+        } = self;
+    }
 }
 
 /// The line of a comma, and an assignment.
@@ -160,10 +299,19 @@ pub type NextAssign = (u32, Assign);
 
 /// A value, and what it is assigned to, the outermost first (ISO/IEC 9899:1990, 6.3.16).
 #[cycle(expression)]
-#[derive(Drop)]
 pub struct Assign {
     pub targets: Vec<Target>,
     pub value: Cond,
+}
+
+impl Drop for Assign {
+    #[cycle(expression)]
+    fn drop(self) {
+        let Assign {
+            targets: _,
+            value: _,
+        } = self;
+    }
 }
 
 /// The left side of an assignment, and its operator.
@@ -180,12 +328,23 @@ pub struct Cond {
 
 /// `CONDITION ? THEN :`
 #[cycle(expression)]
-#[derive(Drop)]
 pub struct Choice {
     pub condition: Binary,
     pub question: u32,
     pub then: Box<Expr>,
     pub colon: u32,
+}
+
+impl Drop for Choice {
+    #[cycle(expression)]
+    fn drop(self) {
+        let Choice {
+            condition: _,
+            question: _,
+            then: _,
+            colon: _,
+        } = self;
+    }
 }
 
 /// Operands between binary operators of one level, which group to the left, or one operand alone
@@ -205,15 +364,23 @@ pub type NextOperand = (Infix, Binary);
 
 /// An operand with its prefixes, the outermost first (ISO/IEC 9899:1990, 6.3.3 and 6.3.4).
 #[cycle(expression)]
-#[derive(Drop)]
 pub struct Cast {
     pub prefixes: Vec<Prefix>,
     pub operand: Operand,
 }
 
+impl Drop for Cast {
+    #[cycle(expression)]
+    fn drop(self) {
+        let Cast {
+            prefixes: _,
+            operand: _,
+        } = self;
+    }
+}
+
 /// A prefix of an operand.
 #[cycle(expression)]
-#[derive(Drop)]
 pub enum Prefix {
     /// One of `++ -- & * + - ~ !`
     Operator(Sign),
@@ -229,9 +396,23 @@ pub enum Prefix {
     },
 }
 
+impl Drop for Prefix {
+    #[cycle(expression)]
+    fn drop(self) {
+        match self {
+            Prefix::Operator(_)
+            | Prefix::Sizeof { keyword: _ }
+            | Prefix::Cast {
+                opening: _,
+                type_name: _,
+                closing: _,
+            } => {}
+        }
+    }
+}
+
 /// What prefixes stand before.
 #[cycle(expression)]
-#[derive(Drop)]
 pub enum Operand {
     Postfix(Postfix),
     /// `sizeof(TYPE)`
@@ -243,17 +424,40 @@ pub enum Operand {
     },
 }
 
+impl Drop for Operand {
+    #[cycle(expression)]
+    fn drop(self) {
+        match self {
+            Operand::Postfix(_)
+            | Operand::SizeofType {
+                keyword: _,
+                opening: _,
+                type_name: _,
+                closing: _,
+            } => {}
+        }
+    }
+}
+
 /// A primary expression with its postfixes (ISO/IEC 9899:1990, 6.3.2).
 #[cycle(expression)]
-#[derive(Drop)]
 pub struct Postfix {
     pub primary: Primary,
     pub suffixes: Vec<PostfixSuffix>,
 }
 
+impl Drop for Postfix {
+    #[cycle(expression)]
+    fn drop(self) {
+        let Postfix {
+            primary: _,
+            suffixes: _,
+        } = self;
+    }
+}
+
 /// A postfix of an expression.
 #[cycle(expression)]
-#[derive(Drop)]
 pub enum PostfixSuffix {
     /// `[INDEX]`
     Index {
@@ -276,9 +480,31 @@ pub enum PostfixSuffix {
     Step(Sign),
 }
 
+impl Drop for PostfixSuffix {
+    #[cycle(expression)]
+    fn drop(self) {
+        match self {
+            PostfixSuffix::Index {
+                opening: _,
+                index: _,
+                closing: _,
+            }
+            | PostfixSuffix::Call {
+                opening: _,
+                arguments: _,
+                closing: _,
+            }
+            | PostfixSuffix::Member {
+                operator: _,
+                name: _,
+            }
+            | PostfixSuffix::Step(_) => {}
+        }
+    }
+}
+
 /// A primary expression (ISO/IEC 9899:1990, 6.3.1).
 #[cycle(expression)]
-#[derive(Drop)]
 pub enum Primary {
     Name(Name),
     Constant(Constant),
@@ -288,4 +514,19 @@ pub enum Primary {
         inner: Box<Expr>,
         closing: u32,
     },
+}
+
+impl Drop for Primary {
+    #[cycle(expression)]
+    fn drop(self) {
+        match self {
+            Primary::Name(_)
+            | Primary::Constant(_)
+            | Primary::Group {
+                opening: _,
+                inner: _,
+                closing: _,
+            } => {}
+        }
+    }
 }

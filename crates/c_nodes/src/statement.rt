@@ -1,6 +1,8 @@
 //! Statements, declarations, functions, and the whole unit.
 //!
 //! A field of type `u32` that is named after a token is the line of that token.
+//!
+//! Types that reach one another say themselves how they are let go, as those of expressions do.
 
 use crate::expression::{Assign, Cond, Declarator, Expr, Specs};
 use crate::word::Text;
@@ -64,7 +66,6 @@ pub struct EqualsInit {
 
 /// An initializer (ISO/IEC 9899:1990, 6.5.7).
 #[cycle(init)]
-#[derive(Drop)]
 pub enum Init {
     Assign(Assign),
     Text(Text),
@@ -78,17 +79,39 @@ pub enum Init {
     },
 }
 
+impl Drop for Init {
+    #[cycle(init)]
+    fn drop(self) {
+        match self {
+            Init::Assign(_)
+            | Init::Text(_)
+            | Init::List {
+                opening: _,
+                first: _,
+                others: _,
+                last_comma: _,
+                closing: _,
+            } => {}
+        }
+    }
+}
+
 /// A comma and an initializer.
 #[cycle(init)]
-#[derive(Drop)]
 pub struct NextInit {
     pub comma: u32,
     pub init: Init,
 }
 
+impl Drop for NextInit {
+    #[cycle(init)]
+    fn drop(self) {
+        let NextInit { comma: _, init: _ } = self;
+    }
+}
+
 /// A block (ISO/IEC 9899:1990, 6.6.2).
 #[cycle(statement)]
-#[derive(Drop)]
 pub struct Block {
     pub opening: u32,
     pub declarations: Vec<Declaration>,
@@ -96,9 +119,20 @@ pub struct Block {
     pub closing: u32,
 }
 
+impl Drop for Block {
+    #[cycle(statement)]
+    fn drop(self) {
+        let Block {
+            opening: _,
+            declarations: _,
+            statements: _,
+            closing: _,
+        } = self;
+    }
+}
+
 /// A statement (ISO/IEC 9899:1990, 6.6).
 #[cycle(statement)]
-#[derive(Drop)]
 pub enum Statement {
     Block(Block),
     /// `EXPR;` or `;`
@@ -152,6 +186,57 @@ pub enum Statement {
     },
 }
 
+impl Drop for Statement {
+    #[cycle(statement)]
+    fn drop(self) {
+        match self {
+            Statement::Block(_)
+            | Statement::Expr {
+                expr: _,
+                semicolon: _,
+            }
+            | Statement::If(_)
+            | Statement::While {
+                keyword: _,
+                condition: _,
+                body: _,
+            }
+            | Statement::Do {
+                keyword: _,
+                body: _,
+                while_keyword: _,
+                condition: _,
+                semicolon: _,
+            }
+            | Statement::For {
+                keyword: _,
+                head: _,
+                body: _,
+            }
+            | Statement::Switch {
+                keyword: _,
+                value: _,
+                opening: _,
+                items: _,
+                closing: _,
+            }
+            | Statement::Break {
+                keyword: _,
+                semicolon: _,
+            }
+            | Statement::Continue {
+                keyword: _,
+                semicolon: _,
+            }
+            | Statement::Return {
+                keyword: _,
+                value: _,
+                semicolon: _,
+            } => {}
+        }
+    }
+}
+
 /// `(EXPR)`, the condition of a statement or what a `switch` looks at.
 #[derive(Drop)]
 pub struct Condition {
@@ -174,44 +259,90 @@ pub struct ForHead {
 
 /// `if`, any number of `else if`, and at most one `else`.
 #[cycle(statement)]
-#[derive(Drop)]
 pub struct IfChain {
     pub first: Box<Arm>,
     pub others: Vec<ElseArm>,
     pub last: Option<Box<Otherwise>>,
 }
 
+impl Drop for IfChain {
+    #[cycle(statement)]
+    fn drop(self) {
+        let IfChain {
+            first: _,
+            others: _,
+            last: _,
+        } = self;
+    }
+}
+
 /// `if (CONDITION) THEN`
 #[cycle(statement)]
-#[derive(Drop)]
 pub struct Arm {
     pub keyword: u32,
     pub condition: Condition,
     pub then: Statement,
 }
 
+impl Drop for Arm {
+    #[cycle(statement)]
+    fn drop(self) {
+        let Arm {
+            keyword: _,
+            condition: _,
+            then: _,
+        } = self;
+    }
+}
+
 /// `else if (CONDITION) THEN`
 #[cycle(statement)]
-#[derive(Drop)]
 pub struct ElseArm {
     pub else_keyword: u32,
     pub arm: Arm,
 }
 
+impl Drop for ElseArm {
+    #[cycle(statement)]
+    fn drop(self) {
+        let ElseArm {
+            else_keyword: _,
+            arm: _,
+        } = self;
+    }
+}
+
 /// `else STATEMENT`
 #[cycle(statement)]
-#[derive(Drop)]
 pub struct Otherwise {
     pub keyword: u32,
     pub statement: Statement,
 }
 
+impl Drop for Otherwise {
+    #[cycle(statement)]
+    fn drop(self) {
+        let Otherwise {
+            keyword: _,
+            statement: _,
+        } = self;
+    }
+}
+
 /// What stands in the body of a `switch`.
 #[cycle(statement)]
-#[derive(Drop)]
 pub enum SwitchItem {
     Label(Label),
     Statement(Statement),
+}
+
+impl Drop for SwitchItem {
+    #[cycle(statement)]
+    fn drop(self) {
+        match self {
+            SwitchItem::Label(_) | SwitchItem::Statement(_) => {}
+        }
+    }
 }
 
 /// A label of a `switch` (ISO/IEC 9899:1990, 6.6.1).
