@@ -140,7 +140,7 @@ hands_step v d op place operation size ty line k m w = ap (λ e. handed v d (In 
 pub hands_call : (v : Datum) (d : CopyOf) (function : _) (given : _) (ty : _) (line : _) (k : List Pending) (m : Memory) (w : World Byte) → handed v d (In (expression_of (TExpr.Call function given ty line)) Called ∷ k) m w ≡ goes d (Holds v) k m w
 hands_call v d function given ty line k m w = ap (λ e. handed v d (In e Called ∷ k) m w) (show_expression_call function given ty line)
 
-pub ruleset hands = (hands_constant, hands_read, hands_address, hands_convert, hands_cast, hands_unary, hands_binary, hands_offset, hands_difference, hands_logical, hands_conditional, hands_comma, hands_assign, hands_struct_assign, hands_update, hands_step, hands_call)
+pub ruleset hands = (hands_call)
 
 abbrev pub is_passed : Got → Bool
 is_passed Nothing = false

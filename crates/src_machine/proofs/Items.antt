@@ -286,6 +286,6 @@ no_place_blanks_at s spot k c m w (tree.Break line) = refl
 no_place_blanks_at s spot k c m w (tree.Continue line) = refl
 no_place_blanks_at s spot k c m w (tree.Return e line) = refl
 
-pub ruleset found_items = (item_found_block, item_found_empty, item_found_expr, item_found_declare, item_found_init_scalar, item_found_if, item_found_loop, item_found_switch, item_found_break, item_found_continue, item_found_return, item_found_struct, item_found_scalar, item_found_text, item_found_none)
+pub ruleset found_items = (item_found_struct, item_found_scalar, item_found_text, item_found_none)
 
 pub ruleset no_finds = (no_place_tests_at, no_place_begins_at, no_place_steps_at, no_place_turns_at, no_place_picks_at, no_place_in_arm_at, no_place_chooses_at, no_place_fills_at, no_place_items_at, no_place_blanks_at)

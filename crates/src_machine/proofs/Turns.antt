@@ -224,8 +224,8 @@ starts_list s t x local all line k c m w h i =
 
 pub ruleset begins = (starts_block, starts_empty, starts_expr, starts_declare, starts_init_scalar, starts_init_list, starts_loop, starts_switch, starts_break, starts_continue, starts_if)
 
-pub ruleset turns = (turns_block, turns_empty, turns_expr, turns_declare, turns_init_scalar, turns_init_list, turns_loop, turns_switch, turns_break, turns_continue, turns_return, turns_if)
+pub ruleset turns = (turns_loop, turns_switch)
 
-pub ruleset arms_end = (arm_ends_block, arm_ends_empty, arm_ends_expr, arm_ends_declare, arm_ends_init_scalar, arm_ends_init_list, arm_ends_loop, arm_ends_switch, arm_ends_break, arm_ends_continue, arm_ends_return, arm_ends)
+pub ruleset arms_end = (arm_ends)
 
 pub ruleset returns = (is_return_block, is_return_empty, is_return_expr, is_return_declare, is_return_init_scalar, is_return_init_list, is_return_loop, is_return_switch, is_return_break, is_return_continue, is_return_return, is_return_if)
