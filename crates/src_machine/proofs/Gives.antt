@@ -1,5 +1,5 @@
 -- What statements do with a value, of the trees that the code has.
-use Rattle.std.proofs.Common.{◌≡◌, ℕ, zero, suc, ◌+◌, ◌<◌, ◌≤◌, arith, length, List, [], ◌∷◌, map, drop, Option, None, Some, refl, sym, subst, ap, ◌∙◌}
+use Rattle.std.proofs.Common.{◌≡◌, ℕ, zero, suc, ◌+◌, ◌<◌, ◌≤◌, arith, length, List, [], ◌∷◌, map, drop, Option, refl, sym, subst, ap, ◌∙◌}
 use Rattle.std.specs.Global.{Box, Global}
 use Rattle.std.specs.Prelude.{get_or, option_map}
 use Rattle.std.specs.declared.vec.Vec.{Vec}

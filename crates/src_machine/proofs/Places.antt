@@ -1,10 +1,10 @@
 -- What places and expressions do with a place that was found, and places with the value of a pointer, of the trees that
 -- the code has.
-use Rattle.std.proofs.Common.{◌≡◌, ℕ, List, [], ◌∷◌, map, refl, sym, subst, ap}
+use Rattle.std.proofs.Common.{◌≡◌, List, ◌∷◌, refl, sym, subst, ap}
 use Rattle.c_typed.proofs.Shapes.{show_expression_constant, show_expression_read, show_expression_address, show_expression_convert, show_expression_cast, show_expression_unary, show_expression_binary, show_expression_offset, show_expression_difference, show_expression_logical, show_expression_conditional, show_expression_comma, show_expression_assign, show_expression_struct_assign, show_expression_update, show_expression_step, show_expression_call, show_place_name, show_place_bit, show_place_member, show_place_deref}
 use Rattle.c_typed.specs.Trees as tree
 use Rattle.c_typed.specs.Trees.{Expression, Expressions}
-use Rattle.c_typed.specs.Views.{expression_of, place_of, arguments_of}
+use Rattle.c_typed.specs.Views.{expression_of, place_of}
 use Rattle.c_typed.specs.declared.expression.TExpr.TheVariants as TExpr
 use Rattle.c_typed.specs.declared.expression.TPlace.TheVariants as TPlace
 use Rattle.pic_world.specs.World.{World}
