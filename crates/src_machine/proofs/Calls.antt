@@ -1,5 +1,5 @@
 -- Calls and their ends, of the expressions that the code has.
-use Rattle.std.proofs.Common.{◌≡◌, Bool, true, false, if◌then◌else◌, List, [], ◌∷◌, refl, sym, subst, ap, ◌∙◌}
+use Rattle.std.proofs.Common.{◌≡◌, Bool, true, false, List, ◌∷◌, refl, sym, subst, ap, ◌∙◌}
 use Rattle.c_typed.proofs.Shapes.{show_expression_constant, show_expression_read, show_expression_address, show_expression_convert, show_expression_cast, show_expression_unary, show_expression_binary, show_expression_offset, show_expression_difference, show_expression_logical, show_expression_conditional, show_expression_comma, show_expression_assign, show_expression_struct_assign, show_expression_update, show_expression_step, show_expression_call}
 use Rattle.c_typed.specs.Trees as tree
 use Rattle.c_typed.specs.Trees.{Expression, Program}
@@ -9,18 +9,17 @@ use Rattle.c_typed.specs.declared.expression.TExpr.TheVariants as TExpr
 use Rattle.pic_world.specs.World.{World}
 use Rattle.src_machine.specs.Passing.{called, FitFrom, FitCall}
 use Rattle.src_rules.specs.Accesses.{goes}
-use Rattle.src_rules.specs.State.{Outcome, Lost, Undefined}
+use Rattle.src_rules.specs.State.{Outcome, Lost}
 use Rattle.src_rules.specs.Statements.{handed}
 use Rattle.src_rules.specs.Step.{call_in, copy_of}
-use Rattle.src_values.specs.Control.{Holds, Past, Nothing, Chosen, One, At, AtWith, Stores, Copies, Args, Passed, Called, Got, Pending, In, Returns}
+use Rattle.src_values.specs.Control.{Holds, Nothing, Chosen, One, At, AtWith, Stores, Copies, Args, Passed, Called, Got, Pending, In}
 use Rattle.src_values.specs.Data.{Datum}
-use Rattle.src_values.specs.Memory.{Memory, fresh}
+use Rattle.src_values.specs.Memory.{Memory}
 use Rattle.src_values.specs.Seen.{got_in, has_values}
 use Rattle.src_values.specs.declared.control.Got.{Got as CodeGot}
 use Rattle.src_values.specs.declared.control.Got.TheVariants as gots
 use Rattle.src_values.specs.declared.objects.Byte.{Byte}
 use Rattle.src_values.specs.declared.objects.CopyOf.{CopyOf}
-use Rattle.src_values.specs.declared.objects.Undef.TheVariants.{Unset}
 
 abbrev pub is_called : Got → Bool
 is_called Nothing = false
@@ -140,7 +139,7 @@ hands_step v d op place operation size ty line k m w = ap (λ e. handed v d (In 
 pub hands_call : (v : Datum) (d : CopyOf) (function : _) (given : _) (ty : _) (line : _) (k : List Pending) (m : Memory) (w : World Byte) → handed v d (In (expression_of (TExpr.Call function given ty line)) Called ∷ k) m w ≡ goes d (Holds v) k m w
 hands_call v d function given ty line k m w = ap (λ e. handed v d (In e Called ∷ k) m w) (show_expression_call function given ty line)
 
-pub ruleset hands = (hands_constant, hands_read, hands_address, hands_convert, hands_cast, hands_unary, hands_binary, hands_offset, hands_difference, hands_logical, hands_conditional, hands_comma, hands_assign, hands_struct_assign, hands_update, hands_step, hands_call)
+pub ruleset hands = (hands_call)
 
 abbrev pub is_passed : Got → Bool
 is_passed Nothing = false

@@ -1,5 +1,5 @@
 -- Arms, statements and items by their numbers, of the lists that the code has.
-use Rattle.std.proofs.Common.{◌≡◌, Bool, ℕ, zero, suc, ◌+◌, ◌<◌, ◌≤◌, length, arith, List, [], ◌∷◌, true, false, map, drop, Option, Some, None, option_map, slice_get, refl, sym, subst, ap, ◌∙◌}
+use Rattle.std.proofs.Common.{◌≡◌, Bool, ℕ, zero, suc, ◌<◌, ◌≤◌, length, arith, List, [], ◌∷◌, true, false, map, drop, Option, Some, None, option_map, slice_get, refl, sym, subst, ap, ◌∙◌}
 use Rattle.std.specs.Prelude.{get_or, Vec}
 use Rattle.std.specs.Global.{Global}
 use Rattle.c_typed.proofs.Shapes.{show_arm}
@@ -8,7 +8,6 @@ use Rattle.c_typed.specs.Trees.{Statement, Arms, LastArm, Item}
 use Rattle.c_typed.specs.Views.{expression_of, place_of, statement_of, statements_of, arm_of, arms_of, last_arm_of, item_of}
 use Rattle.c_typed.specs.declared.statement.TArm.{TArm}
 use Rattle.c_typed.specs.declared.statement.TItem.{TItem}
-use Rattle.c_typed.specs.declared.statement.TItem.TheVariants as TItem
 use Rattle.c_typed.specs.declared.statement.TStmt.{TStmt}
 use Rattle.c_typed.specs.declared.statement.TStmt.TheViews.{out-TArm}
 use Rattle.pic_world.specs.World.{World}
@@ -16,7 +15,7 @@ use Rattle.src_machine.specs.Branches.{IsIf, HasItems}
 use Rattle.src_rules.specs.Accesses.{goes, items}
 use Rattle.src_rules.specs.Giving.{take_for, branch}
 use Rattle.src_rules.specs.State.{Lost, Undefined}
-use Rattle.src_rules.specs.Statements.{arms, last, proceed}
+use Rattle.src_rules.specs.Statements.{arms, proceed}
 use Rattle.src_values.specs.Control as control
 use Rattle.src_values.specs.Control.{Pending, Eval, Find, Spell, Blank, Run, Past, Doing, Before, InArm, statement_line}
 use Rattle.src_values.specs.Data.{Datum}

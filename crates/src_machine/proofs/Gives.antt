@@ -1,5 +1,5 @@
 -- What statements do with a value, of the trees that the code has.
-use Rattle.std.proofs.Common.{◌≡◌, ℕ, zero, suc, ◌+◌, ◌<◌, ◌≤◌, arith, length, List, [], ◌∷◌, map, drop, Option, None, Some, refl, sym, subst, ap, ◌∙◌}
+use Rattle.std.proofs.Common.{◌≡◌, ℕ, zero, suc, ◌+◌, ◌<◌, ◌≤◌, arith, length, List, [], ◌∷◌, map, drop, Option, refl, sym, subst, ap, ◌∙◌}
 use Rattle.std.specs.Global.{Box, Global}
 use Rattle.std.specs.Prelude.{get_or, option_map}
 use Rattle.std.specs.declared.vec.Vec.{Vec}
@@ -630,20 +630,20 @@ all_behind [] (suc n) = refl
 all_behind (s ∷ ss) zero = refl
 all_behind (s ∷ ss) (suc n) = all_behind ss n
 
-pub ruleset tests = (tests_block, tests_empty, tests_expr, tests_declare, tests_init_scalar, tests_init_list, tests_if, tests_loop, tests_switch, tests_break, tests_continue, tests_return)
+pub ruleset tests = (tests_expr, tests_init_scalar, tests_loop, tests_switch, tests_return)
 
-pub ruleset begins = (begins_block, begins_empty, begins_expr, begins_declare, begins_init_scalar, begins_init_list, begins_if, begins_loop, begins_switch, begins_break, begins_continue, begins_return)
+pub ruleset begins = (begins_loop)
 
-pub ruleset steps = (steps_block, steps_empty, steps_expr, steps_declare, steps_init_scalar, steps_init_list, steps_if, steps_loop, steps_switch, steps_break, steps_continue, steps_return)
+pub ruleset steps = (steps_loop)
 
-pub ruleset items_taken = (item_taken_block, item_taken_empty, item_taken_expr, item_taken_declare, item_taken_init_scalar, item_taken_if, item_taken_loop, item_taken_switch, item_taken_break, item_taken_continue, item_taken_return, item_taken_scalar, item_taken_struct, item_taken_text, item_taken_none)
+pub ruleset items_taken = (item_taken_scalar, item_taken_struct, item_taken_text, item_taken_none)
 
-pub ruleset arms_taken = (arm_taken_block, arm_taken_empty, arm_taken_expr, arm_taken_declare, arm_taken_init_scalar, arm_taken_init_list, arm_taken_loop, arm_taken_switch, arm_taken_break, arm_taken_continue, arm_taken_return, is_if)
+pub ruleset arms_taken = (is_if)
 
 pub ruleset no_values = (no_value_at_turns, no_value_at_in_arm, no_value_at_chooses, no_value_at_fills, no_value_at_items, no_value_at_blanks)
 
 pub ruleset no_labels = (no_label_tests, no_label_begins, no_label_steps, no_label_turns, no_label_picks, no_label_in_arm, no_label_fills, no_label_at_item, no_label_items, no_label_blanks)
 
-pub ruleset labels = (labels_block, labels_empty, labels_expr, labels_declare, labels_init_scalar, labels_init_list, labels_if, labels_loop, labels_switch, labels_break, labels_continue, labels_return)
+pub ruleset labels = (labels_switch)
 
 pub ruleset one_more_label = (one_label, no_label)

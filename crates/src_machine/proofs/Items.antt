@@ -1,12 +1,12 @@
 -- What statements do with a place that was found, of the trees that the code has.
-use Rattle.std.proofs.Common.{◌≡◌, ℕ, zero, suc, ◌+◌, ◌<◌, ◌≤◌, arith, length, List, [], ◌∷◌, map, drop, None, Some, refl, sym, subst, ap, ◌∙◌}
+use Rattle.std.proofs.Common.{◌≡◌, ℕ, zero, suc, ◌<◌, ◌≤◌, arith, length, List, [], ◌∷◌, map, drop, refl, sym, subst, ap, ◌∙◌}
 use Rattle.std.specs.Global.{Global}
 use Rattle.std.specs.Prelude.{get_or}
 use Rattle.std.specs.declared.vec.Vec.{Vec}
 use Rattle.c_typed.proofs.Shapes.{show_statement_block, show_statement_empty, show_statement_expr, show_statement_declare, show_statement_init_scalar, show_statement_init_list, show_statement_loop, show_statement_switch, show_statement_break, show_statement_continue, show_statement_return}
 use Rattle.c_typed.specs.Trees as tree
 use Rattle.c_typed.specs.Trees.{Item, Arms, LastArm, Statement}
-use Rattle.c_typed.specs.Views.{statement_of, item_of, arms_of, arm_of, last_arm_of}
+use Rattle.c_typed.specs.Views.{statement_of, item_of}
 use Rattle.c_typed.specs.declared.statement.TItem.{TItem}
 use Rattle.c_typed.specs.declared.statement.TItem.TheVariants as items
 use Rattle.c_typed.specs.declared.statement.TStmt.TheVariants as TStmt
@@ -286,6 +286,6 @@ no_place_blanks_at s spot k c m w (tree.Break line) = refl
 no_place_blanks_at s spot k c m w (tree.Continue line) = refl
 no_place_blanks_at s spot k c m w (tree.Return e line) = refl
 
-pub ruleset found_items = (item_found_block, item_found_empty, item_found_expr, item_found_declare, item_found_init_scalar, item_found_if, item_found_loop, item_found_switch, item_found_break, item_found_continue, item_found_return, item_found_struct, item_found_scalar, item_found_text, item_found_none)
+pub ruleset found_items = (item_found_struct, item_found_scalar, item_found_text, item_found_none)
 
 pub ruleset no_finds = (no_place_tests_at, no_place_begins_at, no_place_steps_at, no_place_turns_at, no_place_picks_at, no_place_in_arm_at, no_place_chooses_at, no_place_fills_at, no_place_items_at, no_place_blanks_at)

@@ -30,3 +30,5 @@ pub mod Going
 pub mod Following
 pub mod Beginning
 pub mod Copying
+pub mod OtherNodes
+pub mod OtherStatements

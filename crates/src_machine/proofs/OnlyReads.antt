@@ -56,4 +56,4 @@ is_read_step op place operation size ty line = ap is_read (show_expression_step 
 pub is_read_call : (function : _) (arguments : _) (ty : _) (line : _) → is_read (expression_of (TExpr.Call function arguments ty line)) ≡ false
 is_read_call function arguments ty line = ap is_read (show_expression_call function arguments ty line)
 
-pub ruleset reads = (is_read_constant, is_read_read, is_read_address, is_read_convert, is_read_cast, is_read_unary, is_read_binary, is_read_offset, is_read_difference, is_read_logical, is_read_conditional, is_read_comma, is_read_assign, is_read_struct_assign, is_read_update, is_read_step, is_read_call)
+pub ruleset reads = (is_read_read)

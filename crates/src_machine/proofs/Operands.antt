@@ -9,7 +9,7 @@ use Rattle.src_values.specs.Control.{Focus, Eval, Find, Holds, Found, Run, Past,
 use Rattle.src_values.specs.Data.{Datum}
 use Rattle.src_values.specs.Memory.{Setting, Memory}
 use Rattle.src_values.specs.Seen.{is_over}
-use Rattle.src_values.specs.Values.{Answer, binary_answer}
+use Rattle.src_values.specs.Values.{binary_answer}
 use Rattle.src_values.specs.declared.objects.Byte.{Byte}
 use Rattle.src_values.specs.declared.objects.CopyOf.{CopyOf}
 

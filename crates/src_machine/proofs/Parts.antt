@@ -1,5 +1,5 @@
 -- What is left of lists of parts, of the trees that the code has.
-use Rattle.std.proofs.Common.{◌≡◌, ℕ, zero, suc, ◌+◌, ◌<◌, ◌≤◌, min, nat_lt, Bool, length, arith, List, [], ◌∷◌, ◌++◌, true, false, map, refl, sym, subst, ap, ◌∙◌}
+use Rattle.std.proofs.Common.{◌≡◌, ℕ, zero, suc, ◌+◌, ◌<◌, ◌≤◌, min, nat_lt, Bool, length, arith, List, [], ◌∷◌, ◌++◌, true, false, map, refl, sym, ap, ◌∙◌}
 use Rattle.std.specs.Prelude.{get_or}
 use Rattle.c_typed.proofs.Shapes.{show_expression_call}
 use Rattle.c_typed.specs.Trees as tree

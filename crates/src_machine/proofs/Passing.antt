@@ -1,5 +1,5 @@
 -- The values of arguments that stand on top, and the parameters that get them.
-use Rattle.std.proofs.Common.{◌≡◌, Bool, true, false, ℕ, zero, suc, ◌+◌, ◌<◌, ◌≤◌, length, arith, List, [], ◌∷◌, ◌++◌, ◌-◌, not, if◌then◌else◌, reverse, drop, take, Option, Some, None, slice_get, refl, sym, subst, ap, ◌∙◌}
+use Rattle.std.proofs.Common.{◌≡◌, Bool, true, false, ℕ, zero, suc, ◌+◌, ◌<◌, ◌≤◌, length, arith, List, [], ◌∷◌, ◌++◌, ◌-◌, not, if◌then◌else◌, reverse, drop, take, Some, slice_get, refl, sym, subst, ap, ◌∙◌}
 use Rattle.std.proofs.lemmas.List.{reverse-append, append-nil, append_assoc, take-append-drop}
 use Rattle.std.proofs.lemmas.Option.{slice_get-get_or}
 use Rattle.std.proofs.Math.Seq.{take-suc}
@@ -19,7 +19,6 @@ use Rattle.src_machine.proofs.Parts.{no_value_below}
 use Rattle.src_machine.specs.Passing.{values_among, is_value, value_in, are_values, given, missing_in, called, FitFrom, FitAt}
 use Rattle.src_rules.specs.Step.{with_values, has_missing, copy_of, body_of}
 use Rattle.src_values.specs.Control.{Focus, Past, In, Called, Returns}
-use Rattle.src_values.specs.Data.{Datum}
 use Rattle.src_values.specs.Memory.{Memory, fresh}
 use Rattle.src_values.specs.Seen.{values_on, datum_of, focus_in, frames_in, frames_behind}
 use Rattle.src_values.specs.declared.control.Pending.{Pending}

@@ -1,10 +1,10 @@
 -- What places and expressions do with a place that was found, and places with the value of a pointer, of the trees that
 -- the code has.
-use Rattle.std.proofs.Common.{◌≡◌, ℕ, List, [], ◌∷◌, map, refl, sym, subst, ap}
+use Rattle.std.proofs.Common.{◌≡◌, List, ◌∷◌, refl, sym, subst, ap}
 use Rattle.c_typed.proofs.Shapes.{show_expression_constant, show_expression_read, show_expression_address, show_expression_convert, show_expression_cast, show_expression_unary, show_expression_binary, show_expression_offset, show_expression_difference, show_expression_logical, show_expression_conditional, show_expression_comma, show_expression_assign, show_expression_struct_assign, show_expression_update, show_expression_step, show_expression_call, show_place_name, show_place_bit, show_place_member, show_place_deref}
 use Rattle.c_typed.specs.Trees as tree
 use Rattle.c_typed.specs.Trees.{Expression, Expressions}
-use Rattle.c_typed.specs.Views.{expression_of, place_of, arguments_of}
+use Rattle.c_typed.specs.Views.{expression_of, place_of}
 use Rattle.c_typed.specs.declared.expression.TExpr.TheVariants as TExpr
 use Rattle.c_typed.specs.declared.expression.TPlace.TheVariants as TPlace
 use Rattle.pic_world.specs.World.{World}
@@ -312,9 +312,9 @@ no_place_called s spot k c m w (tree.Update op place value operation size ty lin
 no_place_called s spot k c m w (tree.Step op place operation size ty line) = refl
 no_place_called s spot k c m w (tree.Call function arguments ty line) = refl
 
-pub ruleset first_places = (first_found_constant, first_found_read, first_found_address, first_found_convert, first_found_cast, first_found_unary, first_found_binary, first_found_offset, first_found_difference, first_found_logical, first_found_conditional, first_found_comma, first_found_assign, first_found_struct_assign, first_found_update, first_found_step, first_found_call)
+pub ruleset first_places = (first_found_read, first_found_address, first_found_assign, first_found_struct_assign, first_found_update, first_found_step)
 
-pub ruleset second_places = (second_found_constant, second_found_read, second_found_address, second_found_convert, second_found_cast, second_found_unary, second_found_binary, second_found_offset, second_found_difference, second_found_logical, second_found_conditional, second_found_comma, second_found_assign, second_found_struct_assign, second_found_update, second_found_step, second_found_call)
+pub ruleset second_places = (second_found_struct_assign)
 
 pub ruleset finds = (find_name, find_bit, find_member, find_deref)
 

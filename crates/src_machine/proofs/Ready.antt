@@ -1,9 +1,9 @@
 -- The next step of a state, found one micro-step after another; and the states of a run, up to flags that have arrived.
-use Rattle.std.proofs.Common.{◌≡◌, ◌≤◌, ◌<◌, ◌⊎◌, inl, ⊎_elim, ℕ, zero, suc, ◌+◌, ◌*◌, Bool, true, false, not, ◌||◌, Option, length, refl, sym, ap, ◌∙◌, subst, arith}
+use Rattle.std.proofs.Common.{◌≡◌, ◌≤◌, ◌<◌, inl, ⊎_elim, ℕ, zero, suc, ◌+◌, ◌*◌, Bool, true, false, not, ◌||◌, Option, length, refl, sym, ap, ◌∙◌, subst, arith}
 use Rattle.std.proofs.lemmas.Bool.{false≢true}
 use Rattle.std.specs.Prelude.{if◌then◌else◌}
 use Rattle.c_typed.specs.TreeNodes.{nodes_of}
-use Rattle.pic_world.specs.World.{Happening, arrived}
+use Rattle.pic_world.specs.World.{Happening}
 use Rattle.src_machine.specs.Steps.{IsGiven, IsOnRun, IsRoom, settled}
 use Rattle.src_rules.proofs.Changes.{arrivals_once}
 use Rattle.src_rules.proofs.Depths.{short}

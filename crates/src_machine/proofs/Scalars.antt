@@ -44,4 +44,4 @@ pub is_scalar_if : (arms : _) (otherwise : Option (Box TStmt)) (line : _) → is
 is_scalar_if arms None line = ap is_scalar (show_statement_if_alone arms line)
 is_scalar_if arms (Some last) line = ap is_scalar (show_statement_if_else arms last line)
 
-pub ruleset scalars = (is_scalar_block, is_scalar_empty, is_scalar_expr, is_scalar_declare, is_scalar_init_scalar, is_scalar_init_list, is_scalar_loop, is_scalar_switch, is_scalar_break, is_scalar_continue, is_scalar_return, is_scalar_if)
+pub ruleset scalars = (is_scalar_init_scalar)

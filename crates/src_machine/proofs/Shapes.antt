@@ -1,5 +1,5 @@
 -- An `if` as pure data, with or without an `else`; and what waits below a frame that is taken off.
-use Rattle.std.proofs.Common.{◌≡◌, None, Some, List, [], ◌∷◌, ◌++◌, reverse, map, sym, refl, ap, ◌∙◌}
+use Rattle.std.proofs.Common.{◌≡◌, None, Some, List, [], ◌∷◌, ◌++◌, reverse, map}
 use Rattle.std.proofs.lemmas.List.{reverse-append}
 use Rattle.c_typed.proofs.Shapes.{show_statement_if_alone, show_statement_if_else}
 use Rattle.c_typed.specs.Trees as tree

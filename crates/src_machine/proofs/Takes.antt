@@ -1,9 +1,9 @@
 -- What each expression does with the value of a part, of the trees that the code has.
-use Rattle.std.proofs.Common.{◌≡◌, ℕ, true, false, if◌then◌else◌, List, [], ◌∷◌, ◌++◌, map, refl, sym, subst, ap}
+use Rattle.std.proofs.Common.{◌≡◌, false, List, [], ◌∷◌, ◌++◌, refl, sym, subst, ap}
 use Rattle.c_typed.proofs.Shapes.{show_expression_constant, show_expression_read, show_expression_address, show_expression_convert, show_expression_cast, show_expression_unary, show_expression_binary, show_expression_offset, show_expression_difference, show_expression_logical, show_expression_conditional, show_expression_comma, show_expression_assign, show_expression_struct_assign, show_expression_update, show_expression_step, show_expression_call}
 use Rattle.c_typed.specs.Trees as tree
 use Rattle.c_typed.specs.Trees.{Expression, Expressions}
-use Rattle.c_typed.specs.Views.{expression_of, place_of, arguments_of}
+use Rattle.c_typed.specs.Views.{expression_of}
 use Rattle.c_typed.specs.Words.{step_operator}
 use Rattle.c_typed.specs.declared.expression.TExpr.TheVariants as TExpr
 use Rattle.pic_world.specs.World.{World}
@@ -402,16 +402,12 @@ none_called s v k c m w (tree.Update op place value operation size ty line) = re
 none_called s v k c m w (tree.Step op place operation size ty line) = refl
 none_called s v k c m w (tree.Call function arguments ty line) = refl
 
-pub ruleset first_parts = (first_constant, first_read, first_address, first_convert, first_cast, first_unary, first_binary, first_offset, first_difference, first_logical, first_conditional, first_comma, first_assign, first_struct_assign, first_update, first_step, first_call)
+pub ruleset first_parts = (first_convert, first_cast, first_unary, first_binary, first_offset, first_difference, first_logical, first_conditional, first_comma)
 
-pub ruleset chosen_parts = (chosen_constant, chosen_read, chosen_address, chosen_convert, chosen_cast, chosen_unary, chosen_binary, chosen_offset, chosen_difference, chosen_logical, chosen_conditional, chosen_comma, chosen_assign, chosen_struct_assign, chosen_update, chosen_step, chosen_call)
+pub ruleset chosen_parts = (chosen_conditional)
 
-pub ruleset right_lost = (right_constant, right_read, right_address, right_convert, right_cast, right_unary, right_conditional, right_comma, right_assign, right_struct_assign, right_update, right_step, right_call)
+pub ruleset at_parts = (at_assign, at_update, at_step)
 
-pub ruleset at_parts = (at_constant, at_read, at_address, at_convert, at_cast, at_unary, at_binary, at_offset, at_difference, at_logical, at_conditional, at_comma, at_assign, at_struct_assign, at_update, at_step, at_call)
-
-pub ruleset old_parts = (old_constant, old_read, old_address, old_convert, old_cast, old_unary, old_binary, old_offset, old_difference, old_logical, old_conditional, old_comma, old_assign, old_struct_assign, old_update, old_step, old_call)
-
-pub ruleset args_lost = (args_constant, args_read, args_address, args_convert, args_cast, args_unary, args_binary, args_offset, args_difference, args_logical, args_conditional, args_comma, args_assign, args_struct_assign, args_update, args_step)
+pub ruleset old_parts = (old_update)
 
 pub ruleset nowhere = (none_stored, none_copied, none_passed, none_called)

@@ -1,16 +1,16 @@
 -- What follows an access to a byte.
-use Rattle.std.proofs.Common.{◌≡◌, ℕ, List, refl, sym, ap, ◌∙◌}
+use Rattle.std.proofs.Common.{◌≡◌, ℕ, List, sym, ap, ◌∙◌}
 use Rattle.std.specs.Prelude.{Ok, Err}
 use Rattle.pic_world.specs.World.{Outside, World}
-use Rattle.src_machine.specs.Seen.{state_in, stack_of, memory_of}
+use Rattle.src_machine.specs.Seen.{stack_of, memory_of}
 use Rattle.src_machine.specs.Telling.{Tells}
 use Rattle.src_machine.specs.declared.machine.Machine.{Machine}
 use Rattle.src_machine.specs.declared.machine.Outcome.TheVariants.{Went, Undefined}
-use Rattle.src_memory.specs.Accessed.{TellsTaking, TellsPutting, IsTaken, IsPut}
+use Rattle.src_memory.specs.Accessed.{TellsTaking, TellsPutting}
 use Rattle.src_memory.specs.declared.accesses.Taken.{Taken}
 use Rattle.src_memory.specs.declared.world.World.{World as Worlds}
 use Rattle.src_rules.specs.Accesses.{after_taking, after_putting}
-use Rattle.src_rules.specs.State.{State, state}
+use Rattle.src_rules.specs.State.{state}
 use Rattle.src_values.specs.Accesses.{Taking, Takes, Breaks, Putting, Puts, Refuses}
 use Rattle.src_values.specs.Control.{Focus, Pending}
 use Rattle.src_values.specs.Memory.{Memory}

@@ -1,5 +1,5 @@
 -- The top of the stack.
-use Rattle.std.proofs.Common.{◌≡◌, Bool, true, false, List, [], ◌∷◌, ◌++◌, map, drop, reverse, refl, sym, ap, ◌∙◌}
+use Rattle.std.proofs.Common.{◌≡◌, Bool, false, List, [], ◌∷◌, ◌++◌, map, drop, reverse, refl, ap, ◌∙◌}
 use Rattle.std.proofs.lemmas.List.{reverse-append, append-nil}
 use Rattle.src_machine.specs.Telling.{is_interrupted}
 use Rattle.src_values.specs.Control.{Focus}

@@ -1,5 +1,5 @@
 -- How each statement begins, and what follows a part of it, of the trees that the code has.
-use Rattle.std.proofs.Common.{◌≡◌, ℕ, true, false, List, [], ◌∷◌, map, Option, Some, None, option_map, refl, sym, subst, ap, ◌∙◌}
+use Rattle.std.proofs.Common.{◌≡◌, ℕ, true, false, List, ◌∷◌, map, Option, Some, None, option_map, refl, sym, subst, ap, ◌∙◌}
 use Rattle.c_typed.proofs.Shapes.{show_statement_block, show_statement_empty, show_statement_expr, show_statement_declare, show_statement_init_scalar, show_statement_init_list, show_statement_if_alone, show_statement_if_else, show_statement_loop, show_statement_switch, show_statement_break, show_statement_continue, show_statement_return}
 use Rattle.c_typed.specs.Trees as tree
 use Rattle.c_typed.specs.Trees.{Expression, Statement, Arms}
@@ -224,8 +224,8 @@ starts_list s t x local all line k c m w h i =
 
 pub ruleset begins = (starts_block, starts_empty, starts_expr, starts_declare, starts_init_scalar, starts_init_list, starts_loop, starts_switch, starts_break, starts_continue, starts_if)
 
-pub ruleset turns = (turns_block, turns_empty, turns_expr, turns_declare, turns_init_scalar, turns_init_list, turns_loop, turns_switch, turns_break, turns_continue, turns_return, turns_if)
+pub ruleset turns = (turns_loop, turns_switch)
 
-pub ruleset arms_end = (arm_ends_block, arm_ends_empty, arm_ends_expr, arm_ends_declare, arm_ends_init_scalar, arm_ends_init_list, arm_ends_loop, arm_ends_switch, arm_ends_break, arm_ends_continue, arm_ends_return, arm_ends)
+pub ruleset arms_end = (arm_ends)
 
 pub ruleset returns = (is_return_block, is_return_empty, is_return_expr, is_return_declare, is_return_init_scalar, is_return_init_list, is_return_loop, is_return_switch, is_return_break, is_return_continue, is_return_return, is_return_if)

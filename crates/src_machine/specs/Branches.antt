@@ -1,5 +1,5 @@
 -- What a statement of the code is, as a premise of the functions that go on with its parts, and how `return` begins.
-use Rattle.std.specs.Prelude.{ℕ, ◌≡◌, Bool, true, false, List, ◌∷◌, Option, Some, None, map, Vec}
+use Rattle.std.specs.Prelude.{◌≡◌, Bool, true, false, List, ◌∷◌, Option, Some, None, map, Vec}
 use Rattle.std.specs.Global.{Box, Global}
 use Rattle.c_typed.specs.Trees as tree
 use Rattle.c_typed.specs.Trees.{Expression, Statement}

@@ -561,49 +561,24 @@ impl<'a> Machine<'a> {
 }
 
 // Whether an expression only reads a place.
-#[tactic(auto, using(crate::proofs::OnlyReads::reads))]
+#[tactic(auto, using(crate::proofs::OnlyReads::reads, crate::proofs::OtherNodes::is_read_other))]
 fn is_read(expr: &TExpr) -> bool
     ensures { result ≡ is_read (expression_of expr.now) }
 {
     match expr {
         TExpr::Read { .. } => true,
-        TExpr::Constant { .. }
-        | TExpr::Address { .. }
-        | TExpr::Convert { .. }
-        | TExpr::Cast { .. }
-        | TExpr::Unary { .. }
-        | TExpr::Binary { .. }
-        | TExpr::Offset { .. }
-        | TExpr::Difference { .. }
-        | TExpr::Logical { .. }
-        | TExpr::Conditional { .. }
-        | TExpr::Comma { .. }
-        | TExpr::Assign { .. }
-        | TExpr::StructAssign { .. }
-        | TExpr::Update { .. }
-        | TExpr::Step { .. }
-        | TExpr::Call { .. } => false,
+        _ => false,
     }
 }
 
 // Whether a statement gives a local the value that it begins with.
-#[tactic(auto, using(crate::proofs::Scalars::scalars))]
+#[tactic(auto, using(crate::proofs::Scalars::scalars, crate::proofs::OtherStatements::is_scalar_other))]
 fn is_scalar(statement: &TStmt) -> bool
     ensures { result ≡ is_scalar (statement_of statement.now) }
 {
     match statement {
         TStmt::InitScalar { .. } => true,
-        TStmt::Block { .. }
-        | TStmt::Empty { .. }
-        | TStmt::Expr { .. }
-        | TStmt::Declare { .. }
-        | TStmt::InitList { .. }
-        | TStmt::If { .. }
-        | TStmt::Loop { .. }
-        | TStmt::Switch { .. }
-        | TStmt::Break { .. }
-        | TStmt::Continue { .. }
-        | TStmt::Return { .. } => false,
+        _ => false,
     }
 }
 

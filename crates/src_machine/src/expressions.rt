@@ -122,17 +122,7 @@ impl<'a> Machine<'a> {
                 self.go_waiting(Focus::Eval(value), here)
             }
             TExpr::StructAssign { from, .. } => self.go_waiting(Focus::Find(from), here),
-            TExpr::Constant { .. }
-            | TExpr::Convert { .. }
-            | TExpr::Cast { .. }
-            | TExpr::Unary { .. }
-            | TExpr::Binary { .. }
-            | TExpr::Offset { .. }
-            | TExpr::Difference { .. }
-            | TExpr::Logical { .. }
-            | TExpr::Conditional { .. }
-            | TExpr::Comma { .. }
-            | TExpr::Call { .. } => Outcome::Lost,
+            _ => Outcome::Lost,
         }
     }
 
@@ -150,22 +140,7 @@ impl<'a> Machine<'a> {
                 let focus = Focus::CopyRead { to, from, left };
                 self.go_waiting(focus, Pending::In(expr, Got::Copies))
             }
-            TExpr::Constant { .. }
-            | TExpr::Read { .. }
-            | TExpr::Address { .. }
-            | TExpr::Convert { .. }
-            | TExpr::Cast { .. }
-            | TExpr::Unary { .. }
-            | TExpr::Binary { .. }
-            | TExpr::Offset { .. }
-            | TExpr::Difference { .. }
-            | TExpr::Logical { .. }
-            | TExpr::Conditional { .. }
-            | TExpr::Comma { .. }
-            | TExpr::Assign { .. }
-            | TExpr::Update { .. }
-            | TExpr::Step { .. }
-            | TExpr::Call { .. } => Outcome::Lost,
+            _ => Outcome::Lost,
         }
     }
 
@@ -231,17 +206,7 @@ impl<'a> Machine<'a> {
                 }
                 Some(TItem::Scalar { .. }) | Some(TItem::Text { .. }) | None => Outcome::Lost,
             },
-            TStmt::Block { .. }
-            | TStmt::Empty { .. }
-            | TStmt::Expr { .. }
-            | TStmt::Declare { .. }
-            | TStmt::InitScalar { .. }
-            | TStmt::If { .. }
-            | TStmt::Loop { .. }
-            | TStmt::Switch { .. }
-            | TStmt::Break { .. }
-            | TStmt::Continue { .. }
-            | TStmt::Return { .. } => Outcome::Lost,
+            _ => Outcome::Lost,
         }
     }
 

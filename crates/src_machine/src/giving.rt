@@ -122,17 +122,7 @@ impl<'a> Machine<'a> {
                 statements,
                 ..
             } => self.compares_label(code, statements, *default, value, cases, next),
-            TStmt::Block { .. }
-            | TStmt::Empty { .. }
-            | TStmt::Expr { .. }
-            | TStmt::Declare { .. }
-            | TStmt::InitScalar { .. }
-            | TStmt::InitList { .. }
-            | TStmt::If { .. }
-            | TStmt::Loop { .. }
-            | TStmt::Break { .. }
-            | TStmt::Continue { .. }
-            | TStmt::Return { .. } => Outcome::Lost,
+            _ => Outcome::Lost,
         }
     }
 
@@ -216,17 +206,7 @@ impl<'a> Machine<'a> {
                 }
                 Some(TItem::Struct { .. }) | Some(TItem::Text { .. }) | None => Outcome::Lost,
             },
-            TStmt::Block { .. }
-            | TStmt::Empty { .. }
-            | TStmt::Expr { .. }
-            | TStmt::Declare { .. }
-            | TStmt::InitScalar { .. }
-            | TStmt::If { .. }
-            | TStmt::Loop { .. }
-            | TStmt::Switch { .. }
-            | TStmt::Break { .. }
-            | TStmt::Continue { .. }
-            | TStmt::Return { .. } => Outcome::Lost,
+            _ => Outcome::Lost,
         }
     }
 
@@ -272,13 +252,7 @@ impl<'a> Machine<'a> {
                 self.used(value, *line, focus, Pending::Doing(code, Stage::Chooses))
             }
             TStmt::Return { line, .. } => self.returned(value, *line),
-            TStmt::Block { .. }
-            | TStmt::Empty { .. }
-            | TStmt::Declare { .. }
-            | TStmt::InitList { .. }
-            | TStmt::If { .. }
-            | TStmt::Break { .. }
-            | TStmt::Continue { .. } => Outcome::Lost,
+            _ => Outcome::Lost,
         }
     }
 
@@ -297,17 +271,7 @@ impl<'a> Machine<'a> {
                 body,
                 ..
             } => self.test(code, condition, body),
-            TStmt::Block { .. }
-            | TStmt::Empty { .. }
-            | TStmt::Expr { .. }
-            | TStmt::Declare { .. }
-            | TStmt::InitScalar { .. }
-            | TStmt::InitList { .. }
-            | TStmt::If { .. }
-            | TStmt::Switch { .. }
-            | TStmt::Break { .. }
-            | TStmt::Continue { .. }
-            | TStmt::Return { .. } => Outcome::Lost,
+            _ => Outcome::Lost,
         }
     }
 
@@ -325,17 +289,7 @@ impl<'a> Machine<'a> {
                 otherwise,
                 ..
             } => self.picks(code, arms, at, otherwise, value),
-            TStmt::Block { .. }
-            | TStmt::Empty { .. }
-            | TStmt::Expr { .. }
-            | TStmt::Declare { .. }
-            | TStmt::InitScalar { .. }
-            | TStmt::InitList { .. }
-            | TStmt::Loop { .. }
-            | TStmt::Switch { .. }
-            | TStmt::Break { .. }
-            | TStmt::Continue { .. }
-            | TStmt::Return { .. } => Outcome::Lost,
+            _ => Outcome::Lost,
         }
     }
 

@@ -131,19 +131,12 @@ impl<'a> Machine<'a> {
                 ..
             } => { self.chooses(expr, value, then, otherwise, *line) }
             TExpr::Comma { right, .. } => self.go(Focus::Eval(right)),
-            TExpr::Constant { .. }
-            | TExpr::Read { .. }
-            | TExpr::Address { .. }
-            | TExpr::Assign { .. }
-            | TExpr::StructAssign { .. }
-            | TExpr::Update { .. }
-            | TExpr::Step { .. }
-            | TExpr::Call { .. } => Outcome::Lost,
+            _ => Outcome::Lost,
         }
     }
 
     // Both operands have their values.
-    #[tactic(auto, using(crate::proofs::Takes::right_lost, crate::proofs::Takes::right_offset, crate::proofs::Takes::right_difference, crate::proofs::Takes::right_logical, crate::proofs::Operands::both_given))]
+    #[tactic(auto, using(crate::proofs::Takes::right_offset, crate::proofs::Takes::right_difference, crate::proofs::Takes::right_logical, crate::proofs::Operands::both_given))]
     fn take_right(&mut self, expr: &'a TExpr, left: Datum, right: Datum) -> Outcome
         ensures tells { IsGoing self.old → (o : Outside) (w : Worlds Bytes) → silent result self.new w ≡ giving.take_in (setting_of self.old o) (expression_of expr.now) (control.One (datum_of left)) (datum_of right) (stack_of self.old) self.old.copy (memory_of self.old) w }
         ensures others { self.new ≡ record self.old { stack = self.new.stack; focus = self.new.focus } }
@@ -167,19 +160,7 @@ impl<'a> Machine<'a> {
                 Some(holds) => self.go(Focus::Holds(truth_value(holds))),
                 None => undefined(Undef::Unset, *line),
             },
-            TExpr::Constant { .. }
-            | TExpr::Read { .. }
-            | TExpr::Address { .. }
-            | TExpr::Convert { .. }
-            | TExpr::Cast { .. }
-            | TExpr::Unary { .. }
-            | TExpr::Conditional { .. }
-            | TExpr::Comma { .. }
-            | TExpr::Assign { .. }
-            | TExpr::StructAssign { .. }
-            | TExpr::Update { .. }
-            | TExpr::Step { .. }
-            | TExpr::Call { .. } => Outcome::Lost,
+            _ => Outcome::Lost,
         }
     }
 
@@ -252,20 +233,7 @@ impl<'a> Machine<'a> {
                 let answer = change_answer(self.program, by, *operation, *size, *ty, value, one);
                 self.changes(expr, spot, answer, is_postfix(*op), value, *line)
             }
-            TExpr::Constant { .. }
-            | TExpr::Read { .. }
-            | TExpr::Address { .. }
-            | TExpr::Convert { .. }
-            | TExpr::Cast { .. }
-            | TExpr::Unary { .. }
-            | TExpr::Binary { .. }
-            | TExpr::Offset { .. }
-            | TExpr::Difference { .. }
-            | TExpr::Logical { .. }
-            | TExpr::Conditional { .. }
-            | TExpr::Comma { .. }
-            | TExpr::StructAssign { .. }
-            | TExpr::Call { .. } => Outcome::Lost,
+            _ => Outcome::Lost,
         }
     }
 
@@ -289,22 +257,7 @@ impl<'a> Machine<'a> {
                 let answer = change_answer(self.program, *op, *operation, *size, *ty, old, right);
                 self.changes(expr, spot, answer, false, old, *line)
             }
-            TExpr::Constant { .. }
-            | TExpr::Read { .. }
-            | TExpr::Address { .. }
-            | TExpr::Convert { .. }
-            | TExpr::Cast { .. }
-            | TExpr::Unary { .. }
-            | TExpr::Binary { .. }
-            | TExpr::Offset { .. }
-            | TExpr::Difference { .. }
-            | TExpr::Logical { .. }
-            | TExpr::Conditional { .. }
-            | TExpr::Comma { .. }
-            | TExpr::Assign { .. }
-            | TExpr::StructAssign { .. }
-            | TExpr::Step { .. }
-            | TExpr::Call { .. } => Outcome::Lost,
+            _ => Outcome::Lost,
         }
     }
 
@@ -318,27 +271,12 @@ impl<'a> Machine<'a> {
     {
         match expr {
             TExpr::Conditional { .. } => self.go(Focus::Holds(value)),
-            TExpr::Constant { .. }
-            | TExpr::Read { .. }
-            | TExpr::Address { .. }
-            | TExpr::Convert { .. }
-            | TExpr::Cast { .. }
-            | TExpr::Unary { .. }
-            | TExpr::Binary { .. }
-            | TExpr::Offset { .. }
-            | TExpr::Difference { .. }
-            | TExpr::Logical { .. }
-            | TExpr::Comma { .. }
-            | TExpr::Assign { .. }
-            | TExpr::StructAssign { .. }
-            | TExpr::Update { .. }
-            | TExpr::Step { .. }
-            | TExpr::Call { .. } => Outcome::Lost,
+            _ => Outcome::Lost,
         }
     }
 
     // An argument of this number has its value.
-    #[tactic(auto, using(crate::proofs::Takes::args_lost, crate::proofs::Parts::argument_passed, crate::proofs::Parts::arguments_of_call))]
+    #[tactic(auto, using(crate::proofs::OtherNodes::args_other, crate::proofs::Parts::argument_passed, crate::proofs::Parts::arguments_of_call))]
     fn take_argument(&mut self, expr: &'a TExpr, count: usize, value: Datum) -> Outcome
         ensures tells { HasRoom 2 self.old → (o : Outside) (w : Worlds Bytes) → silent result self.new w ≡ giving.take_in (setting_of self.old o) (expression_of expr.now) (got_in (expression_of expr.now) (AnyGot.Args count) (values_on (waiting self.old))) (datum_of value) (frames_behind (interrupted_in self.old) true (waiting self.old)) self.old.copy (memory_of self.old) w }
         ensures others { self.new ≡ record self.old { stack = self.new.stack; focus = self.new.focus } }
@@ -350,22 +288,7 @@ impl<'a> Machine<'a> {
                 self.wait(Pending::Value(value));
                 self.arguments(expr, arguments, count.saturating_add(1))
             }
-            TExpr::Constant { .. }
-            | TExpr::Read { .. }
-            | TExpr::Address { .. }
-            | TExpr::Convert { .. }
-            | TExpr::Cast { .. }
-            | TExpr::Unary { .. }
-            | TExpr::Binary { .. }
-            | TExpr::Offset { .. }
-            | TExpr::Difference { .. }
-            | TExpr::Logical { .. }
-            | TExpr::Conditional { .. }
-            | TExpr::Comma { .. }
-            | TExpr::Assign { .. }
-            | TExpr::StructAssign { .. }
-            | TExpr::Update { .. }
-            | TExpr::Step { .. } => Outcome::Lost,
+            _ => Outcome::Lost,
         }
     }
 

@@ -296,7 +296,7 @@ impl<'a> Machine<'a> {
     }
 
     // The body of a loop or of a switch has ended.
-    #[tactic(auto, using(crate::proofs::Turns::turns))]
+    #[tactic(auto, using(crate::proofs::Turns::turns, crate::proofs::OtherStatements::turns_lost))]
     fn turned(&mut self, code: Code<'a>) -> Outcome
         ensures tells { HasRoom 1 self.old → (w : Worlds Bytes) → silent result self.new w ≡ rules.turned (statement_in code.entry) control.Turns (stack_of self.old) self.old.copy (memory_of self.old) w }
         ensures others { self.new ≡ record self.old { stack = self.new.stack; focus = self.new.focus } }
@@ -314,21 +314,12 @@ impl<'a> Machine<'a> {
                 ..
             } => self.after_turn(code, step, condition, body),
             TStmt::Switch { .. } => self.go(Focus::Past),
-            TStmt::Block { .. }
-            | TStmt::Empty { .. }
-            | TStmt::Expr { .. }
-            | TStmt::Declare { .. }
-            | TStmt::InitScalar { .. }
-            | TStmt::InitList { .. }
-            | TStmt::If { .. }
-            | TStmt::Break { .. }
-            | TStmt::Continue { .. }
-            | TStmt::Return { .. } => Outcome::Lost,
+            _ => Outcome::Lost,
         }
     }
 
     // The statement of an arm has ended.
-    #[tactic(auto, using(crate::proofs::Turns::arms_end))]
+    #[tactic(auto, using(crate::proofs::Turns::arms_end, crate::proofs::OtherStatements::arm_ends_lost))]
     fn armed(&mut self, code: Code<'a>) -> Outcome
         ensures tells { (others : Arms) (w : Worlds Bytes) → silent result self.new w ≡ rules.turned (statement_in code.entry) (control.InArm others) (stack_of self.old) self.old.copy (memory_of self.old) w }
         ensures others { self.new ≡ record self.old { stack = self.new.stack; focus = self.new.focus } }
@@ -340,17 +331,7 @@ impl<'a> Machine<'a> {
         };
         match statement {
             TStmt::If { .. } => self.go(Focus::Past),
-            TStmt::Block { .. }
-            | TStmt::Empty { .. }
-            | TStmt::Expr { .. }
-            | TStmt::Declare { .. }
-            | TStmt::InitScalar { .. }
-            | TStmt::InitList { .. }
-            | TStmt::Loop { .. }
-            | TStmt::Switch { .. }
-            | TStmt::Break { .. }
-            | TStmt::Continue { .. }
-            | TStmt::Return { .. } => Outcome::Lost,
+            _ => Outcome::Lost,
         }
     }
 
@@ -434,7 +415,7 @@ impl<'a> Machine<'a> {
     }
 
     // A call has its value, and its caller goes on.
-    #[tactic(auto, using(crate::proofs::Calls::hands, crate::proofs::Calls::hands_no_part))]
+    #[tactic(auto, using(crate::proofs::Calls::hands, crate::proofs::OtherNodes::hands_other, crate::proofs::Calls::hands_no_part))]
     fn handed_to(&mut self, expr: &'a TExpr, got: Got, value: Datum, caller: CopyOf) -> Outcome
         ensures tells { (w : Worlds Bytes) → silent result self.new w ≡ rules.handed (datum_of value) caller (above self.old (frames.In expr.entry got)) (memory_of self.old) w }
         ensures others { self.new ≡ record self.old { stack = self.new.stack; focus = self.new.focus; copy = self.new.copy } }
@@ -447,22 +428,7 @@ impl<'a> Machine<'a> {
                     self.copy = caller;
                     self.go(Focus::Holds(value))
                 }
-                TExpr::Constant { .. }
-                | TExpr::Read { .. }
-                | TExpr::Address { .. }
-                | TExpr::Convert { .. }
-                | TExpr::Cast { .. }
-                | TExpr::Unary { .. }
-                | TExpr::Binary { .. }
-                | TExpr::Offset { .. }
-                | TExpr::Difference { .. }
-                | TExpr::Logical { .. }
-                | TExpr::Conditional { .. }
-                | TExpr::Comma { .. }
-                | TExpr::Assign { .. }
-                | TExpr::StructAssign { .. }
-                | TExpr::Update { .. }
-                | TExpr::Step { .. } => Outcome::Lost,
+                _ => Outcome::Lost,
             },
             Got::Nothing
             | Got::Chosen

@@ -9,7 +9,6 @@ use Rattle.src_memory.specs.Shape.{IsShaped}
 use Rattle.src_rules.specs.Step.{call, call_in}
 use Rattle.src_values.specs.Control.{In}
 use Rattle.src_values.specs.Seen.{values_on, frames_behind, frames_in, got_in, has_values}
-use Rattle.src_values.specs.declared.control.Pending.TheVariants as frames
 use Rattle.src_values.specs.declared.objects.Byte.{Byte}
 use Rattle.src_machine.proofs.machine.Machine.call.Goals as goal
 

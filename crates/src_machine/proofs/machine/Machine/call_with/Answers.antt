@@ -1,7 +1,7 @@
-use Rattle.std.proofs.Common.{arith, sym, ap, subst, ◌∙◌, true, false, drop}
+use Rattle.std.proofs.Common.{arith, sym, subst, ◌∙◌}
 use Rattle.c_typed.specs.Views.{expression_of, program_of}
 use Rattle.src_machine.proofs.Passing.{call_goes, values_split}
-use Rattle.src_machine.specs.Passing.{FitFrom, values_among}
+use Rattle.src_machine.specs.Passing.{FitFrom}
 use Rattle.src_machine.specs.Seen.{silent}
 use Rattle.src_rules.specs.Step.{copy_of}
 use Rattle.src_machine.proofs.machine.Machine.call_with.Goals as goal

@@ -1,4 +1,4 @@
-use Rattle.std.proofs.Common.{◌≡◌, ◌∙◌, sym, arith, ◌≤◌, ◌-◌, length}
+use Rattle.std.proofs.Common.{◌∙◌, sym, arith, ◌-◌, length}
 use Rattle.std.proofs.lemmas.List.{length-take-le}
 use Rattle.src_machine.proofs.Waiting.{waits_below, waits_here}
 use Rattle.src_machine.specs.Seen.{interrupted_in}

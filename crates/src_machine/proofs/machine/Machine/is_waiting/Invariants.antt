@@ -1,4 +1,4 @@
-use Rattle.std.proofs.Common.{◌≡◌, ◌≤◌, ℕ, length, reverse}
+use Rattle.std.proofs.Common.{◌≡◌, ◌≤◌, length, reverse}
 use Rattle.src_machine.specs.Seen.{interrupted_in, stack_of}
 use Rattle.src_values.specs.Control.{callers}
 use Rattle.src_values.specs.Objects.{is_among}

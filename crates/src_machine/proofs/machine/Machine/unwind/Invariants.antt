@@ -1,4 +1,4 @@
-use Rattle.std.proofs.Common.{ℕ, ◌≡◌, ◌≤◌}
+use Rattle.std.proofs.Common.{◌≡◌, ◌≤◌}
 use Rattle.std.specs.Vec.{vec_len, vec_capacity}
 use Rattle.src_machine.specs.Seen.{stack_of}
 use Rattle.src_rules.specs.Statements.{unwound}

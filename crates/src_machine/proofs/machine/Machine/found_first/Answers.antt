@@ -1,0 +1,7 @@
+use Rattle.std.proofs.Common.{sym}
+use Rattle.src_machine.proofs.OtherNodes.{first_found_lost}
+use Rattle.src_machine.specs.Seen.{stack_of, memory_of, setting_of}
+use Rattle.src_machine.proofs.machine.Machine.found_first.Goals as goal
+
+pub returns-in_default-clause-tells : goal.returns-in_default-clause-tells
+returns-in_default-clause-tells c = λ room o w. sym (first_found_lost c.args.expr.now c.in_default.not-Address c.in_default.not-Read c.in_default.not-Step c.in_default.not-Assign c.in_default.not-Update c.in_default.not-StructAssign (setting_of c.args.self.now o) c.args.spot (stack_of c.args.self.now) c.args.self.now.copy (memory_of c.args.self.now) w)

@@ -1,0 +1,7 @@
+use Rattle.std.proofs.Common.{sym}
+use Rattle.src_machine.specs.Seen.{stack_of, memory_of, setting_of}
+use Rattle.src_machine.proofs.OtherStatements.{item_found_lost}
+use Rattle.src_machine.proofs.machine.Machine.found_item.Goals as goal
+
+pub returns-in_default-clause-tells : goal.returns-in_default-clause-tells
+returns-in_default-clause-tells c = λ room same o w. sym (item_found_lost c.args.statement.now c.in_default.not-InitList (setting_of c.args.self.now o) c.args.at c.args.from (stack_of c.args.self.now) c.args.self.now.copy (memory_of c.args.self.now) w)
