@@ -11,7 +11,7 @@ use Rattle.pic_map.specs.MapContent.{ObjectLine, FrameLine}
 use Rattle.live_frames.specs.Memory.{IsLowestIn, IsLowest, AreFull, HasNoPlace, Stands, regions}
 use Rattle.ram_place.specs.Placement.{IsTaken, IsTakenFor, object_line, frame_line, IsObject, IsFrame, AreObjects, AreFrames, IsPlacing, LacksObject, LacksFrame, LacksFrameBehind}
 use Rattle.ram_place.specs.Sizes.{name_of, frame_bytes}
-use Rattle.ram_place.specs.declared.memory.Span.{Span}
+use Rattle.live_frames.specs.declared.memory.Span.{Span}
 
 -- ---- one address, or none
 lowest_in_once : (taken : ℕ → Type 0) (region : Span) (n a b : ℕ) → IsLowestIn taken region n a → IsLowestIn taken region n b → a ≡ b

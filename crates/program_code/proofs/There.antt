@@ -20,7 +20,7 @@ use Rattle.pic_world.specs.declared.Root.{Root}
 use Rattle.live_frames.specs.Memory.{IsLowest, regions, Stands}
 use Rattle.ram_place.specs.Placement.{IsPlacing}
 use Rattle.ram_place.specs.Sizes.{frame_bytes}
-use Rattle.ram_place.specs.declared.memory.Span.{Span}
+use Rattle.live_frames.specs.declared.memory.Span.{Span}
 use Rattle.sym_code.specs.Layout.{FrameRange, frame, result_address}
 use Rattle.sym_code.specs.Words.{is_common}
 use Rattle.sym_code.specs.declared.code.Literal.{Literal}
