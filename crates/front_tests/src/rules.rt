@@ -125,11 +125,7 @@ Again 4 => int f(void);void$f(int$a,int$a);"#;
 
 #[test]
 fn declarations_are_taken_or_refused(rt: HostRuntime) -> Result<(), Fail> {
-    assert_eq!(rt;
-        checked(&rt, rt.alloc(), Question::Rule, DECLARATIONS)?,
-        118
-    );
-    Ok(())
+    checked(&rt, rt.alloc(), Question::Rule, DECLARATIONS, 118)
 }
 
 const EXPRESSIONS: &str = r#"Member 1 => struct s{int a;}x;void main(void){x.b;}
@@ -256,8 +252,7 @@ Convert 2 => void main(void){int x;char$*p$=$"a";}"#;
 
 #[test]
 fn expressions_are_taken_or_refused(rt: HostRuntime) -> Result<(), Fail> {
-    assert_eq!(rt; checked(&rt, rt.alloc(), Question::Rule, EXPRESSIONS)?, 120);
-    Ok(())
+    checked(&rt, rt.alloc(), Question::Rule, EXPRESSIONS, 120)
 }
 
 const INITIAL_VALUES: &str = r#"Constant 1 => int n;int a[n];
@@ -307,11 +302,7 @@ Name 1 => struct s{char a;int b[2];char c[3];}x={1,{-2},"ab"};long l=0x12345678;
 
 #[test]
 fn initial_values_are_taken_or_refused(rt: HostRuntime) -> Result<(), Fail> {
-    assert_eq!(rt;
-        checked(&rt, rt.alloc(), Question::Rule, INITIAL_VALUES)?,
-        43
-    );
-    Ok(())
+    checked(&rt, rt.alloc(), Question::Rule, INITIAL_VALUES, 43)
 }
 
 const STATEMENTS: &str = r#"Return 1 => void f(void){return 1;}
@@ -328,8 +319,7 @@ taken => void main(void){switch(1L){case -1:case 65535:;}}"#;
 
 #[test]
 fn statements_are_taken_or_refused(rt: HostRuntime) -> Result<(), Fail> {
-    assert_eq!(rt; checked(&rt, rt.alloc(), Question::Rule, STATEMENTS)?, 11);
-    Ok(())
+    checked(&rt, rt.alloc(), Question::Rule, STATEMENTS, 11)
 }
 
 // Texts with `typedef` and `enum`.
@@ -496,10 +486,6 @@ taken => enum e{A};void main(void){enum e*p;}"#;
 
 #[test]
 fn types_and_numbers_have_names(rt: HostRuntime) -> Result<(), Fail> {
-    assert_eq!(rt; checked(&rt, rt.alloc(), Question::Rule, TYPE_NAMES)?, 110);
-    assert_eq!(rt;
-        checked(&rt, rt.alloc(), Question::Rule, TYPE_NAMES_TAKEN)?,
-        47
-    );
-    Ok(())
+    checked(&rt, rt.alloc(), Question::Rule, TYPE_NAMES, 110)?;
+    checked(&rt, rt.alloc(), Question::Rule, TYPE_NAMES_TAKEN, 47)
 }

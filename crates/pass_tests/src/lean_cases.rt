@@ -207,6 +207,5 @@ end
 
 #[test]
 fn blocks_become_leaner(rt: HostRuntime) -> Result<(), Fail> {
-    assert_eq!(rt; check(&rt, rt.alloc(), LEAN)?, (17, 58));
-    Ok(())
+    check(&rt, rt.alloc(), LEAN, 17, 58)
 }
