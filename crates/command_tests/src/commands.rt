@@ -68,17 +68,6 @@ pub fn host_of(alloc: Global, files: &[&str], fails: Vec<Fail>) -> Result<Memory
     Ok(MemoryHost::new(contents, fails))
 }
 
-/// How many lines end in these bytes.
-pub fn line_ends(bytes: &[u8]) -> usize {
-    let mut count: usize = 0;
-    for byte in bytes {
-        if *byte == b'\n' {
-            count = count.saturating_add(1);
-        }
-    }
-    count
-}
-
 /// Whether the host has a file of this name with exactly this content.
 pub fn is_file(host: &MemoryHost, name: &str, bytes: &[u8]) -> bool {
     match host.files.get(name) {
@@ -163,21 +152,31 @@ fn has_built(commands: &str, status: u8) -> bool {
     commands.starts_with("build ") && (status == 0 || commands.contains(';'))
 }
 
-// Whether a case has its status, prints what it says, and leaves these files: those that were there, as they were, and what a build
-// has made.
-fn holds(alloc: Global, case: &str) -> Result<bool, AllocError> {
+// Runs a case, and compares its status, what it prints, and the files that it leaves: those that were there, as they were, and
+// what a build has made.
+fn check(rt: &impl Abort, alloc: Global, case: &str) -> Result<(), AllocError> {
     let fields: Vec<&str> = case.split('@').collect(alloc)?;
     let [commands, status, printed, files @ ..] = fields.as_slice() else {
-        return Ok(false);
+        assert!(rt; false, "{case}");
+        return Ok(());
     };
     let mut host = host_of(alloc, files, Vec::new(alloc))?;
     let answer = run_all(alloc, *commands, &mut host)?;
-    let text = bytes_of(alloc, *printed)?;
+    assert!(rt;
+        answer == status.parse().unwrap_or(u8::MAX),
+        "{answer}: {case}"
+    );
+    assert!(rt;
+        host.printed.as_slice() == bytes_of(alloc, *printed)?.as_slice(),
+        "{case}"
+    );
+    assert!(rt; has_files(alloc, &host, files)?, "{case}");
     let made = if has_built(*commands, answer) { 2 } else { 0 };
-    let is_said = answer == status.parse().unwrap_or(u8::MAX)
-        && host.printed.as_slice() == text.as_slice()
-        && host.files.len() == files.len().saturating_add(made);
-    Ok(is_said && has_files(alloc, &host, files)?)
+    assert!(rt;
+        host.files.len() == files.len().saturating_add(made),
+        "{case}"
+    );
+    Ok(())
 }
 
 /// Runs each case of a table, which has so many, with fields that all of them share behind its own.
@@ -191,8 +190,7 @@ pub fn check_all(
     let mut count: u32 = 0;
     for line in table.lines() {
         if !line.is_empty() && !line.starts_with('#') {
-            let case = format!(in alloc; "{line}{shared}")?;
-            assert!(rt; holds(alloc, &case)?, "{line}");
+            check(rt, alloc, &format!(in alloc; "{line}{shared}")?)?;
             count = count.saturating_add(1);
         }
     }

@@ -1,6 +1,6 @@
 //! A text that was cut off after each of its bytes: what is reported of it follows from the line in which the cut lies.
 
-use crate::commands::{BUILD, host_with, line_ends, run};
+use crate::commands::{BUILD, host_with, run};
 use std::alloc::{AllocError, Global};
 use std::process::Abort;
 use std::test::Fail as Failure;
@@ -90,7 +90,8 @@ fn reported(alloc: Global, fault: &str, number: usize) -> Result<String, AllocEr
 
 fn check_cut(rt: &impl Abort, alloc: Global, cut: &str) -> Result<(), AllocError> {
     let front = cut.as_bytes().trim_ascii_end();
-    let number = line_ends(front).saturating_add(1);
+    let ends = front.iter().filter(|c| **c == b'\n').count();
+    let number = ends.saturating_add(1);
     let fault = fault_of(KEY.as_bytes(), front, number);
     let text = reported(alloc, fault, number)?;
     let mut host = host_with(alloc, cut, "")?;

@@ -86,22 +86,20 @@ fn check(rt: &impl Abort, alloc: Global, question: Question, line: &str) -> Resu
     says(rt, alloc, question, wanted, &text)
 }
 
-/// Asserts that each line of a table says what is wanted of the text behind its first ` => `, and that there are so many of them. One that
-/// begins with `//` says what the lines below it are.
+/// Asserts that each line of a table says what is wanted of the text behind its first ` => `, and counts these lines. One that begins with
+/// `//` says what the lines below it are.
 pub fn checked(
     rt: &impl Abort,
     alloc: Global,
     question: Question,
     table: &str,
-    wanted: u32,
-) -> Result<(), Fail> {
-    let mut count: u32 = 0;
+) -> Result<usize, Fail> {
+    let mut count: usize = 0;
     for line in table.lines() {
         if !line.starts_with("//") {
             check(rt, alloc, question, line)?;
             count = count.wrapping_add(1);
         }
     }
-    assert!(rt; count == wanted, "{count} cases");
-    Ok(())
+    Ok(count)
 }

@@ -32,7 +32,7 @@ punct # 0-1 line 1 first. => #"#;
 
 #[test]
 fn a_text_is_cut_into_its_longest_tokens(rt: HostRuntime) -> Result<(), Fail> {
-    checked(&rt, rt.alloc(), Question::Cut, CUT, 23)?;
+    assert_eq!(rt; checked(&rt, rt.alloc(), Question::Cut, CUT)?, 23);
     c_token::longest_token();
     Ok(())
 }
@@ -61,7 +61,7 @@ Lex(Identifier { line: 1 }) => `256*a`"#;
 
 #[test]
 fn what_is_no_token_is_refused_at_its_line(rt: HostRuntime) -> Result<(), Fail> {
-    checked(&rt, rt.alloc(), Question::Tree, NO_TOKENS, 20)?;
+    assert_eq!(rt; checked(&rt, rt.alloc(), Question::Tree, NO_TOKENS)?, 20);
     says(
         &rt,
         rt.alloc(),
@@ -90,8 +90,12 @@ const LEFT_COUNT: &str =
 
 #[test]
 fn names_are_replaced(rt: HostRuntime) -> Result<(), Fail> {
-    checked(&rt, rt.alloc(), Question::Left, LEFT, 10)?;
-    checked(&rt, rt.alloc(), Question::CountLeft, LEFT_COUNT, 1)
+    assert_eq!(rt; checked(&rt, rt.alloc(), Question::Left, LEFT)?, 10);
+    assert_eq!(rt;
+        checked(&rt, rt.alloc(), Question::CountLeft, LEFT_COUNT)?,
+        1
+    );
+    Ok(())
 }
 
 // Texts with a word that is excluded, or a line that is no directive.
@@ -112,7 +116,8 @@ Pre(Word { line: 3 }) => #undef A$int a;$__CONFIG"#;
 
 #[test]
 fn what_is_no_program_is_refused(rt: HostRuntime) -> Result<(), Fail> {
-    checked(&rt, rt.alloc(), Question::Tree, NO_PROGRAMS, 14)
+    assert_eq!(rt; checked(&rt, rt.alloc(), Question::Tree, NO_PROGRAMS)?, 14);
+    Ok(())
 }
 
 const TREES: &str = r#"tree => `0*;`
@@ -189,8 +194,8 @@ Parse(Syntax { line: 1 }) => typedef T x;"#;
 
 #[test]
 fn each_text_has_its_tree_or_its_refusal(rt: HostRuntime) -> Result<(), Fail> {
-    checked(&rt, rt.alloc(), Question::Tree, TREES, 53)?;
-    checked(&rt, rt.alloc(), Question::Tree, NO_TREES, 16)?;
+    assert_eq!(rt; checked(&rt, rt.alloc(), Question::Tree, TREES)?, 53);
+    assert_eq!(rt; checked(&rt, rt.alloc(), Question::Tree, NO_TREES)?, 16);
     says(&rt, rt.alloc(), Question::Tree, "tree", KEYPAD)
 }
 
@@ -242,7 +247,8 @@ Pre(Tokens { line: 20 }) => #define a0 ;$#define a1 a0 a0$#define a2 a1 a1$#defi
 
 #[test]
 fn limits_hold_at_their_numbers(rt: HostRuntime) -> Result<(), Fail> {
-    checked(&rt, rt.alloc(), Question::Tree, LIMITS, 21)?;
-    checked(&rt, rt.alloc(), Question::Tree, CHOICES, 14)?;
-    checked(&rt, rt.alloc(), Question::Tree, DOUBLING, 3)
+    assert_eq!(rt; checked(&rt, rt.alloc(), Question::Tree, LIMITS)?, 21);
+    assert_eq!(rt; checked(&rt, rt.alloc(), Question::Tree, CHOICES)?, 14);
+    assert_eq!(rt; checked(&rt, rt.alloc(), Question::Tree, DOUBLING)?, 3);
+    Ok(())
 }

@@ -125,7 +125,11 @@ Again 4 => int f(void);void$f(int$a,int$a);"#;
 
 #[test]
 fn declarations_are_taken_or_refused(rt: HostRuntime) -> Result<(), Fail> {
-    checked(&rt, rt.alloc(), Question::Rule, DECLARATIONS, 118)
+    assert_eq!(rt;
+        checked(&rt, rt.alloc(), Question::Rule, DECLARATIONS)?,
+        118
+    );
+    Ok(())
 }
 
 const EXPRESSIONS: &str = r#"Member 1 => struct s{int a;}x;void main(void){x.b;}
@@ -252,7 +256,8 @@ Convert 2 => void main(void){int x;char$*p$=$"a";}"#;
 
 #[test]
 fn expressions_are_taken_or_refused(rt: HostRuntime) -> Result<(), Fail> {
-    checked(&rt, rt.alloc(), Question::Rule, EXPRESSIONS, 120)
+    assert_eq!(rt; checked(&rt, rt.alloc(), Question::Rule, EXPRESSIONS)?, 120);
+    Ok(())
 }
 
 const INITIAL_VALUES: &str = r#"Constant 1 => int n;int a[n];
@@ -302,7 +307,11 @@ Name 1 => struct s{char a;int b[2];char c[3];}x={1,{-2},"ab"};long l=0x12345678;
 
 #[test]
 fn initial_values_are_taken_or_refused(rt: HostRuntime) -> Result<(), Fail> {
-    checked(&rt, rt.alloc(), Question::Rule, INITIAL_VALUES, 43)
+    assert_eq!(rt;
+        checked(&rt, rt.alloc(), Question::Rule, INITIAL_VALUES)?,
+        43
+    );
+    Ok(())
 }
 
 const STATEMENTS: &str = r#"Return 1 => void f(void){return 1;}
@@ -319,7 +328,8 @@ taken => void main(void){switch(1L){case -1:case 65535:;}}"#;
 
 #[test]
 fn statements_are_taken_or_refused(rt: HostRuntime) -> Result<(), Fail> {
-    checked(&rt, rt.alloc(), Question::Rule, STATEMENTS, 11)
+    assert_eq!(rt; checked(&rt, rt.alloc(), Question::Rule, STATEMENTS)?, 11);
+    Ok(())
 }
 
 // Texts with `typedef` and `enum`.
@@ -486,6 +496,10 @@ taken => enum e{A};void main(void){enum e*p;}"#;
 
 #[test]
 fn types_and_numbers_have_names(rt: HostRuntime) -> Result<(), Fail> {
-    checked(&rt, rt.alloc(), Question::Rule, TYPE_NAMES, 110)?;
-    checked(&rt, rt.alloc(), Question::Rule, TYPE_NAMES_TAKEN, 47)
+    assert_eq!(rt; checked(&rt, rt.alloc(), Question::Rule, TYPE_NAMES)?, 110);
+    assert_eq!(rt;
+        checked(&rt, rt.alloc(), Question::Rule, TYPE_NAMES_TAKEN)?,
+        47
+    );
+    Ok(())
 }

@@ -53,58 +53,49 @@ fn without_address(alloc: Global, error: &PlaceError) -> Result<String, Fail> {
     }
 }
 
-/// A text's typed tree and copies, and the addresses of its objects and frames.
-#[derive(Drop)]
-struct Found {
-    typed: Typed,
-    copies: Copies,
-    placed: Placed,
-}
-
-/// All of these of a text, or why it has none.
-fn found(alloc: Global, text: &[u8]) -> Result<Result<Found, String>, Fail> {
-    let typed = typed(alloc, text)?;
-    match copies(alloc, &typed) {
-        Ok(copies) => match place(alloc, &typed, &copies) {
-            Ok(placed) => Ok(Ok(Found {
-                typed,
-                copies,
-                placed,
-            })),
-            Err(error) => Ok(Err(without_address(alloc, &error)?)),
-        },
-        Err(error) => Ok(Err(refused(alloc, &error)?)),
-    }
-}
-
-fn all_sizes(alloc: Global, found: &Found) -> Result<String, AllocError> {
-    let mut words = start_words(&found.typed);
+fn all_sizes(
+    alloc: Global,
+    p: &Typed,
+    copies: &Copies,
+    placed: &Placed,
+) -> Result<String, AllocError> {
+    let mut words = start_words(p);
     let mut block = 0;
-    for copy in &found.copies.list {
-        let own = block_words(&found.typed, copy.function);
+    for copy in &copies.list {
+        let own = block_words(p, copy.function);
         words = words.saturating_add(own);
         block = block.max(own);
     }
-    let (ram, depth) = (found.placed.ram, found.copies.depth);
+    let (ram, depth) = (placed.ram, copies.depth);
     format!(in alloc; "{words} words, {block} in a block, {ram} bytes, depth {depth}")
 }
 
 /// The sizes of a text, or why it has none.
 pub fn sizes(alloc: Global, text: &[u8]) -> Result<String, Fail> {
-    match found(alloc, text)? {
-        Ok(found) => Ok(all_sizes(alloc, &found)?),
-        Err(why) => Ok(why),
+    let p = typed(alloc, text)?;
+    let copies = match copies(alloc, &p) {
+        Ok(copies) => copies,
+        Err(error) => return refused(alloc, &error),
+    };
+    match place(alloc, &p, &copies) {
+        Ok(placed) => Ok(all_sizes(alloc, &p, &copies, &placed)?),
+        Err(error) => without_address(alloc, &error),
     }
 }
 
 /// The depth of the calls of a text whose objects and frames have addresses, or the depth that is too much.
 pub fn depth(alloc: Global, text: &[u8]) -> Result<String, Fail> {
-    match found(alloc, text)? {
-        Ok(found) => {
-            let depth = found.copies.depth;
+    let p = typed(alloc, text)?;
+    let copies = match copies(alloc, &p) {
+        Ok(copies) => copies,
+        Err(error) => return refused(alloc, &error),
+    };
+    match place(alloc, &p, &copies) {
+        Ok(_) => {
+            let depth = copies.depth;
             Ok(format!(in alloc; "{depth}")?)
         }
-        Err(why) => Ok(why),
+        Err(error) => without_address(alloc, &error),
     }
 }
 
@@ -183,12 +174,19 @@ fn put_placed(alloc: Global, out: &mut String, placed: &Placed) -> Result<(), Al
 
 /// Where the objects and frames of a text stand.
 pub fn places(alloc: Global, text: &[u8]) -> Result<String, Fail> {
-    let mut out = String::new(alloc);
-    match found(alloc, text)? {
-        Ok(found) => put_placed(alloc, &mut out, &found.placed)?,
-        Err(why) => return Ok(why),
+    let p = typed(alloc, text)?;
+    let copies = match copies(alloc, &p) {
+        Ok(copies) => copies,
+        Err(error) => return refused(alloc, &error),
+    };
+    match place(alloc, &p, &copies) {
+        Ok(placed) => {
+            let mut out = String::new(alloc);
+            put_placed(alloc, &mut out, &placed)?;
+            Ok(out)
+        }
+        Err(error) => without_address(alloc, &error),
     }
-    Ok(out)
 }
 
 /// All that is known of a text.

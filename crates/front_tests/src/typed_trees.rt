@@ -26,7 +26,11 @@ const STATIC_SIZES: &str =
 
 #[test]
 fn types_show_in_sizes(rt: HostRuntime) -> Result<(), Fail> {
-    checked(&rt, rt.alloc(), Question::StaticSizes, STATIC_SIZES, 18)
+    assert_eq!(rt;
+        checked(&rt, rt.alloc(), Question::StaticSizes, STATIC_SIZES)?,
+        18
+    );
+    Ok(())
 }
 
 const BEGINNINGS: &str =
@@ -34,7 +38,11 @@ const BEGINNINGS: &str =
 
 #[test]
 fn static_objects_begin_as_they_say(rt: HostRuntime) -> Result<(), Fail> {
-    checked(&rt, rt.alloc(), Question::Beginnings, BEGINNINGS, 1)
+    assert_eq!(rt;
+        checked(&rt, rt.alloc(), Question::Beginnings, BEGINNINGS)?,
+        1
+    );
+    Ok(())
 }
 
 /// The firmware of a key and a lamp.
@@ -90,8 +98,8 @@ const LONG: &str = r#"8003 => void main(void){`8000*- `1;}
 
 #[test]
 fn nodes_are_counted(rt: HostRuntime) -> Result<(), Fail> {
-    checked(&rt, rt.alloc(), Question::Nodes, NODES, 8)?;
-    checked(&rt, rt.alloc(), Question::Nodes, LONG, 5)?;
+    assert_eq!(rt; checked(&rt, rt.alloc(), Question::Nodes, NODES)?, 8);
+    assert_eq!(rt; checked(&rt, rt.alloc(), Question::Nodes, LONG)?, 5);
     says(&rt, rt.alloc(), Question::Nodes, "106", KEYPAD)
 }
 

@@ -256,53 +256,36 @@ impl Bench {
         Ok(())
     }
 
-    // One of the passes; a line that says nothing of a case counts as one that couldn't be read.
-    fn pass(&mut self, alloc: Global, key: &str, rest: &str) -> Result<(), AllocError> {
+    // One of the passes; whether it is one.
+    fn pass(&mut self, alloc: Global, key: &str, rest: &str) -> Result<bool, AllocError> {
         match key {
-            "lean" => self.lean(alloc, handler(rest)),
-            "selects" => self.selects(alloc),
-            "thinned" => self.thinned(alloc, rest),
-            "start" => self.start(alloc, handler(rest)),
-            "code" => self.select_byte(alloc),
-            "select" => self.select(alloc),
-            "narrow" => self.narrow(alloc),
-            _ => {
-                self.is_read = false;
-                Ok(())
-            }
+            "lean" => self.lean(alloc, handler(rest))?,
+            "selects" => self.selects(alloc)?,
+            "thinned" => self.thinned(alloc, rest)?,
+            "start" => self.start(alloc, handler(rest))?,
+            "code" => self.select_byte(alloc)?,
+            "select" => self.select(alloc)?,
+            "narrow" => self.narrow(alloc)?,
+            _ => return Ok(false),
         }
+        Ok(true)
     }
 
-    /// Whether each line so far could be read.
-    pub fn is_read(&self) -> bool {
-        self.is_read
-    }
-
-    /// What a line gives a case, or a pass. Where it is none of these, no later line holds.
-    pub fn act(&mut self, alloc: Global, key: &str, rest: &str) -> Result<(), AllocError> {
+    /// What a line gives a case, or a pass; whether it is one of these.
+    pub fn act(&mut self, alloc: Global, key: &str, rest: &str) -> Result<bool, AllocError> {
         match key {
-            "object" => self.put_object(alloc, rest),
-            "frame" => self.put_frame(alloc, rest),
-            "put" => self.put_instructions(rest),
-            "do" => self.put_operations(alloc, rest),
-            "lend" => Ok(self.lent.push(rest == "1")?),
-            "block" => Ok(self.blocks.push(SymBlock::new(alloc, block(rest)))?),
-            "case" => {
-                let is_read = self.is_read;
-                *self = Bench::new(alloc);
-                self.is_read = is_read;
-                Ok(())
-            }
-            "variables" => {
-                self.variables = number(rest) as u64;
-                Ok(())
-            }
-            "helper" => {
-                self.helper = true;
-                Ok(())
-            }
-            _ => self.pass(alloc, key, rest),
+            "case" => *self = Bench::new(alloc),
+            "object" => self.put_object(alloc, rest)?,
+            "frame" => self.put_frame(alloc, rest)?,
+            "variables" => self.variables = number(rest) as u64,
+            "lend" => self.lent.push(rest == "1")?,
+            "helper" => self.helper = true,
+            "block" => self.blocks.push(SymBlock::new(alloc, block(rest)))?,
+            "put" => self.put_instructions(rest)?,
+            "do" => self.put_operations(alloc, rest)?,
+            _ => return self.pass(alloc, key, rest),
         }
+        Ok(true)
     }
 
     // Begins to compare with the block of a number.

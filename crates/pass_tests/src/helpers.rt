@@ -6,7 +6,6 @@ use c_typed::{Helper, int_helper};
 use core_code::Byte;
 use math_helpers::helper;
 use pic_world::Root;
-use std::alloc::{AllocError, Global};
 use std::test::Fail;
 use sym_code::{
     BitOperation, BlockName, FileOperation, Into, Literal, Operand, PlainOperation, Register, Sym,
@@ -276,26 +275,20 @@ shru4 70
 shrs4 70
 ";
 
-// Whether the block of a line's helper is the one of its copy, and keeps to the words of the line.
-fn keeps_to_words(alloc: Global, line: &str) -> Result<bool, AllocError> {
-    let (name, most) = cut(line);
-    match find(&HELPERS, name) {
-        Some(h) => {
-            let block = helper(alloc, h, Root::Isr, 3)?;
-            Ok(block.name == BlockName::Copy(3) && words(&block.list) <= value(most))
-        }
-        None => Ok(false),
-    }
-}
-
 #[test]
 fn blocks_keep_to_the_stated_words(rt: HostRuntime) -> Result<(), Fail> {
     let mut count: u32 = 0;
     for line in STATED.lines() {
-        assert!(rt; keeps_to_words(rt.alloc(), line)?, "{line}");
+        let (name, most) = cut(line);
+        let Some(h) = find(&HELPERS, name) else {
+            return Err(Fail::new("no helper"));
+        };
+        let block = helper(rt.alloc(), h, Root::Isr, 3)?;
+        assert!(rt; block.name == BlockName::Copy(3), "{line}");
+        assert!(rt; words(block.list.as_slice()) <= value(most), "{line}");
         count = count.saturating_add(1);
     }
-    assert!(rt; count == 16);
+    assert_eq!(rt; count, 16);
     Ok(())
 }
 
@@ -338,43 +331,33 @@ fn value(text: &str) -> u32 {
     }
 }
 
-// What the routine of a helper answers for operands of a width; none, where there is no such helper or no end.
-fn answered(
-    alloc: Global,
-    name: &str,
-    width: u32,
-    left: u32,
-    right: u32,
-) -> Result<Option<u32>, AllocError> {
-    match find(&HELPERS, name) {
-        Some(h) => {
-            let block = helper(alloc, h, Root::Main, 7)?;
-            Ok(run(&block.list, width as usize, left, right))
-        }
-        None => Ok(None),
-    }
-}
-
-// Whether the answer of a line's helper is the line's.
-fn is_answered(alloc: Global, line: &str) -> Result<bool, AllocError> {
-    let (name, rest) = cut(line);
-    let (width, rest) = cut(rest);
-    let (left, rest) = cut(rest);
-    let (right, answer) = cut(rest);
-    match answered(alloc, name, value(width), value(left), value(right))? {
-        Some(found) => Ok(answer == "any" || found == value(answer)),
-        None => Ok(false),
-    }
-}
-
 #[test]
 fn answers_are_those_of_c(rt: HostRuntime) -> Result<(), Fail> {
     let mut count: u32 = 0;
     for line in ANSWERS.lines() {
-        assert!(rt; is_answered(rt.alloc(), line)?, "{line}");
+        let (name, rest) = cut(line);
+        let (width, rest) = cut(rest);
+        let (left, rest) = cut(rest);
+        let (right, answer) = cut(rest);
+        let Some(h) = find(&HELPERS, name) else {
+            return Err(Fail::new("no helper"));
+        };
+        let block = helper(rt.alloc(), h, Root::Main, 7)?;
+        match run(
+            &block.list,
+            value(width) as usize,
+            value(left),
+            value(right),
+        ) {
+            Some(found) => assert!(rt;
+                answer == "any" || found == value(answer),
+                "{line}: {found}"
+            ),
+            None => return Err(Fail::new("no end")),
+        }
         count = count.saturating_add(1);
     }
-    assert!(rt; count == 27);
+    assert_eq!(rt; count, 27);
     Ok(())
 }
 

@@ -207,5 +207,6 @@ end
 
 #[test]
 fn blocks_become_leaner(rt: HostRuntime) -> Result<(), Fail> {
-    check(&rt, rt.alloc(), LEAN, 17, 58)
+    assert_eq!(rt; check(&rt, rt.alloc(), LEAN)?, (17, 58));
+    Ok(())
 }
