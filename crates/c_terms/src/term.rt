@@ -290,29 +290,11 @@ pub fn into_lvalue(term: Term) -> Option<Lvalue>
 }
 
 /// The place whose structure a value is read from.
-#[tactic(auto, using(crate::proofs::PlacesRead::structures_read))]
+#[tactic(auto, using(crate::proofs::PlacesRead::is_place_read))]
 pub fn read_from(value: TExpr) -> Option<TPlace>
     ensures { option_map place_of result ≡ structure_read (expression_of value) }
 {
-    match value {
-        TExpr::Read { place, .. } => Some(Box::into_inner(place)),
-        TExpr::Constant { .. }
-        | TExpr::Address { .. }
-        | TExpr::Convert { .. }
-        | TExpr::Cast { .. }
-        | TExpr::Unary { .. }
-        | TExpr::Binary { .. }
-        | TExpr::Offset { .. }
-        | TExpr::Difference { .. }
-        | TExpr::Logical { .. }
-        | TExpr::Conditional { .. }
-        | TExpr::Comma { .. }
-        | TExpr::Assign { .. }
-        | TExpr::StructAssign { .. }
-        | TExpr::Update { .. }
-        | TExpr::Step { .. }
-        | TExpr::Call { .. } => None,
-    }
+    value.into_read()
 }
 
 /// The place that is written by an assignment, `++` or `--` at this line.

@@ -1,5 +1,5 @@
 -- The types of expressions and places, how many bytes they have, and the forms of places.
-use Rattle.std.specs.Prelude.{ℕ, List, Bool, true, false, ◌&&◌, slice_index}
+use Rattle.std.specs.Prelude.{ℕ, List, Bool, true, false, Option, Some, None, ◌&&◌, slice_index}
 use Rattle.c_ints.specs.Range.{bytes_of}
 use Rattle.c_ints.specs.declared.types.IntTy.TheVariants as IntTy
 use Rattle.c_typed.specs.Trees as tree
@@ -52,6 +52,11 @@ value_bytes sizes e = type_bytes sizes (type_of e)
 -- how many bytes a place has
 abbrev pub place_bytes : List ℕ → Place → ℕ
 place_bytes sizes p = type_bytes sizes (place_type p).ty
+
+-- The place that a value is read from, if it is read from one.
+abbrev pub place_read : Expression → Option Place
+place_read (tree.Read place ty line) = Some place
+place_read _ = None
 
 -- A place is fixed (a name, or a member of a fixed place), a bit, or computed.
 abbrev pub member_form : PlaceForm → PlaceForm

@@ -1,7 +1,8 @@
 //! Typed expressions: each node has its type and the line of its first token, counted from 1.
 
 ghost use Rattle.std.specs.Prelude.{◌≡◌};
-ghost use Rattle.c_typed.specs.Types.{type_of, place_type, form_of, is_constant};
+ghost use Rattle.std.specs.Option.{option_map};
+ghost use Rattle.c_typed.specs.Types.{type_of, place_read, place_type, form_of, is_constant};
 ghost use Rattle.c_typed.specs.Views.{expression_of, place_of};
 ghost use Rattle.c_typed.specs.Words.{step_operator};
 
@@ -51,7 +52,6 @@ impl StepOp {
 
 /// An expression that has a value (ISO/IEC 9899:1990, 6.3).
 #[cycle(expression)]
-#[derive(Drop)]
 pub enum TExpr {
     /// A constant, or what `sizeof` gives.
     Constant {
@@ -180,6 +180,116 @@ pub enum TExpr {
     },
 }
 
+impl Drop for TExpr {
+    #[cycle(expression)]
+    fn drop(self) {
+        match self {
+            TExpr::Constant { value: _, line: _ }
+            | TExpr::Read {
+                place: _,
+                ty: _,
+                line: _,
+            }
+            | TExpr::Address {
+                place: _,
+                ty: _,
+                line: _,
+            }
+            | TExpr::Convert {
+                operand: _,
+                ty: _,
+                line: _,
+            }
+            | TExpr::Cast {
+                operand: _,
+                ty: _,
+                line: _,
+            }
+            | TExpr::Unary {
+                op: _,
+                operand: _,
+                ty: _,
+                line: _,
+            }
+            | TExpr::Binary {
+                op: _,
+                left: _,
+                right: _,
+                ty: _,
+                line: _,
+            }
+            | TExpr::Offset {
+                op: _,
+                left: _,
+                right: _,
+                size: _,
+                ty: _,
+                line: _,
+            }
+            | TExpr::Difference {
+                left: _,
+                right: _,
+                size: _,
+                line: _,
+            }
+            | TExpr::Logical {
+                op: _,
+                left: _,
+                right: _,
+                line: _,
+            }
+            | TExpr::Conditional {
+                condition: _,
+                then: _,
+                otherwise: _,
+                ty: _,
+                line: _,
+            }
+            | TExpr::Comma {
+                left: _,
+                right: _,
+                ty: _,
+                line: _,
+            }
+            | TExpr::Assign {
+                place: _,
+                value: _,
+                ty: _,
+                line: _,
+            }
+            | TExpr::StructAssign {
+                place: _,
+                from: _,
+                size: _,
+                line: _,
+            }
+            | TExpr::Update {
+                op: _,
+                place: _,
+                value: _,
+                operation: _,
+                size: _,
+                ty: _,
+                line: _,
+            }
+            | TExpr::Step {
+                op: _,
+                place: _,
+                operation: _,
+                size: _,
+                ty: _,
+                line: _,
+            }
+            | TExpr::Call {
+                function: _,
+                arguments: _,
+                ty: _,
+                line: _,
+            } => {}
+        }
+    }
+}
+
 /// How a place is found: by its name alone (a name, or a member of such a place), as a bit of a register,
 /// or by an address that is computed.
 #[derive(Clone, Copy, PartialEq, Eq)]
@@ -191,7 +301,6 @@ pub enum PlaceForm {
 
 /// An expression that is a place (ISO/IEC 9899:1990, 6.2.2.1: an lvalue).
 #[cycle(expression)]
-#[derive(Drop)]
 pub enum TPlace {
     /// The name of an object or of a device register.
     Name {
@@ -219,6 +328,36 @@ pub enum TPlace {
         ty: Qualified,
         line: u32,
     },
+}
+
+impl Drop for TPlace {
+    #[cycle(expression)]
+    fn drop(self) {
+        match self {
+            TPlace::Name {
+                object: _,
+                ty: _,
+                line: _,
+            }
+            | TPlace::Bit {
+                register: _,
+                bit: _,
+                line: _,
+            }
+            | TPlace::Member {
+                whole: _,
+                member: _,
+                offset: _,
+                ty: _,
+                line: _,
+            }
+            | TPlace::Deref {
+                pointer: _,
+                ty: _,
+                line: _,
+            } => {}
+        }
+    }
 }
 
 impl TExpr {
@@ -278,6 +417,32 @@ impl TExpr {
             | TExpr::Update { .. }
             | TExpr::Step { .. }
             | TExpr::Call { .. } => false,
+        }
+    }
+
+    /// The place that the value is read from, if it is read from one.
+    #[tactic(auto, using(crate::proofs::Shapes::expression_shapes))]
+    pub fn into_read(self) -> Option<TPlace>
+        ensures { option_map place_of result ≡ place_read (expression_of self) }
+    {
+        match self {
+            TExpr::Read { place, .. } => Some(Box::into_inner(place)),
+            TExpr::Constant { .. }
+            | TExpr::Address { .. }
+            | TExpr::Convert { .. }
+            | TExpr::Cast { .. }
+            | TExpr::Unary { .. }
+            | TExpr::Binary { .. }
+            | TExpr::Offset { .. }
+            | TExpr::Difference { .. }
+            | TExpr::Logical { .. }
+            | TExpr::Conditional { .. }
+            | TExpr::Comma { .. }
+            | TExpr::Assign { .. }
+            | TExpr::StructAssign { .. }
+            | TExpr::Update { .. }
+            | TExpr::Step { .. }
+            | TExpr::Call { .. } => None,
         }
     }
 

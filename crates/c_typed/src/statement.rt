@@ -13,7 +13,6 @@ pub enum LoopForm {
 
 /// A statement (ISO/IEC 9899:1990, 6.6), or a declarator of a local.
 #[cycle(statement)]
-#[derive(Drop)]
 pub enum TStmt {
     Block {
         statements: Vec<TStmt>,
@@ -82,13 +81,71 @@ pub enum TStmt {
     },
 }
 
+impl Drop for TStmt {
+    #[cycle(statement)]
+    fn drop(self) {
+        match self {
+            TStmt::Block {
+                statements: _,
+                line: _,
+            }
+            | TStmt::Empty { line: _ }
+            | TStmt::Expr { value: _, line: _ }
+            | TStmt::Declare { local: _, line: _ }
+            | TStmt::InitScalar {
+                local: _,
+                value: _,
+                line: _,
+            }
+            | TStmt::InitList {
+                local: _,
+                items: _,
+                line: _,
+            }
+            | TStmt::If {
+                arms: _,
+                otherwise: _,
+                line: _,
+            }
+            | TStmt::Loop {
+                form: _,
+                begin: _,
+                condition: _,
+                step: _,
+                body: _,
+                line: _,
+            }
+            | TStmt::Switch {
+                value: _,
+                cases: _,
+                default: _,
+                statements: _,
+                line: _,
+            }
+            | TStmt::Break { line: _ }
+            | TStmt::Continue { line: _ }
+            | TStmt::Return { value: _, line: _ } => {}
+        }
+    }
+}
+
 /// `if (CONDITION) THEN`, with the line of its `if`.
 #[cycle(statement)]
-#[derive(Drop)]
 pub struct TArm {
     pub condition: TExpr,
     pub then: TStmt,
     pub line: u32,
+}
+
+impl Drop for TArm {
+    #[cycle(statement)]
+    fn drop(self) {
+        let TArm {
+            condition: _,
+            then: _,
+            line: _,
+        } = self;
+    }
 }
 
 /// A case label: its value in the type of the switch, and how many statements of the body stand
