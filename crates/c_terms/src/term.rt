@@ -291,10 +291,10 @@ pub fn into_lvalue(term: Term) -> Option<Lvalue>
 
 /// The place whose structure a value is read from.
 #[tactic(auto, using(crate::proofs::PlacesRead::is_place_read))]
-pub fn read_from(value: TExpr) -> Option<TPlace>
+pub fn read_from(mut value: TExpr) -> Option<TPlace>
     ensures { option_map place_of result ≡ structure_read (expression_of value) }
 {
-    value.into_read()
+    value.take_read()
 }
 
 /// The place that is written by an assignment, `++` or `--` at this line.

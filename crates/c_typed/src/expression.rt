@@ -8,6 +8,7 @@ ghost use Rattle.c_typed.specs.Words.{step_operator};
 
 use crate::types::{Qualified, Ty};
 use c_ints::{BinOp, IntTy, UnOp, Value};
+use std::mem;
 
 /// What a name that is a place stands for.
 #[derive(Clone, Copy, PartialEq, Eq)]
@@ -420,13 +421,21 @@ impl TExpr {
         }
     }
 
-    /// The place that the value is read from, if it is read from one.
+    /// Takes out the place that the value is read from, if it is read from one, and leaves one that says nothing in
+    /// its stead: a value whose type says itself how it is let go can't be taken apart.
     #[tactic(auto, using(crate::proofs::Shapes::expression_shapes))]
-    pub fn into_read(self) -> Option<TPlace>
-        ensures { option_map place_of result ≡ place_read (expression_of self) }
+    pub fn take_read(&mut self) -> Option<TPlace>
+        ensures { option_map place_of result ≡ place_read (expression_of self.old) }
     {
         match self {
-            TExpr::Read { place, .. } => Some(Box::into_inner(place)),
+            TExpr::Read { place, .. } => {
+                let nothing = TPlace::Bit {
+                    register: 0,
+                    bit: 0,
+                    line: 0,
+                };
+                Some(mem::replace(&mut **place, nothing))
+            }
             TExpr::Constant { .. }
             | TExpr::Address { .. }
             | TExpr::Convert { .. }
