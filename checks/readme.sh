@@ -11,5 +11,5 @@ if ! command -v python3 >/dev/null; then
 fi
 (enter_folder && first_build) || exit 1
 PYTHONDONTWRITEBYTECODE=1 python3 "$top/checks/lib/sessions.py" "$top" "$picc" "$script" \
-    README.md docs/guide.md docs/semantics.md docs/commands.md examples/README.md || failed=1
+    README.md docs/guide.md docs/semantics.md examples/README.md || failed=1
 exit $failed
