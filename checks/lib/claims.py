@@ -46,13 +46,14 @@ SERVES = {
 SERVED = {server: call for call, servers in SERVES.items() for server in servers.split()}
 LONGEST_TEXT, LONGEST_ALONE = 40, 80
 LONGEST_SENTENCE = 120
+WIDTH = 140
 SOURCE = re.compile(r' ?\((?:ISO/IEC|Microchip|DS39582|Intel)[^()]*\)')
 WRAPPER = re.compile(r'(?:If|On|For)(?:Ok|Err|Some|None) [\w.]+ \((?:λ \w+\. )?|(?:All|AllZip) \(?')
 UNCHANGED = re.compile(r'(?:OnErr result \()?((?:[\w.]+ )?\w+)\.new((?:\.\w+)*) ≡ \1\.old\2\)?')
 
 
 def first_sentence(text):
-    return re.split(r'(?<=[.:]) +(?=[A-Z`0-9])', text + ' ')[0].strip().rstrip(':')
+    return re.split(r'(?<=\.) +(?=[A-Z`0-9])', text)[0].strip()
 
 
 def in_short(text):
@@ -151,18 +152,26 @@ def is_listed(crate):
     return not crate.endswith('_tests') or crate == 'spec_tests'
 
 
-def clauses(top):
-    served, getters = {}, 0
+def unlisted(top):
+    """What the list leaves out, counted, and the calls without a clause."""
+    served, getters, bare = {}, 0, []
     for crate in filter(is_listed, contracts.crates(top)):
-        yield from crate_lines(top, crate)
-        for call in filter(promises, contracts.calls(top, crate)):
-            if served_by(call):
+        for call in contracts.calls(top, crate):
+            if not promises(call):
+                bare += [] if served_by(call) else [f'`{crate}::{call.name}`']
+            elif served_by(call):
                 served.setdefault(served_by(call), []).append(call)
             elif is_getter(call):
                 getters += 1
     counts = ', '.join(f'{len(calls)} of `{end}`' for end, calls in served.items())
     yield f'Not listed are {getters} methods that answer a part of a value, and calls that serve another one, which has what they come to:'
-    yield f'{counts}.'
+    yield f'{counts}. Without a clause are {", ".join(bare)}.'
+
+
+def clauses(top):
+    for crate in filter(is_listed, contracts.crates(top)):
+        yield from crate_lines(top, crate)
+    yield from unlisted(top)
 
 
 def wrong_bodies(top):
@@ -178,13 +187,24 @@ def wrong_bodies(top):
     return [f'They are {count}:', '', '| Crate | Wrong bodies |', '|---|---|', *rows]
 
 
+def wrapped(line):
+    """A line of a list as lines of the page's width; none begins with what Markdown takes for a list of its own."""
+    lines, margin = [], ' ' * (line.index('-') + 2) if line.lstrip().startswith('- ') else ''
+    for word in line.split(' '):
+        if lines and (len(lines[-1]) + len(word) < WIDTH or word[:1] in '-+*#>' or not lines[-1].strip()):
+            lines[-1] += ' ' + word
+        else:
+            lines.append(margin * bool(lines) + word)
+    return lines
+
+
 def marks(part):
     return f'<!-- {part}: printed by checks/lib/claims.py -->', f'<!-- end of {part} -->'
 
 
 def anew(top, page):
     """The page with the parts between its marks printed anew."""
-    for part, lines in (('clauses', clauses(top)), ('wrong bodies', wrong_bodies(top))):
+    for part, lines in (('clauses', [short for line in clauses(top) for short in wrapped(line)]), ('wrong bodies', wrong_bodies(top))):
         begin, end = marks(part)
         if page.count(begin) != 1 or page.count(end) != 1:
             raise SystemExit(f'{PAGE}: the marks of {part} have to stand there once: {begin} and {end}')
