@@ -75,7 +75,8 @@ def definition_words(top, call, text):
     name = re.match(r'[\w.]*', text)[0]
     front, _, last = name.rpartition('.')
     module = contracts.imports(top, call.crate, call.module).get(front or name, '')
-    return first_sentence(contracts.definitions(top, module).get(last, '')) if last[:1].isupper() or text.endswith('≡ true') else ''
+    is_statement = last[:1].isupper() or text.endswith('≡ true')
+    return first_sentence(contracts.definitions(top, module).get(last, '')) if is_statement else ''
 
 
 def sentence_of(top, call, clause):
@@ -204,10 +205,11 @@ def marks(part):
 
 def anew(top, page):
     """The page with the parts between its marks printed anew."""
-    for part, lines in (('clauses', [short for line in clauses(top) for short in wrapped(line)]), ('wrong bodies', wrong_bodies(top))):
+    listed = [short for line in clauses(top) for short in wrapped(line)]
+    for part, lines in (('clauses', listed), ('wrong bodies', wrong_bodies(top))):
         begin, end = marks(part)
         if page.count(begin) != 1 or page.count(end) != 1:
-            raise SystemExit(f'{PAGE}: the marks of {part} have to stand there once: {begin} and {end}')
+            raise SystemExit(f'claims: {PAGE}: the marks of {part} have to stand there once: {begin} and {end}')
         front, rest = page.split(begin)
         page = '\n'.join([front + begin, '', *lines, '']).rstrip('\n') + '\n\n' + end + rest.split(end)[1]
     return page
@@ -266,7 +268,7 @@ def table_errors(top, page):
     if not rows:
         yield f'the table under {TABLE!r} is missing'
     for row in rows:
-        promise, carried = (cell.strip() for cell in row.strip('| ').split(' | '))
+        promise, _, carried = row.strip('| ').partition(' | ')
         if '::' not in carried and 'owed' not in carried and 'tested' not in carried:
             yield f'the promise {promise!r} names no clause'
         yield from row_errors(top, carried)

@@ -12,7 +12,7 @@ OWNER = re.compile(r'(?:pub )?(?:impl|trait|struct) ?(?:<.*?> )?(.*?)(?: where.*
 FUNCTION = re.compile(r'( *)(pub )?(?:const )?fn (\w+)')
 CLAUSE = re.compile(r'(requires|ensures) *(\w*) *\{(.*)\}(;?)$')
 FIELD = re.compile(r'pub ghost (\w+): \{(.*)\},$')
-DEFINITION = re.compile(r'(?:abbrev |unfoldable )?(?:pub )?(?:abbrev |data |record |unfoldable )*(?:pub )?(\w+) ')
+DEFINITION = re.compile(r'(?:(?:abbrev|unfoldable|pub|data|record) )*(\w+) ')
 
 
 def lines_of(path):
@@ -146,7 +146,7 @@ def definitions(top, module):
     """The comments over the definitions of a module of specs/, by name."""
     path = '{}/crates/{}/specs/{}.antt'.format(top, *module.split('.', 1)) if '.' in module else ''
     found, comment = {}, []
-    for line in lines_of(path.replace('.declared', '')) if os.path.isfile(path) else []:
+    for line in lines_of(path) if os.path.isfile(path) else []:
         if line.startswith('-- ') and not line.startswith('-- -'):
             comment.append(line[3:].strip())
             continue
