@@ -2,7 +2,7 @@
 clauses, and the wrong bodies. And each clause, law and field that the page's table of promises names has to be there.
 
     python3 checks/lib/claims.py          tells the first difference
-    python3 checks/lib/claims.py --write  writes those parts of the page anew
+    python3 checks/lib/claims.py write    writes those parts of the page anew
 """
 import os
 import re
@@ -219,7 +219,7 @@ def first_difference(page, right):
     old, new = page.splitlines() + ['(nothing)'], right.splitlines() + ['(nothing)']
     for number, (has, wanted) in enumerate(zip(old, new), 1):
         if has != wanted:
-            yield f'line {number} is {has!r}, by the contracts it is {wanted!r}; `python3 checks/lib/claims.py --write` writes it'
+            yield f'line {number} is {has!r}, by the contracts it is {wanted!r}; `sh checks/claims.sh write` writes it'
             return
 
 
@@ -287,7 +287,7 @@ def main():
     with open(path, encoding='utf-8') as file:
         page = file.read()
     right = anew(TOP, page)
-    if sys.argv[1:] == ['--write']:
+    if sys.argv[1:] == ['write']:
         with open(path, 'w', encoding='utf-8') as file:
             file.write(right)
         page = right
