@@ -189,11 +189,11 @@ fn file_object(
     init: &Option<EqualsInit>,
     checker: &mut Checker,
     specified: Specified,
-    outline: Outline,
+    outline: &Outline,
     name: &[u8],
     line: u32,
 ) -> Result<(), CheckError>
-    ensures { Learns result (known_of checker.new) (rule.file_object (specified_of specified) (outline_of outline) (rule.init_in (equals_of init.now)) name.now line (known_of checker.old)) }
+    ensures { Learns result (known_of checker.new) (rule.file_object (specified_of specified) (outline_of outline.now) (rule.init_in (equals_of init.now)) name.now line (known_of checker.old)) }
 {
     checker.scopes.refuse_again(name, line)?;
     let ty = object_type(&checker.types, specified, outline, is_given(init), line)?;
@@ -205,30 +205,18 @@ fn file_declared(
     init: &Option<EqualsInit>,
     checker: &mut Checker,
     specified: Specified,
-    outline: Outline,
+    outline: &Outline,
     name: &[u8],
     line: u32,
 ) -> Result<(), CheckError>
-    ensures { Learns result (known_of checker.new) (rule.file_declared (outline_of outline).declared (specified_of specified) (outline_of outline) (rule.init_in (equals_of init.now)) name.now line (known_of checker.old)) }
+    ensures { Learns result (known_of checker.new) (rule.file_declared (outline_of outline.now).declared (specified_of specified) (outline_of outline.now) (rule.init_in (equals_of init.now)) name.now line (known_of checker.old)) }
 {
-    let Outline {
-        declared,
-        bad,
-        incomplete,
-    } = outline;
-    match declared {
+    match &outline.declared {
         Declared::Function { result, params, .. } => {
-            declare_function(checker, name, result, &params, bad, false, line)?;
+            declare_function(checker, name, *result, params, outline.bad, false, line)?;
             refuse_value(init, checker, line)
         }
-        Declared::Object(ty) => {
-            let outline = Outline {
-                declared: Declared::Object(ty),
-                bad,
-                incomplete,
-            };
-            file_object(init, checker, specified, outline, name, line)
-        }
+        Declared::Object(_) => file_object(init, checker, specified, outline, name, line),
     }
 }
 
@@ -262,15 +250,15 @@ fn is_no_type(outline: &Outline, specified: Specified, begun: bool) -> bool
 fn named_type(
     checker: &mut Checker,
     specified: Specified,
-    outline: Outline,
+    outline: &Outline,
     begun: bool,
     name: &[u8],
     line: u32,
 ) -> Result<(), CheckError>
-    ensures { Learns result (known_of checker.new) (rule.type_rule (specified_of specified) (outline_of outline) begun name.now line (known_of checker.old)) }
+    ensures { Learns result (known_of checker.new) (rule.type_rule (specified_of specified) (outline_of outline.now) begun name.now line (known_of checker.old)) }
 {
     checker.scopes.refuse_again(name, line)?;
-    if is_no_type(&outline, specified, begun) {
+    if is_no_type(outline, specified, begun) {
         return refused(Kind::Declare, line);
     }
     let ty = type_of(&outline.declared);
@@ -292,9 +280,9 @@ fn file_declarator(
     let name = name_of(&declared.declarator);
     if is_typedef(specified.storage) {
         let begun = is_given(&declared.init);
-        named_type(checker, specified, outline, begun, name, line)
+        named_type(checker, specified, &outline, begun, name, line)
     } else {
-        file_declared(&declared.init, checker, specified, outline, name, line)
+        file_declared(&declared.init, checker, specified, &outline, name, line)
     }
 }
 
@@ -370,11 +358,11 @@ fn block_object(
     init: &Option<EqualsInit>,
     checker: &mut Checker,
     specified: Specified,
-    outline: Outline,
+    outline: &Outline,
     name: &[u8],
     line: u32,
 ) -> Result<Vec<TStmt>, CheckError>
-    ensures { Answers (λ made. map statement_of made.items) result (known_of checker.new) (object_in_block (specified_of specified) (outline_of outline) (equals_of init.now) name.now line (known_of checker.old)) }
+    ensures { Answers (λ made. map statement_of made.items) result (known_of checker.new) (object_in_block (specified_of specified) (outline_of outline.now) (equals_of init.now) name.now line (known_of checker.old)) }
 {
     let ty = object_type(&checker.types, specified, outline, is_given(init), line)?;
     let declarator = checker.body.next_declarator(line)?;
@@ -392,7 +380,7 @@ fn block_declarator(
     let line = declarator_line(&declared.declarator);
     let name = name_of(&declared.declarator);
     checker.scopes.refuse_again(name, line)?;
-    block_object(&declared.init, checker, specified, outline, name, line)
+    block_object(&declared.init, checker, specified, &outline, name, line)
 }
 
 fn block_declarators(

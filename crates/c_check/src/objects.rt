@@ -61,27 +61,24 @@ fn is_missing(types: &Types, ty: Ty, incomplete: bool, given: bool) -> bool
 pub(crate) fn object_type(
     types: &Types,
     specified: Specified,
-    outline: Outline,
+    outline: &Outline,
     given: bool,
     line: u32,
 ) -> Result<Qualified, CheckError>
-    ensures { (known : Known) → Answers (λ ty. ty) result (types_in types.now known) (rule.object_rule (specified_of specified) (outline_of outline) given line (types_in types.now known)) }
+    ensures { (known : Known) → Answers (λ ty. ty) result (types_in types.now known) (rule.object_rule (specified_of specified) (outline_of outline.now) given line (types_in types.now known)) }
 {
-    let Outline {
-        declared,
-        bad,
-        incomplete,
-    } = outline;
-    let Declared::Object(ty) = declared else {
+    let Declared::Object(ty) = &outline.declared else {
         return refused(Kind::Declare, line);
     };
+    let ty = *ty;
+    let bad = outline.bad;
     if bad || specified.interrupt {
         return refused(Kind::Declare, line);
     }
     if is_large(types, ty.ty) {
         return refused(Kind::Size, line);
     }
-    if is_missing(types, ty.ty, incomplete, given) {
+    if is_missing(types, ty.ty, outline.incomplete, given) {
         return refused(Kind::Incomplete, line);
     }
     Ok(ty)
