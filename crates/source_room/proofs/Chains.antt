@@ -8,11 +8,13 @@ use Rattle.call_graph.specs.Levels.{IsLongest}
 use Rattle.c_typed.specs.Chains.{graph_of, row_of, Calls, IsChain}
 use Rattle.c_typed.specs.Trees.{FunctionTree, Program}
 use Rattle.pic_world.specs.declared.Root.TheVariants.{Main}
-use Rattle.source_room.proofs.Rooms.{Sized}
-use Rattle.source_room.proofs.Shallow.{within, IsSized, moment_sized}
+use Rattle.source_room.proofs.Rooms.{by_depth, Sized}
+use Rattle.source_room.proofs.Roomy.{depths_count}
+use Rattle.source_room.proofs.Shallow.{moment_sized}
 use Rattle.source_room.proofs.Ways.{rest, budget_rest}
 use Rattle.source_room.specs.Depth.{function_depth, deepest_of, deepest_function}
 use Rattle.source_room.specs.Laws.{StackIsWithinDepth}
+use Rattle.src_rules.proofs.Bounds.{within}
 use Rattle.src_rules.proofs.Distinct.{caller_calls, main_is_no_handler}
 use Rattle.src_rules.proofs.Moments.{moments}
 use Rattle.src_rules.specs.Laws.{entries}
@@ -151,7 +153,7 @@ longest_below p d depth (Some main) (Some handler) is its h depths k c st there 
 
 stack_within : (p : Program) (d depth : ℕ) → HasDepth p depth → ((f : ℕ) → f < length p.functions → function_depth (function_at p f) ≤ d) → (t : State) → Stands p t → Sized p t.copy t.stack → entries t.stack ≤ (depth + 1) * d
 stack_within p d depth has depths t h z =
-    let a = within p t.stack t.copy z in
+    let a = within p by_depth depths_count t.stack t.copy z in
     let b = budget_rest p t.stack t.copy in
     let f = depths t.copy.function h.reached.there in
     let i = longest_below p d depth (main_in p) (handler_in p) refl refl has depths t.stack t.copy h.stack h.reached.there in
@@ -159,5 +161,4 @@ stack_within p d depth has depths t h z =
     omega arith
 
 pub within_depth : StackIsWithinDepth
-unfolding IsSized
-within_depth s h o depth has n = stack_within s.program (deepest_function s.program) depth has (λ f l. deepest_at s.program.functions f l) (moment s n) (moments s h o n).0 (moment_sized s n).1
+within_depth s h o depth has n = stack_within s.program (deepest_function s.program) depth has (λ f l. deepest_at s.program.functions f l) (moment s n) (moments s h o n).0 (moment_sized s h o n)

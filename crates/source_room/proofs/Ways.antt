@@ -2,10 +2,12 @@
 use Rattle.std.proofs.Common.{◌≡◌, ℕ, ◌+◌, ◌<◌, ◌≤◌, List, [], ◌∷◌, length, sym, ap, ◌∙◌, arith}
 use Rattle.c_typed.specs.Trees.{Program}
 use Rattle.pic_world.specs.declared.Root.TheVariants.{Main}
-use Rattle.source_room.proofs.Shallow.{budget, within, IsSized, moment_sized}
-use Rattle.source_room.proofs.Rooms.{Sized}
+use Rattle.source_room.proofs.Rooms.{depth_sizes, by_depth, Sized}
+use Rattle.source_room.proofs.Roomy.{depths_count}
+use Rattle.source_room.proofs.Shallow.{moment_sized}
 use Rattle.source_room.specs.Depth.{function_depth}
 use Rattle.source_room.specs.Laws.{AreWays, handlers_way, StackIsWithinWays}
+use Rattle.src_rules.proofs.Bounds.{budget, within}
 use Rattle.src_rules.proofs.Distinct.{caller_calls, main_is_no_handler}
 use Rattle.src_rules.proofs.Moments.{moments}
 use Rattle.src_rules.specs.Laws.{entries}
@@ -26,7 +28,7 @@ rest p (Before ss ∷ k) = rest p k
 rest p (Returns d ∷ k) = function_depth (function_at p d.function) + rest p k
 rest p (Resumes d x ∷ k) = function_depth (function_at p d.function) + rest p k
 
-pub budget_rest : (p : Program) (k : List Pending) (c : CopyOf) → budget p c k ≤ function_depth (function_at p c.function) + rest p k
+pub budget_rest : (p : Program) (k : List Pending) (c : CopyOf) → budget p depth_sizes c k ≤ function_depth (function_at p c.function) + rest p k
 unfolding budget rest
 budget_rest p [] c = omega arith
 budget_rest p (In e got ∷ k) c = budget_rest p k c
@@ -72,12 +74,11 @@ module _ (p : Program) (way : ℕ → ℕ) (ways : AreWays p way) where
 
   stack_within : (t : State) → Stands p t → Sized p t.copy t.stack → entries t.stack ≤ way (main_of p) + handlers_way way (handler_in p)
   stack_within t h z =
-      let a = within p t.stack t.copy z in
+      let a = within p by_depth depths_count t.stack t.copy z in
       let b = budget_rest p t.stack t.copy in
       let i = all_ways t.stack t.copy h.stack h.reached.there in
       let o = ways.own t.copy.function h.reached.there in
       omega arith
 
 pub within_ways : StackIsWithinWays
-unfolding IsSized
-within_ways s h o way ways n = stack_within s.program way ways (moment s n) (moments s h o n).0 (moment_sized s n).1
+within_ways s h o way ways n = stack_within s.program way ways (moment s n) (moments s h o n).0 (moment_sized s h o n)

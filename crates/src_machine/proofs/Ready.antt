@@ -6,17 +6,16 @@ use Rattle.c_typed.specs.TreeNodes.{nodes_of}
 use Rattle.pic_world.specs.World.{Happening}
 use Rattle.src_machine.specs.Steps.{IsGiven, IsOnRun, IsRoom, settled}
 use Rattle.src_rules.proofs.Changes.{arrivals_once}
-use Rattle.src_rules.proofs.Depths.{short}
+use Rattle.src_rules.proofs.Depths.{short, moment_sized}
 use Rattle.src_rules.proofs.Moments.{moments, steps, gone_stands}
-use Rattle.src_rules.proofs.Rooms.{FocusSized, Sized, KeepsSize}
-use Rattle.src_rules.proofs.Roomy.{step_size}
+use Rattle.src_rules.proofs.Rooms.{FocusSized, Sized}
 use Rattle.src_rules.proofs.Weighing.{weight_falls}
 use Rattle.src_rules.proofs.Worlds.{arrived_stands, arrived_inside}
 use Rattle.src_rules.specs.Laws.{IsProper, IsOfBytes, entries}
 use Rattle.src_rules.specs.Runs.{gone, run, moment, is_taken, is_ready, ready_within, ready}
 use Rattle.src_rules.specs.Standing.{Stands}
 use Rattle.src_rules.specs.State.{State, Outcome, Went, Undefined, Idle, Lost}
-use Rattle.src_rules.specs.Step.{start, step, counts}
+use Rattle.src_rules.specs.Step.{step, counts}
 use Rattle.src_rules.specs.Weights.{weight}
 use Rattle.src_values.specs.Memory.{Setting}
 use Rattle.src_values.specs.declared.objects.Byte.{Byte}
@@ -122,24 +121,7 @@ more_room s a b enough more n = let h = enough n in omega arith
 abbrev pub IsSized : Setting → State → Type 0
 IsSized s t = FocusSized s.program t.copy t.focus t.stack × Sized s.program t.copy t.stack
 
-gone_sized : (s : Setting) (t : State) (out : Outcome) → IsSized s t → KeepsSize s.program out → IsSized s (gone t out)
-gone_sized s t (Went u event) h k = k
-gone_sized s t (Undefined kind line) h k = h
-gone_sized s t Idle h k = h
-gone_sized s t Lost h k = h
-
-start_sized : (s : Setting) → IsSized s (start s)
-unfolding start
-start_sized s = (tt, (omega arith, tt))
-
-moment_sized : (s : Setting) → IsGiven s → (n : ℕ) → IsSized s (moment s n)
-unfolding run
-moment_sized s given zero = start_sized s
-moment_sized s given (suc n) =
-    let i = moment_sized s given n in
-    gone_sized s (moment s n) (step s (moment s n)) i (step_size s (moment s n) (moments s given.proper given.bytes n).0 i.0 i.1)
-
 pub run_sized : (s : Setting) → IsGiven s → (t : State) → IsOnRun s t → IsSized s t
 run_sized s given t on =
-    let h = moment_sized s given on.number in
+    let h = moment_sized s given.proper given.bytes on.number in
     ⊎_elim (λ e. subst (IsSized s) (sym e) h) (λ e. subst (IsSized s) (sym e) h) on.at

@@ -27,6 +27,11 @@ pub mod Distinct
 pub mod Sizes
 pub mod Nears
 pub mod Above
+pub mod Waiting
+pub mod Totals
+pub mod Measures
+pub mod Holding
+pub mod Bounds
 pub mod Rooms
 pub mod Roomy
 pub mod Depths
