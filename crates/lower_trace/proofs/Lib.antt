@@ -188,8 +188,6 @@ pub mod MostOwed
 pub mod BulkCounted
 pub mod BoundLowers
 pub mod Onwards
-pub mod WaitingCopies
-pub mod Totals
 pub mod WordsTogether
 pub mod Unders
 pub mod UndersKept

@@ -1,5 +1,5 @@
 -- All functions under way have together no more words than all copies: each stands at a number of its own among them.
-use Rattle.std.proofs.Common.{◌≡◌, ℕ, zero, suc, ◌+◌, ◌<◌, ◌≤◌, ⊎_elim, Bool, true, false, nat_eq, List, [], ◌∷◌, length, Option, Some, None, slice_get, refl, sym, ap, ◌∙◌, subst, arith}
+use Rattle.std.proofs.Common.{◌≡◌, ℕ, suc, ◌+◌, ◌<◌, ◌≤◌, ⊎_elim, false, nat_eq, List, [], ◌∷◌, length, Option, Some, None, slice_get, refl, sym, ap, ◌∙◌, arith}
 use Rattle.std.proofs.lemmas.Bool.{false≢true}
 use Rattle.std.proofs.lemmas.List.Sums.{sum_by-cons}
 use Rattle.std.proofs.lemmas.Option.{slice_get_within}
@@ -9,10 +9,12 @@ use Rattle.c_typed.specs.declared.calls.FnId.TheVariants as callee
 use Rattle.call_graph.specs.declared.types.FnCopy.{FnCopy}
 use Rattle.ram_place.specs.Sizes.{block_words, size_or_none}
 use Rattle.src_rules.proofs.Starts.{or_false}
+use Rattle.src_rules.proofs.Totals.{total, without, without_other, total_out}
+use Rattle.src_rules.proofs.Waiting.{waiting, waiting_apart, waiting_distinct, AreReached, waiting_reached}
 use Rattle.src_rules.specs.Laws.{AreDistinct}
 use Rattle.src_rules.specs.Standing.{IsReached, StackStands}
 use Rattle.src_values.specs.Control.{Pending, In, To, Doing, Before, Returns, Resumes}
-use Rattle.src_values.specs.Objects.{same_copy, is_among, function_at}
+use Rattle.src_values.specs.Objects.{same_copy, is_among}
 use Rattle.src_values.specs.declared.objects.CopyOf.{CopyOf}
 use Rattle.lower_trace.specs.Lowering.{all_words, IsLowerable}
 use Rattle.lower_trace.proofs.Burdens.{under}
@@ -21,8 +23,6 @@ use Rattle.lower_trace.proofs.Entering.{copy_self, bool_cases}
 use Rattle.lower_trace.proofs.Numbering.{numbers_apart, function_there}
 use Rattle.lower_trace.proofs.Scenes.{own_number, block_small}
 use Rattle.lower_trace.proofs.Spans.{body_words}
-use Rattle.lower_trace.proofs.Totals.{total, without, without_other, total_out}
-use Rattle.lower_trace.proofs.WaitingCopies.{waiting, waiting_apart, waiting_distinct, AreReached, waiting_reached}
 use Rattle.lower_trace.proofs.Written.{same_nat}
 
 unfoldable words_at : Program → Option FnCopy → ℕ
