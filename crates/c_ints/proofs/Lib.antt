@@ -1,3 +1,3 @@
 mod Comparisons
-mod Cut
+pub mod Cut
 mod Sizes

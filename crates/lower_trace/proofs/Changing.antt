@@ -1,4 +1,5 @@
 -- What byte code does to a value in place: it is widened, kept for later, and changed by an operator. Only bytes from there on change.
+use Rattle.c_ints.proofs.Cut.{same as unchanged}
 use Rattle.c_ints.specs.Operators as numbers
 use Rattle.c_ints.specs.Operators.{cut_to, value_of}
 use Rattle.c_ints.specs.Quantity.{Quantity}
@@ -19,7 +20,6 @@ use Rattle.core_puts.specs.Puts.{copies_if}
 use Rattle.lower_expr.specs.Rows.{wider}
 use Rattle.lower_trace.proofs.CodeLeft.{Scene, base, ground_in, held, number, todo}
 use Rattle.lower_trace.proofs.Converting.{not_less}
-use Rattle.lower_trace.proofs.Cuts.{same as unchanged}
 use Rattle.lower_trace.proofs.FixedWrites.{move_then}
 use Rattle.lower_trace.proofs.Giving.{Around, agrees_same}
 use Rattle.lower_trace.proofs.Kept.{SceneLaws, holds_near}

@@ -1,6 +1,7 @@
 -- Two numbers are compared for equality, and the answer goes to a place of its own.
 use Rattle.std.proofs.Common.{◌≡◌, ℕ, ◌+◌, ◌-◌, ◌*◌, ◌<◌, ◌≤◌, Bool, true, false, not, nat_eq, nat_le, List, ◌∷◌, [], Some, None, refl, sym, ap, ◌∙◌, arith}
 use Rattle.std.specs.Ordering.{int_eq}
+use Rattle.c_ints.proofs.Cut.{cut_in_range}
 use Rattle.c_ints.specs.Operators.{truth, value_of}
 use Rattle.c_ints.specs.Quantity.{Quantity}
 use Rattle.c_ints.specs.Range.{bytes_of, cut, IsInRange}
@@ -21,7 +22,6 @@ use Rattle.pic_world.specs.World.{World, arrived, is_due}
 use Rattle.src_values.specs.Data as datum
 use Rattle.src_values.specs.Values as source
 use Rattle.lower_trace.proofs.CodeLeft.{Scene}
-use Rattle.lower_trace.proofs.Cuts.{cut_in_range}
 use Rattle.lower_trace.proofs.Mirrors.{HasDatum}
 use Rattle.lower_trace.proofs.NumberBytes.{truth_is}
 use Rattle.lower_trace.proofs.Operating.{value_number}

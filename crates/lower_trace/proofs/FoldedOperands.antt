@@ -1,4 +1,5 @@
 -- Operands within a constant have the types of their operator, as the typing rules say: so folding converts nothing.
+use Rattle.c_ints.proofs.Cut.{same as unchanged}
 use Rattle.c_ints.specs.Conversions.{promoted}
 use Rattle.c_ints.specs.Operators.{compares, cut_to, outcome, shifts}
 use Rattle.c_ints.specs.Quantity.{Quantity}
@@ -10,7 +11,6 @@ use Rattle.c_typed.specs.Rules.{integers_fit}
 use Rattle.c_typed.specs.Sameness.{is_plain_int, is_promoted, same_int, same_type}
 use Rattle.c_typed.specs.declared.types.Ty.TheVariants as types
 use Rattle.c_typed.specs.declared.types.Ty.{Ty}
-use Rattle.lower_trace.proofs.Cuts.{same as unchanged}
 use Rattle.lower_trace.proofs.Written.{and_left, and_right}
 use Rattle.src_rules.proofs.Values.{same_int_is}
 use Rattle.std.proofs.Common.{Bool, ap, false, if◌then◌else◌, refl, true, ◌&&◌, ◌∙◌, ◌≡◌}

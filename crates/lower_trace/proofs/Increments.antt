@@ -1,4 +1,5 @@
 -- Steps: the number that a step counts by is set, the place is read, and its value is changed.
+use Rattle.c_ints.proofs.Cut.{bits_kept}
 use Rattle.c_ints.specs.Operators.{cut_to, value_of}
 use Rattle.c_ints.specs.Quantity.{Quantity}
 use Rattle.c_ints.specs.Range.{bytes_of, cut, pattern}
@@ -28,7 +29,6 @@ use Rattle.lower_trace.proofs.Beginnings.{Follow}
 use Rattle.lower_trace.proofs.Changing.{IsSum, above_written, agrees_above, change_then, holds_above, sum_type}
 use Rattle.lower_trace.proofs.CodeLeft.{Scene, base, code_after, core_in, ground_in, held, left_of, number, right_of, source_in, stack_after, stored, todo, wanted, writing}
 use Rattle.lower_trace.proofs.Constants.{again_below, byte_is, due_below}
-use Rattle.lower_trace.proofs.Cuts.{bits_kept}
 use Rattle.lower_trace.proofs.Flow.{arrive}
 use Rattle.lower_trace.proofs.Giving.{Around, placed_of, value_high}
 use Rattle.lower_trace.proofs.Kept.{SceneLaws, at_same, bytes_small, own_copy}

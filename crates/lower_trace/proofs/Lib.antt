@@ -32,7 +32,6 @@ pub mod SwitchCases
 pub mod Entering
 pub mod Takes
 pub mod Fetching
-pub mod Cuts
 pub mod NumberBytes
 pub mod Negations
 pub mod Choosing

@@ -1,6 +1,7 @@
 -- Operators on numbers.
 use Rattle.std.proofs.Common.{◌≡◌, ℕ, zero, suc, ◌+◌, ◌-◌, ◌*◌, ◌≤◌, true, false, not, ◌&&◌, nat_eq, nat_le, nat_lt, pos, List, [], ◌∷◌, Option, Some, None, option_map, refl, sym, ap, ◌∙◌, arith}
 use Rattle.std.proofs.lemmas.Grind.{common_steps}
+use Rattle.c_ints.proofs.Cut.{again}
 use Rattle.c_ints.specs.Operators.{cut_to, outcome, value_of, type_of as result_type, unary_type, exact_unary}
 use Rattle.c_ints.specs.Quantity.{Quantity}
 use Rattle.c_ints.specs.Range.{bytes_of, IsInRange}
@@ -22,7 +23,6 @@ use Rattle.core_code.specs.declared.code.Byte.TheVariants.{Frame}
 use Rattle.pic_world.specs.World.{World, arrived, is_due}
 use Rattle.src_values.specs.Data as datum
 use Rattle.lower_trace.proofs.CodeLeft.{Scene}
-use Rattle.lower_trace.proofs.Cuts.{again}
 use Rattle.lower_trace.proofs.Kept.{bytes_small}
 use Rattle.lower_trace.proofs.Mirrors.{HasDatum}
 use Rattle.lower_trace.proofs.NumberBytes.{number_is_none, number_back}

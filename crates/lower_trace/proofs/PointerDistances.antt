@@ -1,4 +1,5 @@
 -- Differences of pointers: the distance in bytes, divided by the bytes of an element.
+use Rattle.c_ints.proofs.Cut.{same as unchanged}
 use Rattle.c_ints.specs.Operators.{cut_to, divides_badly, outcome}
 use Rattle.c_ints.specs.Quantity.{Quantity}
 use Rattle.c_ints.specs.Range.{IsInRange, pattern}
@@ -23,7 +24,6 @@ use Rattle.lower_trace.proofs.Changing.{OnlyAbove, above_then, above_written, ag
 use Rattle.lower_trace.proofs.CodeLeft.{Scene, base, code_after, core_in, ground_in, held, number, source_in, stack_after, todo, wanted}
 use Rattle.lower_trace.proofs.Constants.{again_below, byte_is, due_below}
 use Rattle.lower_trace.proofs.Converting.{not_less}
-use Rattle.lower_trace.proofs.Cuts.{same as unchanged}
 use Rattle.lower_trace.proofs.Flow.{arrive}
 use Rattle.lower_trace.proofs.Giving.{Around, agrees_same, placed_of, value_high}
 use Rattle.lower_trace.proofs.Helped.{helped_then, spoiled, spoiled_frame, spoiled_object, spoiled_others}

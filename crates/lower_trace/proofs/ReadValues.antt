@@ -1,4 +1,5 @@
 -- The bytes of a value that was read are those that were read.
+use Rattle.c_ints.proofs.Cut.{bits_kept}
 use Rattle.c_ints.specs.Range.{bytes_of, cut, pattern}
 use Rattle.c_ints.specs.declared.types.IntTy.{IntTy}
 use Rattle.c_typed.specs.Trees.{Program}
@@ -6,7 +7,6 @@ use Rattle.c_typed.specs.Types.{type_bytes}
 use Rattle.c_typed.specs.declared.types.Ty.TheVariants as types
 use Rattle.c_typed.specs.declared.types.Ty.{Ty}
 use Rattle.lower_trace.proofs.CodeLeft.{Scene, held, number}
-use Rattle.lower_trace.proofs.Cuts.{bits_kept}
 use Rattle.lower_trace.proofs.Narrowing.{low_bytes, sized}
 use Rattle.lower_trace.proofs.Written.{and_left, and_right, same_nat}
 use Rattle.src_rules.proofs.Memories.{same_object_is}

@@ -1,4 +1,5 @@
 -- The end of main, the operator +, and locals that begin with a value.
+use Rattle.c_ints.proofs.Cut.{same as unchanged}
 use Rattle.c_ints.specs.Conversions.{promoted}
 use Rattle.c_ints.specs.Operators.{cut_to}
 use Rattle.c_ints.specs.Quantity.{Quantity}
@@ -17,7 +18,6 @@ use Rattle.lower_trace.proofs.Assigning.{scalar_stored}
 use Rattle.lower_trace.proofs.Beginnings.{Follow, rests}
 use Rattle.lower_trace.proofs.CodeLeft.{Scene, base, code_after, core_in, ground_in, held, number, source_in, stack_after, wanted}
 use Rattle.lower_trace.proofs.Constants.{due_below}
-use Rattle.lower_trace.proofs.Cuts.{same as unchanged}
 use Rattle.lower_trace.proofs.FixedFetches.{follow_within}
 use Rattle.lower_trace.proofs.FixedWrites.{fixed_written}
 use Rattle.lower_trace.proofs.Giving.{Around, placed_of}
