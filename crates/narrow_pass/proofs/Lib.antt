@@ -3,5 +3,6 @@ mod Runs
 mod Loops
 mod Making
 mod Bodies
+mod Others
 pub mod Trees
 pub mod Taken

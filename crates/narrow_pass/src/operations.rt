@@ -149,16 +149,7 @@ pub fn first_read(c: &Core) -> Run
             byte: *at,
             count: bytes_in(*from),
         },
-        Core::Set { .. }
-        | Core::Address { .. }
-        | Core::BitRead { .. }
-        | Core::Call { .. }
-        | Core::Leave
-        | Core::Many(_)
-        | Core::If { .. }
-        | Core::Loop(_)
-        | Core::Exit(_)
-        | Core::Again(_) => nothing_read(),
+        _ => nothing_read(),
     }
 }
 
@@ -176,21 +167,7 @@ pub fn second_read(c: &Core) -> Run
             byte: *right,
             count: bytes_in(right_type(*op, *ty)),
         },
-        Core::Set { .. }
-        | Core::Address { .. }
-        | Core::Copy { .. }
-        | Core::Load { .. }
-        | Core::Unary { .. }
-        | Core::Convert { .. }
-        | Core::BitRead { .. }
-        | Core::BitWrite { .. }
-        | Core::Call { .. }
-        | Core::Leave
-        | Core::Many(_)
-        | Core::If { .. }
-        | Core::Loop(_)
-        | Core::Exit(_)
-        | Core::Again(_) => nothing_read(),
+        _ => nothing_read(),
     }
 }
 
@@ -236,18 +213,7 @@ pub fn may_go(turns: &Turns, here: &[Mark], c: &Core) -> bool
         Core::Exit(count) => turns.may_exit(*count, here),
         Core::Again(count) => turns.may_repeat(*count, here),
         Core::Many(_) | Core::If { .. } | Core::Loop(_) => false,
-        Core::Set { .. }
-        | Core::Address { .. }
-        | Core::Copy { .. }
-        | Core::Load { .. }
-        | Core::Store { .. }
-        | Core::Unary { .. }
-        | Core::Binary { .. }
-        | Core::Convert { .. }
-        | Core::BitRead { .. }
-        | Core::BitWrite { .. }
-        | Core::Call { .. }
-        | Core::Leave => true,
+        _ => true,
     }
 }
 
@@ -268,19 +234,7 @@ pub fn lends(lent: &[bool], c: &Core) -> bool
     match c {
         Core::Address { place, .. } => takes_lent(lent, *place),
         Core::Many(_) | Core::If { .. } | Core::Loop(_) => false,
-        Core::Set { .. }
-        | Core::Copy { .. }
-        | Core::Load { .. }
-        | Core::Store { .. }
-        | Core::Unary { .. }
-        | Core::Binary { .. }
-        | Core::Convert { .. }
-        | Core::BitRead { .. }
-        | Core::BitWrite { .. }
-        | Core::Call { .. }
-        | Core::Exit(_)
-        | Core::Again(_)
-        | Core::Leave => true,
+        _ => true,
     }
 }
 
@@ -461,12 +415,7 @@ pub fn write(lent: &[bool], copy: u16, here: &mut Vec<Mark>, c: &Core)
             put_stacked(copy, here, *at, bytes_in(*to), mark, high);
         }
         Core::Leave | Core::Exit(_) | Core::Again(_) => put_nowhere(here),
-        Core::Store { .. }
-        | Core::BitWrite { .. }
-        | Core::Call { .. }
-        | Core::Many(_)
-        | Core::If { .. }
-        | Core::Loop(_) => {}
+        _ => {}
     }
 }
 
@@ -694,6 +643,6 @@ pub fn same_operation(c: &Core) -> Option<Core>
         Core::Leave => Core::Leave,
         Core::Exit(count) => Core::Exit(*count),
         Core::Again(count) => Core::Again(*count),
-        Core::Many(_) | Core::If { .. } | Core::Loop(_) => return None,
+        _ => return None,
     })
 }
