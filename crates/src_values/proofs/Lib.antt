@@ -1,6 +1,7 @@
 mod Comparisons
 mod Covers
 mod Cut
+mod OtherNodes
 mod Powers
 mod Searches
 mod Sights

@@ -1,5 +1,5 @@
 -- Lines, and what counts, of each variant of the trees.
-use Rattle.std.proofs.Common.{◌≡◌, true, false, if◌then◌else◌, Some, None, map, ap}
+use Rattle.std.proofs.Common.{◌≡◌, true, if◌then◌else◌, Some, None, map, ap}
 use Rattle.c_typed.proofs.Shapes.{show_expression_constant, show_expression_read, show_expression_address, show_expression_convert, show_expression_cast, show_expression_unary, show_expression_binary, show_expression_offset, show_expression_difference, show_expression_logical, show_expression_conditional, show_expression_comma, show_expression_assign, show_expression_struct_assign, show_expression_update, show_expression_step, show_expression_call, show_place_name, show_place_bit, show_place_member, show_place_deref, show_statement_block, show_statement_empty, show_statement_expr, show_statement_declare, show_statement_init_scalar, show_statement_init_list, show_statement_if_alone, show_statement_if_else, show_statement_loop, show_statement_switch, show_statement_break, show_statement_continue, show_statement_return}
 use Rattle.c_typed.specs.Views.{expression_of, place_of, item_of, statement_of}
 use Rattle.c_typed.specs.declared.expression.TExpr.TheVariants as TExpr
@@ -161,181 +161,25 @@ statement_counts_return value line = ap statement_counts (show_statement_return 
 
 pub ruleset statements_count = (statement_counts_block, statement_counts_empty, statement_counts_expr, statement_counts_declare, statement_counts_init_scalar, statement_counts_init_list, statement_counts_if_alone, statement_counts_if_else, statement_counts_loop, statement_counts_switch, statement_counts_break, statement_counts_continue, statement_counts_return)
 
-pub is_loop_block : (statements : _) (line : _) → is_loop (statement_of (TStmt.Block statements line)) ≡ false
-is_loop_block statements line = ap is_loop (show_statement_block statements line)
-
-pub is_loop_empty : (line : _) → is_loop (statement_of (TStmt.Empty line)) ≡ false
-is_loop_empty line = ap is_loop (show_statement_empty line)
-
-pub is_loop_expr : (value : _) (line : _) → is_loop (statement_of (TStmt.Expr value line)) ≡ false
-is_loop_expr value line = ap is_loop (show_statement_expr value line)
-
-pub is_loop_declare : (local : _) (line : _) → is_loop (statement_of (TStmt.Declare local line)) ≡ false
-is_loop_declare local line = ap is_loop (show_statement_declare local line)
-
-pub is_loop_init_scalar : (local : _) (value : _) (line : _) → is_loop (statement_of (TStmt.InitScalar local value line)) ≡ false
-is_loop_init_scalar local value line = ap is_loop (show_statement_init_scalar local value line)
-
-pub is_loop_init_list : (local : _) (items : _) (line : _) → is_loop (statement_of (TStmt.InitList local items line)) ≡ false
-is_loop_init_list local items line = ap is_loop (show_statement_init_list local items line)
-
-pub is_loop_if_alone : (arms : _) (line : _) → is_loop (statement_of (TStmt.If arms None line)) ≡ false
-is_loop_if_alone arms line = ap is_loop (show_statement_if_alone arms line)
-
-pub is_loop_if_else : (arms : _) (last : _) (line : _) → is_loop (statement_of (TStmt.If arms (Some last) line)) ≡ false
-is_loop_if_else arms last line = ap is_loop (show_statement_if_else arms last line)
-
 pub is_loop_loop : (shape : _) (begin : _) (condition : _) (step : _) (body : _) (line : _) → is_loop (statement_of (TStmt.Loop shape begin condition step body line)) ≡ true
 is_loop_loop shape begin condition step body line = ap is_loop (show_statement_loop shape begin condition step body line)
 
-pub is_loop_switch : (value : _) (cases : _) (default : _) (statements : _) (line : _) → is_loop (statement_of (TStmt.Switch value cases default statements line)) ≡ false
-is_loop_switch value cases default statements line = ap is_loop (show_statement_switch value cases default statements line)
-
-pub is_loop_break : (line : _) → is_loop (statement_of (TStmt.Break line)) ≡ false
-is_loop_break line = ap is_loop (show_statement_break line)
-
-pub is_loop_continue : (line : _) → is_loop (statement_of (TStmt.Continue line)) ≡ false
-is_loop_continue line = ap is_loop (show_statement_continue line)
-
-pub is_loop_return : (value : _) (line : _) → is_loop (statement_of (TStmt.Return value line)) ≡ false
-is_loop_return value line = ap is_loop (show_statement_return value line)
-
-pub ruleset loops = (is_loop_block, is_loop_empty, is_loop_expr, is_loop_declare, is_loop_init_scalar, is_loop_init_list, is_loop_if_alone, is_loop_if_else, is_loop_loop, is_loop_switch, is_loop_break, is_loop_continue, is_loop_return)
-
-pub is_switch_block : (statements : _) (line : _) → is_switch (statement_of (TStmt.Block statements line)) ≡ false
-is_switch_block statements line = ap is_switch (show_statement_block statements line)
-
-pub is_switch_empty : (line : _) → is_switch (statement_of (TStmt.Empty line)) ≡ false
-is_switch_empty line = ap is_switch (show_statement_empty line)
-
-pub is_switch_expr : (value : _) (line : _) → is_switch (statement_of (TStmt.Expr value line)) ≡ false
-is_switch_expr value line = ap is_switch (show_statement_expr value line)
-
-pub is_switch_declare : (local : _) (line : _) → is_switch (statement_of (TStmt.Declare local line)) ≡ false
-is_switch_declare local line = ap is_switch (show_statement_declare local line)
-
-pub is_switch_init_scalar : (local : _) (value : _) (line : _) → is_switch (statement_of (TStmt.InitScalar local value line)) ≡ false
-is_switch_init_scalar local value line = ap is_switch (show_statement_init_scalar local value line)
-
-pub is_switch_init_list : (local : _) (items : _) (line : _) → is_switch (statement_of (TStmt.InitList local items line)) ≡ false
-is_switch_init_list local items line = ap is_switch (show_statement_init_list local items line)
-
-pub is_switch_if_alone : (arms : _) (line : _) → is_switch (statement_of (TStmt.If arms None line)) ≡ false
-is_switch_if_alone arms line = ap is_switch (show_statement_if_alone arms line)
-
-pub is_switch_if_else : (arms : _) (last : _) (line : _) → is_switch (statement_of (TStmt.If arms (Some last) line)) ≡ false
-is_switch_if_else arms last line = ap is_switch (show_statement_if_else arms last line)
-
-pub is_switch_loop : (shape : _) (begin : _) (condition : _) (step : _) (body : _) (line : _) → is_switch (statement_of (TStmt.Loop shape begin condition step body line)) ≡ false
-is_switch_loop shape begin condition step body line = ap is_switch (show_statement_loop shape begin condition step body line)
+pub ruleset loops = (is_loop_loop)
 
 pub is_switch_switch : (value : _) (cases : _) (default : _) (statements : _) (line : _) → is_switch (statement_of (TStmt.Switch value cases default statements line)) ≡ true
 is_switch_switch value cases default statements line = ap is_switch (show_statement_switch value cases default statements line)
 
-pub is_switch_break : (line : _) → is_switch (statement_of (TStmt.Break line)) ≡ false
-is_switch_break line = ap is_switch (show_statement_break line)
-
-pub is_switch_continue : (line : _) → is_switch (statement_of (TStmt.Continue line)) ≡ false
-is_switch_continue line = ap is_switch (show_statement_continue line)
-
-pub is_switch_return : (value : _) (line : _) → is_switch (statement_of (TStmt.Return value line)) ≡ false
-is_switch_return value line = ap is_switch (show_statement_return value line)
-
-pub ruleset switches = (is_switch_block, is_switch_empty, is_switch_expr, is_switch_declare, is_switch_init_scalar, is_switch_init_list, is_switch_if_alone, is_switch_if_else, is_switch_loop, is_switch_switch, is_switch_break, is_switch_continue, is_switch_return)
-
-pub list_in_block : (statements : _) (line : _) → list_in (statement_of (TStmt.Block statements line)) ≡ None
-list_in_block statements line = ap list_in (show_statement_block statements line)
-
-pub list_in_empty : (line : _) → list_in (statement_of (TStmt.Empty line)) ≡ None
-list_in_empty line = ap list_in (show_statement_empty line)
-
-pub list_in_expr : (value : _) (line : _) → list_in (statement_of (TStmt.Expr value line)) ≡ None
-list_in_expr value line = ap list_in (show_statement_expr value line)
-
-pub list_in_declare : (local : _) (line : _) → list_in (statement_of (TStmt.Declare local line)) ≡ None
-list_in_declare local line = ap list_in (show_statement_declare local line)
-
-pub list_in_init_scalar : (local : _) (value : _) (line : _) → list_in (statement_of (TStmt.InitScalar local value line)) ≡ None
-list_in_init_scalar local value line = ap list_in (show_statement_init_scalar local value line)
+pub ruleset switches = (is_switch_switch)
 
 pub list_in_init_list : (local : _) (items : _) (line : _) → list_in (statement_of (TStmt.InitList local items line)) ≡ Some (local, map item_of items.items)
 list_in_init_list local items line = ap list_in (show_statement_init_list local items line)
 
-pub list_in_if_alone : (arms : _) (line : _) → list_in (statement_of (TStmt.If arms None line)) ≡ None
-list_in_if_alone arms line = ap list_in (show_statement_if_alone arms line)
-
-pub list_in_if_else : (arms : _) (last : _) (line : _) → list_in (statement_of (TStmt.If arms (Some last) line)) ≡ None
-list_in_if_else arms last line = ap list_in (show_statement_if_else arms last line)
-
-pub list_in_loop : (shape : _) (begin : _) (condition : _) (step : _) (body : _) (line : _) → list_in (statement_of (TStmt.Loop shape begin condition step body line)) ≡ None
-list_in_loop shape begin condition step body line = ap list_in (show_statement_loop shape begin condition step body line)
-
-pub list_in_switch : (value : _) (cases : _) (default : _) (statements : _) (line : _) → list_in (statement_of (TStmt.Switch value cases default statements line)) ≡ None
-list_in_switch value cases default statements line = ap list_in (show_statement_switch value cases default statements line)
-
-pub list_in_break : (line : _) → list_in (statement_of (TStmt.Break line)) ≡ None
-list_in_break line = ap list_in (show_statement_break line)
-
-pub list_in_continue : (line : _) → list_in (statement_of (TStmt.Continue line)) ≡ None
-list_in_continue line = ap list_in (show_statement_continue line)
-
-pub list_in_return : (value : _) (line : _) → list_in (statement_of (TStmt.Return value line)) ≡ None
-list_in_return value line = ap list_in (show_statement_return value line)
-
-pub ruleset lists = (list_in_block, list_in_empty, list_in_expr, list_in_declare, list_in_init_scalar, list_in_init_list, list_in_if_alone, list_in_if_else, list_in_loop, list_in_switch, list_in_break, list_in_continue, list_in_return)
-
-pub answer_of_constant : (spot : Spot) (v : Datum) (value : _) (line : _) → answer_of (expression_of (TExpr.Constant value line)) spot v ≡ kept_in spot v
-answer_of_constant spot v value line = ap (λ t. answer_of t spot v) (show_expression_constant value line)
-
-pub answer_of_read : (spot : Spot) (v : Datum) (place : _) (ty : _) (line : _) → answer_of (expression_of (TExpr.Read place ty line)) spot v ≡ kept_in spot v
-answer_of_read spot v place ty line = ap (λ t. answer_of t spot v) (show_expression_read place ty line)
-
-pub answer_of_address : (spot : Spot) (v : Datum) (place : _) (ty : _) (line : _) → answer_of (expression_of (TExpr.Address place ty line)) spot v ≡ kept_in spot v
-answer_of_address spot v place ty line = ap (λ t. answer_of t spot v) (show_expression_address place ty line)
-
-pub answer_of_convert : (spot : Spot) (v : Datum) (operand : _) (ty : _) (line : _) → answer_of (expression_of (TExpr.Convert operand ty line)) spot v ≡ kept_in spot v
-answer_of_convert spot v operand ty line = ap (λ t. answer_of t spot v) (show_expression_convert operand ty line)
-
-pub answer_of_cast : (spot : Spot) (v : Datum) (operand : _) (ty : _) (line : _) → answer_of (expression_of (TExpr.Cast operand ty line)) spot v ≡ kept_in spot v
-answer_of_cast spot v operand ty line = ap (λ t. answer_of t spot v) (show_expression_cast operand ty line)
-
-pub answer_of_unary : (spot : Spot) (v : Datum) (op : _) (operand : _) (ty : _) (line : _) → answer_of (expression_of (TExpr.Unary op operand ty line)) spot v ≡ kept_in spot v
-answer_of_unary spot v op operand ty line = ap (λ t. answer_of t spot v) (show_expression_unary op operand ty line)
-
-pub answer_of_binary : (spot : Spot) (v : Datum) (op : _) (left : _) (right : _) (ty : _) (line : _) → answer_of (expression_of (TExpr.Binary op left right ty line)) spot v ≡ kept_in spot v
-answer_of_binary spot v op left right ty line = ap (λ t. answer_of t spot v) (show_expression_binary op left right ty line)
-
-pub answer_of_offset : (spot : Spot) (v : Datum) (op : _) (left : _) (right : _) (size : _) (ty : _) (line : _) → answer_of (expression_of (TExpr.Offset op left right size ty line)) spot v ≡ kept_in spot v
-answer_of_offset spot v op left right size ty line = ap (λ t. answer_of t spot v) (show_expression_offset op left right size ty line)
-
-pub answer_of_difference : (spot : Spot) (v : Datum) (left : _) (right : _) (size : _) (line : _) → answer_of (expression_of (TExpr.Difference left right size line)) spot v ≡ kept_in spot v
-answer_of_difference spot v left right size line = ap (λ t. answer_of t spot v) (show_expression_difference left right size line)
-
-pub answer_of_logical : (spot : Spot) (v : Datum) (op : _) (left : _) (right : _) (line : _) → answer_of (expression_of (TExpr.Logical op left right line)) spot v ≡ kept_in spot v
-answer_of_logical spot v op left right line = ap (λ t. answer_of t spot v) (show_expression_logical op left right line)
-
-pub answer_of_conditional : (spot : Spot) (v : Datum) (condition : _) (chosen : _) (otherwise : _) (ty : _) (line : _) → answer_of (expression_of (TExpr.Conditional condition chosen otherwise ty line)) spot v ≡ kept_in spot v
-answer_of_conditional spot v condition chosen otherwise ty line = ap (λ t. answer_of t spot v) (show_expression_conditional condition chosen otherwise ty line)
-
-pub answer_of_comma : (spot : Spot) (v : Datum) (left : _) (right : _) (ty : _) (line : _) → answer_of (expression_of (TExpr.Comma left right ty line)) spot v ≡ kept_in spot v
-answer_of_comma spot v left right ty line = ap (λ t. answer_of t spot v) (show_expression_comma left right ty line)
-
-pub answer_of_assign : (spot : Spot) (v : Datum) (place : _) (value : _) (ty : _) (line : _) → answer_of (expression_of (TExpr.Assign place value ty line)) spot v ≡ kept_in spot v
-answer_of_assign spot v place value ty line = ap (λ t. answer_of t spot v) (show_expression_assign place value ty line)
-
-pub answer_of_struct_assign : (spot : Spot) (v : Datum) (place : _) (from : _) (size : _) (line : _) → answer_of (expression_of (TExpr.StructAssign place from size line)) spot v ≡ kept_in spot v
-answer_of_struct_assign spot v place from size line = ap (λ t. answer_of t spot v) (show_expression_struct_assign place from size line)
-
-pub answer_of_update : (spot : Spot) (v : Datum) (op : _) (place : _) (value : _) (operation : _) (size : _) (ty : _) (line : _) → answer_of (expression_of (TExpr.Update op place value operation size ty line)) spot v ≡ kept_in spot v
-answer_of_update spot v op place value operation size ty line = ap (λ t. answer_of t spot v) (show_expression_update op place value operation size ty line)
+pub ruleset lists = (list_in_init_list)
 
 pub answer_of_step : (spot : Spot) (v : Datum) (op : _) (place : _) (operation : _) (size : _) (ty : _) (line : _) → answer_of (expression_of (TExpr.Step op place operation size ty line)) spot v ≡ if is_postfix op then v else kept_in spot v
 answer_of_step spot v op place operation size ty line = ap (λ t. answer_of t spot v) (show_expression_step op place operation size ty line)
 
-pub answer_of_call : (spot : Spot) (v : Datum) (function : _) (arguments : _) (ty : _) (line : _) → answer_of (expression_of (TExpr.Call function arguments ty line)) spot v ≡ kept_in spot v
-answer_of_call spot v function arguments ty line = ap (λ t. answer_of t spot v) (show_expression_call function arguments ty line)
-
-pub ruleset answers = (answer_of_constant, answer_of_read, answer_of_address, answer_of_convert, answer_of_cast, answer_of_unary, answer_of_binary, answer_of_offset, answer_of_difference, answer_of_logical, answer_of_conditional, answer_of_comma, answer_of_assign, answer_of_struct_assign, answer_of_update, answer_of_step, answer_of_call)
+pub ruleset answers = (answer_of_step)
 
 pub value_counts_to_name : (object : _) (ty : _) (line : _) → value_counts_to (place_of (TPlace.Name object ty line)) ≡ None
 value_counts_to_name object ty line = ap value_counts_to (show_place_name object ty line)

@@ -1,6 +1,6 @@
 -- What counts at an expression, by its variant and what is done of its parts.
 use Rattle.std.proofs.Common.{◌≡◌, List, Some, None, refl, ap}
-use Rattle.c_typed.proofs.Shapes.{show_expression_constant, show_expression_read, show_expression_address, show_expression_convert, show_expression_cast, show_expression_unary, show_expression_binary, show_expression_offset, show_expression_difference, show_expression_logical, show_expression_conditional, show_expression_comma, show_expression_assign, show_expression_struct_assign, show_expression_update, show_expression_step, show_expression_call}
+use Rattle.c_typed.proofs.Shapes.{show_expression_address, show_expression_cast, show_expression_unary, show_expression_binary, show_expression_offset, show_expression_difference, show_expression_logical, show_expression_conditional, show_expression_comma, show_expression_assign, show_expression_struct_assign, show_expression_update, show_expression_step}
 use Rattle.c_typed.specs.Trees as tree
 use Rattle.c_typed.specs.Trees.{Expression, Expressions, Program}
 use Rattle.c_typed.specs.Types.{place_type}
@@ -12,32 +12,11 @@ use Rattle.src_values.specs.Data.{Datum}
 use Rattle.src_values.specs.Values.{truth_of}
 use Rattle.src_values.specs.declared.objects.Spot.{Spot}
 
-pub first_counts_constant : (v : Datum) (value : _) (line : _) → value_counts_in (expression_of (TExpr.Constant value line)) Nothing v ≡ None
-first_counts_constant v value line = ap (λ t. value_counts_in t Nothing v) (show_expression_constant value line)
-
-pub first_counts_read : (v : Datum) (place : _) (ty : _) (line : _) → value_counts_in (expression_of (TExpr.Read place ty line)) Nothing v ≡ None
-first_counts_read v place ty line = ap (λ t. value_counts_in t Nothing v) (show_expression_read place ty line)
-
-pub first_counts_address : (v : Datum) (place : _) (ty : _) (line : _) → value_counts_in (expression_of (TExpr.Address place ty line)) Nothing v ≡ None
-first_counts_address v place ty line = ap (λ t. value_counts_in t Nothing v) (show_expression_address place ty line)
-
-pub first_counts_convert : (v : Datum) (operand : _) (ty : _) (line : _) → value_counts_in (expression_of (TExpr.Convert operand ty line)) Nothing v ≡ None
-first_counts_convert v operand ty line = ap (λ t. value_counts_in t Nothing v) (show_expression_convert operand ty line)
-
 pub first_counts_cast : (v : Datum) (operand : _) (ty : _) (line : _) → value_counts_in (expression_of (TExpr.Cast operand ty line)) Nothing v ≡ Some line
 first_counts_cast v operand ty line = ap (λ t. value_counts_in t Nothing v) (show_expression_cast operand ty line)
 
 pub first_counts_unary : (v : Datum) (op : _) (operand : _) (ty : _) (line : _) → value_counts_in (expression_of (TExpr.Unary op operand ty line)) Nothing v ≡ Some line
 first_counts_unary v op operand ty line = ap (λ t. value_counts_in t Nothing v) (show_expression_unary op operand ty line)
-
-pub first_counts_binary : (v : Datum) (op : _) (left : _) (right : _) (ty : _) (line : _) → value_counts_in (expression_of (TExpr.Binary op left right ty line)) Nothing v ≡ None
-first_counts_binary v op left right ty line = ap (λ t. value_counts_in t Nothing v) (show_expression_binary op left right ty line)
-
-pub first_counts_offset : (v : Datum) (op : _) (left : _) (right : _) (size : _) (ty : _) (line : _) → value_counts_in (expression_of (TExpr.Offset op left right size ty line)) Nothing v ≡ None
-first_counts_offset v op left right size ty line = ap (λ t. value_counts_in t Nothing v) (show_expression_offset op left right size ty line)
-
-pub first_counts_difference : (v : Datum) (left : _) (right : _) (size : _) (line : _) → value_counts_in (expression_of (TExpr.Difference left right size line)) Nothing v ≡ None
-first_counts_difference v left right size line = ap (λ t. value_counts_in t Nothing v) (show_expression_difference left right size line)
 
 pub first_counts_logical : (v : Datum) (op : _) (left : _) (right : _) (line : _) → value_counts_in (expression_of (TExpr.Logical op left right line)) Nothing v ≡ logical_counts op (truth_of v) line
 first_counts_logical v op left right line = ap (λ t. value_counts_in t Nothing v) (show_expression_logical op left right line)
@@ -48,40 +27,7 @@ first_counts_conditional v condition chosen otherwise ty line = ap (λ t. value_
 pub first_counts_comma : (v : Datum) (left : _) (right : _) (ty : _) (line : _) → value_counts_in (expression_of (TExpr.Comma left right ty line)) Nothing v ≡ Some line
 first_counts_comma v left right ty line = ap (λ t. value_counts_in t Nothing v) (show_expression_comma left right ty line)
 
-pub first_counts_assign : (v : Datum) (place : _) (value : _) (ty : _) (line : _) → value_counts_in (expression_of (TExpr.Assign place value ty line)) Nothing v ≡ None
-first_counts_assign v place value ty line = ap (λ t. value_counts_in t Nothing v) (show_expression_assign place value ty line)
-
-pub first_counts_struct_assign : (v : Datum) (place : _) (from : _) (size : _) (line : _) → value_counts_in (expression_of (TExpr.StructAssign place from size line)) Nothing v ≡ None
-first_counts_struct_assign v place from size line = ap (λ t. value_counts_in t Nothing v) (show_expression_struct_assign place from size line)
-
-pub first_counts_update : (v : Datum) (op : _) (place : _) (value : _) (operation : _) (size : _) (ty : _) (line : _) → value_counts_in (expression_of (TExpr.Update op place value operation size ty line)) Nothing v ≡ None
-first_counts_update v op place value operation size ty line = ap (λ t. value_counts_in t Nothing v) (show_expression_update op place value operation size ty line)
-
-pub first_counts_step : (v : Datum) (op : _) (place : _) (operation : _) (size : _) (ty : _) (line : _) → value_counts_in (expression_of (TExpr.Step op place operation size ty line)) Nothing v ≡ None
-first_counts_step v op place operation size ty line = ap (λ t. value_counts_in t Nothing v) (show_expression_step op place operation size ty line)
-
-pub first_counts_call : (v : Datum) (function : _) (arguments : _) (ty : _) (line : _) → value_counts_in (expression_of (TExpr.Call function arguments ty line)) Nothing v ≡ None
-first_counts_call v function arguments ty line = ap (λ t. value_counts_in t Nothing v) (show_expression_call function arguments ty line)
-
-pub ruleset first_counts = (first_counts_constant, first_counts_read, first_counts_address, first_counts_convert, first_counts_cast, first_counts_unary, first_counts_binary, first_counts_offset, first_counts_difference, first_counts_logical, first_counts_conditional, first_counts_comma, first_counts_assign, first_counts_struct_assign, first_counts_update, first_counts_step, first_counts_call)
-
-pub right_counts_constant : (u v : Datum) (value : _) (line : _) → value_counts_in (expression_of (TExpr.Constant value line)) (One u) v ≡ None
-right_counts_constant u v value line = ap (λ t. value_counts_in t (One u) v) (show_expression_constant value line)
-
-pub right_counts_read : (u v : Datum) (place : _) (ty : _) (line : _) → value_counts_in (expression_of (TExpr.Read place ty line)) (One u) v ≡ None
-right_counts_read u v place ty line = ap (λ t. value_counts_in t (One u) v) (show_expression_read place ty line)
-
-pub right_counts_address : (u v : Datum) (place : _) (ty : _) (line : _) → value_counts_in (expression_of (TExpr.Address place ty line)) (One u) v ≡ None
-right_counts_address u v place ty line = ap (λ t. value_counts_in t (One u) v) (show_expression_address place ty line)
-
-pub right_counts_convert : (u v : Datum) (operand : _) (ty : _) (line : _) → value_counts_in (expression_of (TExpr.Convert operand ty line)) (One u) v ≡ None
-right_counts_convert u v operand ty line = ap (λ t. value_counts_in t (One u) v) (show_expression_convert operand ty line)
-
-pub right_counts_cast : (u v : Datum) (operand : _) (ty : _) (line : _) → value_counts_in (expression_of (TExpr.Cast operand ty line)) (One u) v ≡ None
-right_counts_cast u v operand ty line = ap (λ t. value_counts_in t (One u) v) (show_expression_cast operand ty line)
-
-pub right_counts_unary : (u v : Datum) (op : _) (operand : _) (ty : _) (line : _) → value_counts_in (expression_of (TExpr.Unary op operand ty line)) (One u) v ≡ None
-right_counts_unary u v op operand ty line = ap (λ t. value_counts_in t (One u) v) (show_expression_unary op operand ty line)
+pub ruleset first_counts = (first_counts_cast, first_counts_unary, first_counts_logical, first_counts_conditional, first_counts_comma)
 
 pub right_counts_binary : (u v : Datum) (op : _) (left : _) (right : _) (ty : _) (line : _) → value_counts_in (expression_of (TExpr.Binary op left right ty line)) (One u) v ≡ Some line
 right_counts_binary u v op left right ty line = ap (λ t. value_counts_in t (One u) v) (show_expression_binary op left right ty line)
@@ -95,240 +41,30 @@ right_counts_difference u v left right size line = ap (λ t. value_counts_in t (
 pub right_counts_logical : (u v : Datum) (op : _) (left : _) (right : _) (line : _) → value_counts_in (expression_of (TExpr.Logical op left right line)) (One u) v ≡ Some line
 right_counts_logical u v op left right line = ap (λ t. value_counts_in t (One u) v) (show_expression_logical op left right line)
 
-pub right_counts_conditional : (u v : Datum) (condition : _) (chosen : _) (otherwise : _) (ty : _) (line : _) → value_counts_in (expression_of (TExpr.Conditional condition chosen otherwise ty line)) (One u) v ≡ None
-right_counts_conditional u v condition chosen otherwise ty line = ap (λ t. value_counts_in t (One u) v) (show_expression_conditional condition chosen otherwise ty line)
-
-pub right_counts_comma : (u v : Datum) (left : _) (right : _) (ty : _) (line : _) → value_counts_in (expression_of (TExpr.Comma left right ty line)) (One u) v ≡ None
-right_counts_comma u v left right ty line = ap (λ t. value_counts_in t (One u) v) (show_expression_comma left right ty line)
-
-pub right_counts_assign : (u v : Datum) (place : _) (value : _) (ty : _) (line : _) → value_counts_in (expression_of (TExpr.Assign place value ty line)) (One u) v ≡ None
-right_counts_assign u v place value ty line = ap (λ t. value_counts_in t (One u) v) (show_expression_assign place value ty line)
-
-pub right_counts_struct_assign : (u v : Datum) (place : _) (from : _) (size : _) (line : _) → value_counts_in (expression_of (TExpr.StructAssign place from size line)) (One u) v ≡ None
-right_counts_struct_assign u v place from size line = ap (λ t. value_counts_in t (One u) v) (show_expression_struct_assign place from size line)
-
-pub right_counts_update : (u v : Datum) (op : _) (place : _) (value : _) (operation : _) (size : _) (ty : _) (line : _) → value_counts_in (expression_of (TExpr.Update op place value operation size ty line)) (One u) v ≡ None
-right_counts_update u v op place value operation size ty line = ap (λ t. value_counts_in t (One u) v) (show_expression_update op place value operation size ty line)
-
-pub right_counts_step : (u v : Datum) (op : _) (place : _) (operation : _) (size : _) (ty : _) (line : _) → value_counts_in (expression_of (TExpr.Step op place operation size ty line)) (One u) v ≡ None
-right_counts_step u v op place operation size ty line = ap (λ t. value_counts_in t (One u) v) (show_expression_step op place operation size ty line)
-
-pub right_counts_call : (u v : Datum) (function : _) (arguments : _) (ty : _) (line : _) → value_counts_in (expression_of (TExpr.Call function arguments ty line)) (One u) v ≡ None
-right_counts_call u v function arguments ty line = ap (λ t. value_counts_in t (One u) v) (show_expression_call function arguments ty line)
-
-pub ruleset right_counts = (right_counts_constant, right_counts_read, right_counts_address, right_counts_convert, right_counts_cast, right_counts_unary, right_counts_binary, right_counts_offset, right_counts_difference, right_counts_logical, right_counts_conditional, right_counts_comma, right_counts_assign, right_counts_struct_assign, right_counts_update, right_counts_step, right_counts_call)
-
-pub placed_counts_constant : (spot : Spot) (v : Datum) (value : _) (line : _) → value_counts_in (expression_of (TExpr.Constant value line)) (At spot) v ≡ None
-placed_counts_constant spot v value line = ap (λ t. value_counts_in t (At spot) v) (show_expression_constant value line)
-
-pub placed_counts_read : (spot : Spot) (v : Datum) (place : _) (ty : _) (line : _) → value_counts_in (expression_of (TExpr.Read place ty line)) (At spot) v ≡ None
-placed_counts_read spot v place ty line = ap (λ t. value_counts_in t (At spot) v) (show_expression_read place ty line)
-
-pub placed_counts_address : (spot : Spot) (v : Datum) (place : _) (ty : _) (line : _) → value_counts_in (expression_of (TExpr.Address place ty line)) (At spot) v ≡ None
-placed_counts_address spot v place ty line = ap (λ t. value_counts_in t (At spot) v) (show_expression_address place ty line)
-
-pub placed_counts_convert : (spot : Spot) (v : Datum) (operand : _) (ty : _) (line : _) → value_counts_in (expression_of (TExpr.Convert operand ty line)) (At spot) v ≡ None
-placed_counts_convert spot v operand ty line = ap (λ t. value_counts_in t (At spot) v) (show_expression_convert operand ty line)
-
-pub placed_counts_cast : (spot : Spot) (v : Datum) (operand : _) (ty : _) (line : _) → value_counts_in (expression_of (TExpr.Cast operand ty line)) (At spot) v ≡ None
-placed_counts_cast spot v operand ty line = ap (λ t. value_counts_in t (At spot) v) (show_expression_cast operand ty line)
-
-pub placed_counts_unary : (spot : Spot) (v : Datum) (op : _) (operand : _) (ty : _) (line : _) → value_counts_in (expression_of (TExpr.Unary op operand ty line)) (At spot) v ≡ None
-placed_counts_unary spot v op operand ty line = ap (λ t. value_counts_in t (At spot) v) (show_expression_unary op operand ty line)
-
-pub placed_counts_binary : (spot : Spot) (v : Datum) (op : _) (left : _) (right : _) (ty : _) (line : _) → value_counts_in (expression_of (TExpr.Binary op left right ty line)) (At spot) v ≡ None
-placed_counts_binary spot v op left right ty line = ap (λ t. value_counts_in t (At spot) v) (show_expression_binary op left right ty line)
-
-pub placed_counts_offset : (spot : Spot) (v : Datum) (op : _) (left : _) (right : _) (size : _) (ty : _) (line : _) → value_counts_in (expression_of (TExpr.Offset op left right size ty line)) (At spot) v ≡ None
-placed_counts_offset spot v op left right size ty line = ap (λ t. value_counts_in t (At spot) v) (show_expression_offset op left right size ty line)
-
-pub placed_counts_difference : (spot : Spot) (v : Datum) (left : _) (right : _) (size : _) (line : _) → value_counts_in (expression_of (TExpr.Difference left right size line)) (At spot) v ≡ None
-placed_counts_difference spot v left right size line = ap (λ t. value_counts_in t (At spot) v) (show_expression_difference left right size line)
-
-pub placed_counts_logical : (spot : Spot) (v : Datum) (op : _) (left : _) (right : _) (line : _) → value_counts_in (expression_of (TExpr.Logical op left right line)) (At spot) v ≡ None
-placed_counts_logical spot v op left right line = ap (λ t. value_counts_in t (At spot) v) (show_expression_logical op left right line)
-
-pub placed_counts_conditional : (spot : Spot) (v : Datum) (condition : _) (chosen : _) (otherwise : _) (ty : _) (line : _) → value_counts_in (expression_of (TExpr.Conditional condition chosen otherwise ty line)) (At spot) v ≡ None
-placed_counts_conditional spot v condition chosen otherwise ty line = ap (λ t. value_counts_in t (At spot) v) (show_expression_conditional condition chosen otherwise ty line)
-
-pub placed_counts_comma : (spot : Spot) (v : Datum) (left : _) (right : _) (ty : _) (line : _) → value_counts_in (expression_of (TExpr.Comma left right ty line)) (At spot) v ≡ None
-placed_counts_comma spot v left right ty line = ap (λ t. value_counts_in t (At spot) v) (show_expression_comma left right ty line)
+pub ruleset right_counts = (right_counts_binary, right_counts_offset, right_counts_difference, right_counts_logical)
 
 pub placed_counts_assign : (spot : Spot) (v : Datum) (place : _) (value : _) (ty : _) (line : _) → value_counts_in (expression_of (TExpr.Assign place value ty line)) (At spot) v ≡ Some line
 placed_counts_assign spot v place value ty line = ap (λ t. value_counts_in t (At spot) v) (show_expression_assign place value ty line)
 
-pub placed_counts_struct_assign : (spot : Spot) (v : Datum) (place : _) (from : _) (size : _) (line : _) → value_counts_in (expression_of (TExpr.StructAssign place from size line)) (At spot) v ≡ None
-placed_counts_struct_assign spot v place from size line = ap (λ t. value_counts_in t (At spot) v) (show_expression_struct_assign place from size line)
-
-pub placed_counts_update : (spot : Spot) (v : Datum) (op : _) (place : _) (value : _) (operation : _) (size : _) (ty : _) (line : _) → value_counts_in (expression_of (TExpr.Update op place value operation size ty line)) (At spot) v ≡ None
-placed_counts_update spot v op place value operation size ty line = ap (λ t. value_counts_in t (At spot) v) (show_expression_update op place value operation size ty line)
-
 pub placed_counts_step : (spot : Spot) (v : Datum) (op : _) (place : _) (operation : _) (size : _) (ty : _) (line : _) → value_counts_in (expression_of (TExpr.Step op place operation size ty line)) (At spot) v ≡ Some line
 placed_counts_step spot v op place operation size ty line = ap (λ t. value_counts_in t (At spot) v) (show_expression_step op place operation size ty line)
 
-pub placed_counts_call : (spot : Spot) (v : Datum) (function : _) (arguments : _) (ty : _) (line : _) → value_counts_in (expression_of (TExpr.Call function arguments ty line)) (At spot) v ≡ None
-placed_counts_call spot v function arguments ty line = ap (λ t. value_counts_in t (At spot) v) (show_expression_call function arguments ty line)
-
-pub ruleset placed_counts = (placed_counts_constant, placed_counts_read, placed_counts_address, placed_counts_convert, placed_counts_cast, placed_counts_unary, placed_counts_binary, placed_counts_offset, placed_counts_difference, placed_counts_logical, placed_counts_conditional, placed_counts_comma, placed_counts_assign, placed_counts_struct_assign, placed_counts_update, placed_counts_step, placed_counts_call)
-
-pub updated_counts_constant : (spot : Spot) (u v : Datum) (value : _) (line : _) → value_counts_in (expression_of (TExpr.Constant value line)) (AtWith spot u) v ≡ None
-updated_counts_constant spot u v value line = ap (λ t. value_counts_in t (AtWith spot u) v) (show_expression_constant value line)
-
-pub updated_counts_read : (spot : Spot) (u v : Datum) (place : _) (ty : _) (line : _) → value_counts_in (expression_of (TExpr.Read place ty line)) (AtWith spot u) v ≡ None
-updated_counts_read spot u v place ty line = ap (λ t. value_counts_in t (AtWith spot u) v) (show_expression_read place ty line)
-
-pub updated_counts_address : (spot : Spot) (u v : Datum) (place : _) (ty : _) (line : _) → value_counts_in (expression_of (TExpr.Address place ty line)) (AtWith spot u) v ≡ None
-updated_counts_address spot u v place ty line = ap (λ t. value_counts_in t (AtWith spot u) v) (show_expression_address place ty line)
-
-pub updated_counts_convert : (spot : Spot) (u v : Datum) (operand : _) (ty : _) (line : _) → value_counts_in (expression_of (TExpr.Convert operand ty line)) (AtWith spot u) v ≡ None
-updated_counts_convert spot u v operand ty line = ap (λ t. value_counts_in t (AtWith spot u) v) (show_expression_convert operand ty line)
-
-pub updated_counts_cast : (spot : Spot) (u v : Datum) (operand : _) (ty : _) (line : _) → value_counts_in (expression_of (TExpr.Cast operand ty line)) (AtWith spot u) v ≡ None
-updated_counts_cast spot u v operand ty line = ap (λ t. value_counts_in t (AtWith spot u) v) (show_expression_cast operand ty line)
-
-pub updated_counts_unary : (spot : Spot) (u v : Datum) (op : _) (operand : _) (ty : _) (line : _) → value_counts_in (expression_of (TExpr.Unary op operand ty line)) (AtWith spot u) v ≡ None
-updated_counts_unary spot u v op operand ty line = ap (λ t. value_counts_in t (AtWith spot u) v) (show_expression_unary op operand ty line)
-
-pub updated_counts_binary : (spot : Spot) (u v : Datum) (op : _) (left : _) (right : _) (ty : _) (line : _) → value_counts_in (expression_of (TExpr.Binary op left right ty line)) (AtWith spot u) v ≡ None
-updated_counts_binary spot u v op left right ty line = ap (λ t. value_counts_in t (AtWith spot u) v) (show_expression_binary op left right ty line)
-
-pub updated_counts_offset : (spot : Spot) (u v : Datum) (op : _) (left : _) (right : _) (size : _) (ty : _) (line : _) → value_counts_in (expression_of (TExpr.Offset op left right size ty line)) (AtWith spot u) v ≡ None
-updated_counts_offset spot u v op left right size ty line = ap (λ t. value_counts_in t (AtWith spot u) v) (show_expression_offset op left right size ty line)
-
-pub updated_counts_difference : (spot : Spot) (u v : Datum) (left : _) (right : _) (size : _) (line : _) → value_counts_in (expression_of (TExpr.Difference left right size line)) (AtWith spot u) v ≡ None
-updated_counts_difference spot u v left right size line = ap (λ t. value_counts_in t (AtWith spot u) v) (show_expression_difference left right size line)
-
-pub updated_counts_logical : (spot : Spot) (u v : Datum) (op : _) (left : _) (right : _) (line : _) → value_counts_in (expression_of (TExpr.Logical op left right line)) (AtWith spot u) v ≡ None
-updated_counts_logical spot u v op left right line = ap (λ t. value_counts_in t (AtWith spot u) v) (show_expression_logical op left right line)
-
-pub updated_counts_conditional : (spot : Spot) (u v : Datum) (condition : _) (chosen : _) (otherwise : _) (ty : _) (line : _) → value_counts_in (expression_of (TExpr.Conditional condition chosen otherwise ty line)) (AtWith spot u) v ≡ None
-updated_counts_conditional spot u v condition chosen otherwise ty line = ap (λ t. value_counts_in t (AtWith spot u) v) (show_expression_conditional condition chosen otherwise ty line)
-
-pub updated_counts_comma : (spot : Spot) (u v : Datum) (left : _) (right : _) (ty : _) (line : _) → value_counts_in (expression_of (TExpr.Comma left right ty line)) (AtWith spot u) v ≡ None
-updated_counts_comma spot u v left right ty line = ap (λ t. value_counts_in t (AtWith spot u) v) (show_expression_comma left right ty line)
-
-pub updated_counts_assign : (spot : Spot) (u v : Datum) (place : _) (value : _) (ty : _) (line : _) → value_counts_in (expression_of (TExpr.Assign place value ty line)) (AtWith spot u) v ≡ None
-updated_counts_assign spot u v place value ty line = ap (λ t. value_counts_in t (AtWith spot u) v) (show_expression_assign place value ty line)
-
-pub updated_counts_struct_assign : (spot : Spot) (u v : Datum) (place : _) (from : _) (size : _) (line : _) → value_counts_in (expression_of (TExpr.StructAssign place from size line)) (AtWith spot u) v ≡ None
-updated_counts_struct_assign spot u v place from size line = ap (λ t. value_counts_in t (AtWith spot u) v) (show_expression_struct_assign place from size line)
+pub ruleset placed_counts = (placed_counts_assign, placed_counts_step)
 
 pub updated_counts_update : (spot : Spot) (u v : Datum) (op : _) (place : _) (value : _) (operation : _) (size : _) (ty : _) (line : _) → value_counts_in (expression_of (TExpr.Update op place value operation size ty line)) (AtWith spot u) v ≡ Some line
 updated_counts_update spot u v op place value operation size ty line = ap (λ t. value_counts_in t (AtWith spot u) v) (show_expression_update op place value operation size ty line)
 
-pub updated_counts_step : (spot : Spot) (u v : Datum) (op : _) (place : _) (operation : _) (size : _) (ty : _) (line : _) → value_counts_in (expression_of (TExpr.Step op place operation size ty line)) (AtWith spot u) v ≡ None
-updated_counts_step spot u v op place operation size ty line = ap (λ t. value_counts_in t (AtWith spot u) v) (show_expression_step op place operation size ty line)
-
-pub updated_counts_call : (spot : Spot) (u v : Datum) (function : _) (arguments : _) (ty : _) (line : _) → value_counts_in (expression_of (TExpr.Call function arguments ty line)) (AtWith spot u) v ≡ None
-updated_counts_call spot u v function arguments ty line = ap (λ t. value_counts_in t (AtWith spot u) v) (show_expression_call function arguments ty line)
-
-pub ruleset updated_counts = (updated_counts_constant, updated_counts_read, updated_counts_address, updated_counts_convert, updated_counts_cast, updated_counts_unary, updated_counts_binary, updated_counts_offset, updated_counts_difference, updated_counts_logical, updated_counts_conditional, updated_counts_comma, updated_counts_assign, updated_counts_struct_assign, updated_counts_update, updated_counts_step, updated_counts_call)
-
-pub address_counts_constant : (p : Program) (value : _) (line : _) → found_counts_in p (expression_of (TExpr.Constant value line)) Nothing ≡ None
-address_counts_constant p value line = ap (λ t. found_counts_in p t Nothing) (show_expression_constant value line)
-
-pub address_counts_read : (p : Program) (place : _) (ty : _) (line : _) → found_counts_in p (expression_of (TExpr.Read place ty line)) Nothing ≡ None
-address_counts_read p place ty line = ap (λ t. found_counts_in p t Nothing) (show_expression_read place ty line)
+pub ruleset updated_counts = (updated_counts_update)
 
 pub address_counts_address : (p : Program) (place : _) (ty : _) (line : _) → found_counts_in p (expression_of (TExpr.Address place ty line)) Nothing ≡ counted_if (is_operator p (place_type (place_of place.value)).ty ty) line
 address_counts_address p place ty line = ap (λ t. found_counts_in p t Nothing) (show_expression_address place ty line)
 
-pub address_counts_convert : (p : Program) (operand : _) (ty : _) (line : _) → found_counts_in p (expression_of (TExpr.Convert operand ty line)) Nothing ≡ None
-address_counts_convert p operand ty line = ap (λ t. found_counts_in p t Nothing) (show_expression_convert operand ty line)
-
-pub address_counts_cast : (p : Program) (operand : _) (ty : _) (line : _) → found_counts_in p (expression_of (TExpr.Cast operand ty line)) Nothing ≡ None
-address_counts_cast p operand ty line = ap (λ t. found_counts_in p t Nothing) (show_expression_cast operand ty line)
-
-pub address_counts_unary : (p : Program) (op : _) (operand : _) (ty : _) (line : _) → found_counts_in p (expression_of (TExpr.Unary op operand ty line)) Nothing ≡ None
-address_counts_unary p op operand ty line = ap (λ t. found_counts_in p t Nothing) (show_expression_unary op operand ty line)
-
-pub address_counts_binary : (p : Program) (op : _) (left : _) (right : _) (ty : _) (line : _) → found_counts_in p (expression_of (TExpr.Binary op left right ty line)) Nothing ≡ None
-address_counts_binary p op left right ty line = ap (λ t. found_counts_in p t Nothing) (show_expression_binary op left right ty line)
-
-pub address_counts_offset : (p : Program) (op : _) (left : _) (right : _) (size : _) (ty : _) (line : _) → found_counts_in p (expression_of (TExpr.Offset op left right size ty line)) Nothing ≡ None
-address_counts_offset p op left right size ty line = ap (λ t. found_counts_in p t Nothing) (show_expression_offset op left right size ty line)
-
-pub address_counts_difference : (p : Program) (left : _) (right : _) (size : _) (line : _) → found_counts_in p (expression_of (TExpr.Difference left right size line)) Nothing ≡ None
-address_counts_difference p left right size line = ap (λ t. found_counts_in p t Nothing) (show_expression_difference left right size line)
-
-pub address_counts_logical : (p : Program) (op : _) (left : _) (right : _) (line : _) → found_counts_in p (expression_of (TExpr.Logical op left right line)) Nothing ≡ None
-address_counts_logical p op left right line = ap (λ t. found_counts_in p t Nothing) (show_expression_logical op left right line)
-
-pub address_counts_conditional : (p : Program) (condition : _) (chosen : _) (otherwise : _) (ty : _) (line : _) → found_counts_in p (expression_of (TExpr.Conditional condition chosen otherwise ty line)) Nothing ≡ None
-address_counts_conditional p condition chosen otherwise ty line = ap (λ t. found_counts_in p t Nothing) (show_expression_conditional condition chosen otherwise ty line)
-
-pub address_counts_comma : (p : Program) (left : _) (right : _) (ty : _) (line : _) → found_counts_in p (expression_of (TExpr.Comma left right ty line)) Nothing ≡ None
-address_counts_comma p left right ty line = ap (λ t. found_counts_in p t Nothing) (show_expression_comma left right ty line)
-
-pub address_counts_assign : (p : Program) (place : _) (value : _) (ty : _) (line : _) → found_counts_in p (expression_of (TExpr.Assign place value ty line)) Nothing ≡ None
-address_counts_assign p place value ty line = ap (λ t. found_counts_in p t Nothing) (show_expression_assign place value ty line)
-
-pub address_counts_struct_assign : (p : Program) (place : _) (from : _) (size : _) (line : _) → found_counts_in p (expression_of (TExpr.StructAssign place from size line)) Nothing ≡ None
-address_counts_struct_assign p place from size line = ap (λ t. found_counts_in p t Nothing) (show_expression_struct_assign place from size line)
-
-pub address_counts_update : (p : Program) (op : _) (place : _) (value : _) (operation : _) (size : _) (ty : _) (line : _) → found_counts_in p (expression_of (TExpr.Update op place value operation size ty line)) Nothing ≡ None
-address_counts_update p op place value operation size ty line = ap (λ t. found_counts_in p t Nothing) (show_expression_update op place value operation size ty line)
-
-pub address_counts_step : (p : Program) (op : _) (place : _) (operation : _) (size : _) (ty : _) (line : _) → found_counts_in p (expression_of (TExpr.Step op place operation size ty line)) Nothing ≡ None
-address_counts_step p op place operation size ty line = ap (λ t. found_counts_in p t Nothing) (show_expression_step op place operation size ty line)
-
-pub address_counts_call : (p : Program) (function : _) (arguments : _) (ty : _) (line : _) → found_counts_in p (expression_of (TExpr.Call function arguments ty line)) Nothing ≡ None
-address_counts_call p function arguments ty line = ap (λ t. found_counts_in p t Nothing) (show_expression_call function arguments ty line)
-
-pub ruleset address_counts = (address_counts_constant, address_counts_read, address_counts_address, address_counts_convert, address_counts_cast, address_counts_unary, address_counts_binary, address_counts_offset, address_counts_difference, address_counts_logical, address_counts_conditional, address_counts_comma, address_counts_assign, address_counts_struct_assign, address_counts_update, address_counts_step, address_counts_call)
-
-pub copied_counts_constant : (p : Program) (to : Spot) (value : _) (line : _) → found_counts_in p (expression_of (TExpr.Constant value line)) (At to) ≡ None
-copied_counts_constant p to value line = ap (λ t. found_counts_in p t (At to)) (show_expression_constant value line)
-
-pub copied_counts_read : (p : Program) (to : Spot) (place : _) (ty : _) (line : _) → found_counts_in p (expression_of (TExpr.Read place ty line)) (At to) ≡ None
-copied_counts_read p to place ty line = ap (λ t. found_counts_in p t (At to)) (show_expression_read place ty line)
-
-pub copied_counts_address : (p : Program) (to : Spot) (place : _) (ty : _) (line : _) → found_counts_in p (expression_of (TExpr.Address place ty line)) (At to) ≡ None
-copied_counts_address p to place ty line = ap (λ t. found_counts_in p t (At to)) (show_expression_address place ty line)
-
-pub copied_counts_convert : (p : Program) (to : Spot) (operand : _) (ty : _) (line : _) → found_counts_in p (expression_of (TExpr.Convert operand ty line)) (At to) ≡ None
-copied_counts_convert p to operand ty line = ap (λ t. found_counts_in p t (At to)) (show_expression_convert operand ty line)
-
-pub copied_counts_cast : (p : Program) (to : Spot) (operand : _) (ty : _) (line : _) → found_counts_in p (expression_of (TExpr.Cast operand ty line)) (At to) ≡ None
-copied_counts_cast p to operand ty line = ap (λ t. found_counts_in p t (At to)) (show_expression_cast operand ty line)
-
-pub copied_counts_unary : (p : Program) (to : Spot) (op : _) (operand : _) (ty : _) (line : _) → found_counts_in p (expression_of (TExpr.Unary op operand ty line)) (At to) ≡ None
-copied_counts_unary p to op operand ty line = ap (λ t. found_counts_in p t (At to)) (show_expression_unary op operand ty line)
-
-pub copied_counts_binary : (p : Program) (to : Spot) (op : _) (left : _) (right : _) (ty : _) (line : _) → found_counts_in p (expression_of (TExpr.Binary op left right ty line)) (At to) ≡ None
-copied_counts_binary p to op left right ty line = ap (λ t. found_counts_in p t (At to)) (show_expression_binary op left right ty line)
-
-pub copied_counts_offset : (p : Program) (to : Spot) (op : _) (left : _) (right : _) (size : _) (ty : _) (line : _) → found_counts_in p (expression_of (TExpr.Offset op left right size ty line)) (At to) ≡ None
-copied_counts_offset p to op left right size ty line = ap (λ t. found_counts_in p t (At to)) (show_expression_offset op left right size ty line)
-
-pub copied_counts_difference : (p : Program) (to : Spot) (left : _) (right : _) (size : _) (line : _) → found_counts_in p (expression_of (TExpr.Difference left right size line)) (At to) ≡ None
-copied_counts_difference p to left right size line = ap (λ t. found_counts_in p t (At to)) (show_expression_difference left right size line)
-
-pub copied_counts_logical : (p : Program) (to : Spot) (op : _) (left : _) (right : _) (line : _) → found_counts_in p (expression_of (TExpr.Logical op left right line)) (At to) ≡ None
-copied_counts_logical p to op left right line = ap (λ t. found_counts_in p t (At to)) (show_expression_logical op left right line)
-
-pub copied_counts_conditional : (p : Program) (to : Spot) (condition : _) (chosen : _) (otherwise : _) (ty : _) (line : _) → found_counts_in p (expression_of (TExpr.Conditional condition chosen otherwise ty line)) (At to) ≡ None
-copied_counts_conditional p to condition chosen otherwise ty line = ap (λ t. found_counts_in p t (At to)) (show_expression_conditional condition chosen otherwise ty line)
-
-pub copied_counts_comma : (p : Program) (to : Spot) (left : _) (right : _) (ty : _) (line : _) → found_counts_in p (expression_of (TExpr.Comma left right ty line)) (At to) ≡ None
-copied_counts_comma p to left right ty line = ap (λ t. found_counts_in p t (At to)) (show_expression_comma left right ty line)
-
-pub copied_counts_assign : (p : Program) (to : Spot) (place : _) (value : _) (ty : _) (line : _) → found_counts_in p (expression_of (TExpr.Assign place value ty line)) (At to) ≡ None
-copied_counts_assign p to place value ty line = ap (λ t. found_counts_in p t (At to)) (show_expression_assign place value ty line)
+pub ruleset address_counts = (address_counts_address)
 
 pub copied_counts_struct_assign : (p : Program) (to : Spot) (place : _) (from : _) (size : _) (line : _) → found_counts_in p (expression_of (TExpr.StructAssign place from size line)) (At to) ≡ Some line
 copied_counts_struct_assign p to place from size line = ap (λ t. found_counts_in p t (At to)) (show_expression_struct_assign place from size line)
 
-pub copied_counts_update : (p : Program) (to : Spot) (op : _) (place : _) (value : _) (operation : _) (size : _) (ty : _) (line : _) → found_counts_in p (expression_of (TExpr.Update op place value operation size ty line)) (At to) ≡ None
-copied_counts_update p to op place value operation size ty line = ap (λ t. found_counts_in p t (At to)) (show_expression_update op place value operation size ty line)
-
-pub copied_counts_step : (p : Program) (to : Spot) (op : _) (place : _) (operation : _) (size : _) (ty : _) (line : _) → found_counts_in p (expression_of (TExpr.Step op place operation size ty line)) (At to) ≡ None
-copied_counts_step p to op place operation size ty line = ap (λ t. found_counts_in p t (At to)) (show_expression_step op place operation size ty line)
-
-pub copied_counts_call : (p : Program) (to : Spot) (function : _) (arguments : _) (ty : _) (line : _) → found_counts_in p (expression_of (TExpr.Call function arguments ty line)) (At to) ≡ None
-copied_counts_call p to function arguments ty line = ap (λ t. found_counts_in p t (At to)) (show_expression_call function arguments ty line)
-
-pub ruleset copied_counts = (copied_counts_constant, copied_counts_read, copied_counts_address, copied_counts_convert, copied_counts_cast, copied_counts_unary, copied_counts_binary, copied_counts_offset, copied_counts_difference, copied_counts_logical, copied_counts_conditional, copied_counts_comma, copied_counts_assign, copied_counts_struct_assign, copied_counts_update, copied_counts_step, copied_counts_call)
+pub ruleset copied_counts = (copied_counts_struct_assign)
 
 pub no_value_chosen : (e : Expression) (v : Datum) → value_counts_in e Chosen v ≡ None
 no_value_chosen (tree.Constant value line) v = refl
@@ -443,8 +179,6 @@ no_value_called (tree.StructAssign place from size line) v = refl
 no_value_called (tree.Update op place value operation size ty line) v = refl
 no_value_called (tree.Step op place operation size ty line) v = refl
 no_value_called (tree.Call function arguments ty line) v = refl
-
-pub ruleset no_values_count = (no_value_chosen, no_value_stores, no_value_copies, no_value_args, no_value_passed, no_value_called)
 
 pub no_find_chosen : (p : Program) (e : Expression) → found_counts_in p e Chosen ≡ None
 no_find_chosen p (tree.Constant value line) = refl
@@ -597,5 +331,3 @@ no_find_at_with spot w p (tree.StructAssign place from size line) = refl
 no_find_at_with spot w p (tree.Update op place value operation size ty line) = refl
 no_find_at_with spot w p (tree.Step op place operation size ty line) = refl
 no_find_at_with spot w p (tree.Call function arguments ty line) = refl
-
-pub ruleset no_finds_count = (no_find_chosen, no_find_stores, no_find_copies, no_find_args, no_find_passed, no_find_called, no_find_one, no_find_at_with)

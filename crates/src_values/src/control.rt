@@ -60,17 +60,7 @@ fn is_loop(statement: &TStmt) -> bool
 {
     match statement {
         TStmt::Loop { .. } => true,
-        TStmt::Block { .. }
-        | TStmt::Empty { .. }
-        | TStmt::Expr { .. }
-        | TStmt::Declare { .. }
-        | TStmt::InitScalar { .. }
-        | TStmt::InitList { .. }
-        | TStmt::If { .. }
-        | TStmt::Switch { .. }
-        | TStmt::Break { .. }
-        | TStmt::Continue { .. }
-        | TStmt::Return { .. } => false,
+        _ => false,
     }
 }
 
@@ -80,17 +70,7 @@ fn is_switch(statement: &TStmt) -> bool
 {
     match statement {
         TStmt::Switch { .. } => true,
-        TStmt::Block { .. }
-        | TStmt::Empty { .. }
-        | TStmt::Expr { .. }
-        | TStmt::Declare { .. }
-        | TStmt::InitScalar { .. }
-        | TStmt::InitList { .. }
-        | TStmt::If { .. }
-        | TStmt::Loop { .. }
-        | TStmt::Break { .. }
-        | TStmt::Continue { .. }
-        | TStmt::Return { .. } => false,
+        _ => false,
     }
 }
 
@@ -347,11 +327,7 @@ pub fn line_at(top: Option<&Pending>) -> u32
             Pending::In(expr, _) => expression_line(expr),
             Pending::To(place) => place_line(place),
             Pending::Doing(code, _) => line_in(*code),
-            Pending::Value(_)
-            | Pending::Before(_, _)
-            | Pending::Ended
-            | Pending::Returns(_)
-            | Pending::Resumes(_) => 0,
+            _ => 0,
         },
     }
 }
@@ -364,13 +340,7 @@ pub fn read_type(top: Option<&Pending>) -> Ty
         None => Ty::Void,
         Some(top) => match top {
             Pending::In(expr, _) => expr.ty(),
-            Pending::To(_)
-            | Pending::Doing(_, _)
-            | Pending::Value(_)
-            | Pending::Before(_, _)
-            | Pending::Ended
-            | Pending::Returns(_)
-            | Pending::Resumes(_) => Ty::Void,
+            _ => Ty::Void,
         },
     }
 }
@@ -381,17 +351,7 @@ fn list_in(statement: &TStmt) -> Option<(usize, &Vec<TItem>)>
 {
     match statement {
         TStmt::InitList { local, items, .. } => Some((*local, items)),
-        TStmt::Block { .. }
-        | TStmt::Empty { .. }
-        | TStmt::Expr { .. }
-        | TStmt::Declare { .. }
-        | TStmt::InitScalar { .. }
-        | TStmt::If { .. }
-        | TStmt::Loop { .. }
-        | TStmt::Switch { .. }
-        | TStmt::Break { .. }
-        | TStmt::Continue { .. }
-        | TStmt::Return { .. } => None,
+        _ => None,
     }
 }
 
@@ -406,13 +366,7 @@ pub fn list_at<'a>(top: Option<&Pending<'a>>) -> Option<(usize, &'a Vec<TItem>)>
                 Some(statement) => list_in(statement),
                 None => None,
             },
-            Pending::In(_, _)
-            | Pending::Value(_)
-            | Pending::To(_)
-            | Pending::Before(_, _)
-            | Pending::Ended
-            | Pending::Returns(_)
-            | Pending::Resumes(_) => None,
+            _ => None,
         },
     }
 }

@@ -76,18 +76,7 @@ fn first_counts(expr: &TExpr, value: Datum) -> Option<u32>
         | TExpr::Conditional { line, .. }
         | TExpr::Comma { line, .. } => Some(*line),
         TExpr::Logical { op, line, .. } => logical_counts(*op, value, *line),
-        TExpr::Constant { .. }
-        | TExpr::Read { .. }
-        | TExpr::Address { .. }
-        | TExpr::Convert { .. }
-        | TExpr::Binary { .. }
-        | TExpr::Offset { .. }
-        | TExpr::Difference { .. }
-        | TExpr::Assign { .. }
-        | TExpr::StructAssign { .. }
-        | TExpr::Update { .. }
-        | TExpr::Step { .. }
-        | TExpr::Call { .. } => None,
+        _ => None,
     }
 }
 
@@ -101,19 +90,7 @@ fn right_counts(expr: &TExpr) -> Option<u32>
         | TExpr::Offset { line, .. }
         | TExpr::Difference { line, .. }
         | TExpr::Logical { line, .. } => Some(*line),
-        TExpr::Constant { .. }
-        | TExpr::Read { .. }
-        | TExpr::Address { .. }
-        | TExpr::Convert { .. }
-        | TExpr::Cast { .. }
-        | TExpr::Unary { .. }
-        | TExpr::Conditional { .. }
-        | TExpr::Comma { .. }
-        | TExpr::Assign { .. }
-        | TExpr::StructAssign { .. }
-        | TExpr::Update { .. }
-        | TExpr::Step { .. }
-        | TExpr::Call { .. } => None,
+        _ => None,
     }
 }
 
@@ -124,21 +101,7 @@ fn placed_counts(expr: &TExpr) -> Option<u32>
 {
     match expr {
         TExpr::Assign { line, .. } | TExpr::Step { line, .. } => Some(*line),
-        TExpr::Constant { .. }
-        | TExpr::Read { .. }
-        | TExpr::Address { .. }
-        | TExpr::Convert { .. }
-        | TExpr::Cast { .. }
-        | TExpr::Unary { .. }
-        | TExpr::Binary { .. }
-        | TExpr::Offset { .. }
-        | TExpr::Difference { .. }
-        | TExpr::Logical { .. }
-        | TExpr::Conditional { .. }
-        | TExpr::Comma { .. }
-        | TExpr::StructAssign { .. }
-        | TExpr::Update { .. }
-        | TExpr::Call { .. } => None,
+        _ => None,
     }
 }
 
@@ -149,27 +112,11 @@ fn updated_counts(expr: &TExpr) -> Option<u32>
 {
     match expr {
         TExpr::Update { line, .. } => Some(*line),
-        TExpr::Constant { .. }
-        | TExpr::Read { .. }
-        | TExpr::Address { .. }
-        | TExpr::Convert { .. }
-        | TExpr::Cast { .. }
-        | TExpr::Unary { .. }
-        | TExpr::Binary { .. }
-        | TExpr::Offset { .. }
-        | TExpr::Difference { .. }
-        | TExpr::Logical { .. }
-        | TExpr::Conditional { .. }
-        | TExpr::Comma { .. }
-        | TExpr::Assign { .. }
-        | TExpr::StructAssign { .. }
-        | TExpr::Step { .. }
-        | TExpr::Call { .. } => None,
+        _ => None,
     }
 }
 
 // A value that is given to an expression.
-#[tactic(auto, using(crate::proofs::Steps::no_values_count))]
 fn value_counts_in(expr: &TExpr, got: Got, value: Datum) -> Option<u32>
     ensures { (values : List values.Datum) → result ≡ stated.value_counts_in (expression_of expr.now) (got_in (expression_of expr.now) got values) (datum_of value) }
 {
@@ -178,8 +125,7 @@ fn value_counts_in(expr: &TExpr, got: Got, value: Datum) -> Option<u32>
         Got::One(_) => right_counts(expr),
         Got::At(_) => placed_counts(expr),
         Got::AtWith(_, _) => updated_counts(expr),
-        Got::Chosen | Got::Stores(_, _) | Got::Copies | Got::Args(_) | Got::Passed | Got::Called =>
-            None,
+        _ => None,
     }
 }
 
@@ -201,12 +147,7 @@ fn value_counts(value: Datum, top: &Pending) -> Option<u32>
     match top {
         Pending::In(expr, got) => value_counts_in(expr, *got, value),
         Pending::To(place) => value_counts_to(place),
-        Pending::Value(_)
-        | Pending::Doing(_, _)
-        | Pending::Before(_, _)
-        | Pending::Ended
-        | Pending::Returns(_)
-        | Pending::Resumes(_) => None,
+        _ => None,
     }
 }
 
@@ -219,22 +160,7 @@ fn address_counts(program: &Typed, expr: &TExpr) -> Option<u32>
         TExpr::Address { place, ty, line } => {
             counted_if(is_operator(program, place.ty().ty, *ty), *line)
         }
-        TExpr::Constant { .. }
-        | TExpr::Read { .. }
-        | TExpr::Convert { .. }
-        | TExpr::Cast { .. }
-        | TExpr::Unary { .. }
-        | TExpr::Binary { .. }
-        | TExpr::Offset { .. }
-        | TExpr::Difference { .. }
-        | TExpr::Logical { .. }
-        | TExpr::Conditional { .. }
-        | TExpr::Comma { .. }
-        | TExpr::Assign { .. }
-        | TExpr::StructAssign { .. }
-        | TExpr::Update { .. }
-        | TExpr::Step { .. }
-        | TExpr::Call { .. } => None,
+        _ => None,
     }
 }
 
@@ -245,41 +171,18 @@ fn copied_counts(expr: &TExpr) -> Option<u32>
 {
     match expr {
         TExpr::StructAssign { line, .. } => Some(*line),
-        TExpr::Constant { .. }
-        | TExpr::Read { .. }
-        | TExpr::Address { .. }
-        | TExpr::Convert { .. }
-        | TExpr::Cast { .. }
-        | TExpr::Unary { .. }
-        | TExpr::Binary { .. }
-        | TExpr::Offset { .. }
-        | TExpr::Difference { .. }
-        | TExpr::Logical { .. }
-        | TExpr::Conditional { .. }
-        | TExpr::Comma { .. }
-        | TExpr::Assign { .. }
-        | TExpr::Update { .. }
-        | TExpr::Step { .. }
-        | TExpr::Call { .. } => None,
+        _ => None,
     }
 }
 
 // A place that was found for an expression.
-#[tactic(auto, using(crate::proofs::Steps::no_finds_count))]
 fn found_counts_in(program: &Typed, expr: &TExpr, got: Got) -> Option<u32>
     ensures { (values : List values.Datum) → result ≡ stated.found_counts_in (program_of program.now) (expression_of expr.now) (got_in (expression_of expr.now) got values) }
 {
     match got {
         Got::Nothing => address_counts(program, expr),
         Got::At(_) => copied_counts(expr),
-        Got::Chosen
-        | Got::One(_)
-        | Got::AtWith(_, _)
-        | Got::Stores(_, _)
-        | Got::Copies
-        | Got::Args(_)
-        | Got::Passed
-        | Got::Called => None,
+        _ => None,
     }
 }
 
@@ -301,12 +204,7 @@ fn found_counts(program: &Typed, top: &Pending) -> Option<u32>
     match top {
         Pending::In(expr, got) => found_counts_in(program, expr, *got),
         Pending::To(place) => found_counts_to(place),
-        Pending::Value(_)
-        | Pending::Doing(_, _)
-        | Pending::Before(_, _)
-        | Pending::Ended
-        | Pending::Returns(_)
-        | Pending::Resumes(_) => None,
+        _ => None,
     }
 }
 
@@ -357,12 +255,7 @@ fn past_counts(program: &Typed, copy: CopyOf, top: Option<&Pending>) -> Option<u
         None => Some(line_of(program, copy.function)),
         Some(top) => match top {
             Pending::Returns(_) | Pending::Resumes(_) => Some(line_of(program, copy.function)),
-            Pending::In(_, _)
-            | Pending::Value(_)
-            | Pending::To(_)
-            | Pending::Doing(_, _)
-            | Pending::Before(_, _)
-            | Pending::Ended => None,
+            _ => None,
         },
     }
 }

@@ -435,21 +435,6 @@ pub fn answer_of(expr: &TExpr, spot: Spot, value: Datum) -> Datum
                 kept_in(spot, value)
             }
         }
-        TExpr::Constant { .. }
-        | TExpr::Read { .. }
-        | TExpr::Address { .. }
-        | TExpr::Convert { .. }
-        | TExpr::Cast { .. }
-        | TExpr::Unary { .. }
-        | TExpr::Binary { .. }
-        | TExpr::Offset { .. }
-        | TExpr::Difference { .. }
-        | TExpr::Logical { .. }
-        | TExpr::Conditional { .. }
-        | TExpr::Comma { .. }
-        | TExpr::Assign { .. }
-        | TExpr::StructAssign { .. }
-        | TExpr::Update { .. }
-        | TExpr::Call { .. } => kept_in(spot, value),
+        _ => kept_in(spot, value),
     }
 }
