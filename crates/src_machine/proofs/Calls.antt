@@ -259,7 +259,7 @@ calls_step p op place operation size ty line values k c m w = ap (λ e. call_in 
 pub calls_call : (p : Program) (function : _) (given : _) (ty : _) (line : _) (values : List Datum) (k : List Pending) (c : CopyOf) (m : Memory) (w : World Byte) → call_in p (expression_of (TExpr.Call function given ty line)) (Passed values) k c m w ≡ called p (expression_of (TExpr.Call function given ty line)) function line values k c m w
 calls_call p function given ty line values k c m w = subst (λ e. call_in p e (Passed values) k c m w ≡ called p e function line values k c m w) (sym (show_expression_call function given ty line)) refl
 
-pub ruleset calls = (calls_constant, calls_read, calls_address, calls_convert, calls_cast, calls_unary, calls_binary, calls_offset, calls_difference, calls_logical, calls_conditional, calls_comma, calls_assign, calls_struct_assign, calls_update, calls_step, calls_call)
+pub ruleset calls = (calls_call)
 
 -- the parameters have room
 pub fit_call : (p : Program) (c : CopyOf) (function : _) (given : _) (ty : _) (line : _) (values : List Datum) (k : List Pending) → FitCall p c (In (expression_of (TExpr.Call function given ty line)) (Passed values) ∷ k) → FitFrom p (copy_of c.root function) 0 values

@@ -32,3 +32,4 @@ pub mod Beginning
 pub mod Copying
 pub mod OtherNodes
 pub mod OtherStatements
+pub mod OtherStages

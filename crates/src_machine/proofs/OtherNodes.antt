@@ -1,12 +1,12 @@
 -- What a rule says of every expression but those that it is about.
-use Rattle.c_typed.specs.Trees.{Expressions}
+use Rattle.c_typed.specs.Trees.{Expressions, Program}
 use Rattle.c_typed.specs.Views.{expression_of}
 use Rattle.c_typed.specs.declared.expression.TExpr.TheOpen.{TExpr-F}
 use Rattle.c_typed.specs.declared.expression.TExpr.TheViews.{out-TExpr, roll-TExpr, roll-out-TExpr}
 use Rattle.c_typed.specs.declared.expression.TExpr.{TExpr}
 use Rattle.c_typed.specs.declared.expression.TPlace.{TPlace}
 use Rattle.pic_world.specs.World.{World}
-use Rattle.src_machine.proofs.Calls.{hands_address, hands_assign, hands_binary, hands_cast, hands_comma, hands_conditional, hands_constant, hands_convert, hands_difference, hands_logical, hands_offset, hands_read, hands_step, hands_struct_assign, hands_unary, hands_update}
+use Rattle.src_machine.proofs.Calls.{calls_address, calls_assign, calls_binary, calls_cast, calls_comma, calls_conditional, calls_constant, calls_convert, calls_difference, calls_logical, calls_offset, calls_read, calls_step, calls_struct_assign, calls_unary, calls_update, hands_address, hands_assign, hands_binary, hands_cast, hands_comma, hands_conditional, hands_constant, hands_convert, hands_difference, hands_logical, hands_offset, hands_read, hands_step, hands_struct_assign, hands_unary, hands_update}
 use Rattle.src_machine.proofs.OnlyReads.{is_read_address, is_read_assign, is_read_binary, is_read_call, is_read_cast, is_read_comma, is_read_conditional, is_read_constant, is_read_convert, is_read_difference, is_read_logical, is_read_offset, is_read_step, is_read_struct_assign, is_read_unary, is_read_update}
 use Rattle.src_machine.proofs.Places.{first_found_binary, first_found_call, first_found_cast, first_found_comma, first_found_conditional, first_found_constant, first_found_convert, first_found_difference, first_found_logical, first_found_offset, first_found_unary, second_found_address, second_found_assign, second_found_binary, second_found_call, second_found_cast, second_found_comma, second_found_conditional, second_found_constant, second_found_convert, second_found_difference, second_found_logical, second_found_offset, second_found_read, second_found_step, second_found_unary, second_found_update}
 use Rattle.src_machine.proofs.Takes.{args_address, args_assign, args_binary, args_cast, args_comma, args_conditional, args_constant, args_convert, args_difference, args_logical, args_offset, args_read, args_step, args_struct_assign, args_unary, args_update, at_address, at_binary, at_call, at_cast, at_comma, at_conditional, at_constant, at_convert, at_difference, at_logical, at_offset, at_read, at_struct_assign, at_unary, chosen_address, chosen_assign, chosen_binary, chosen_call, chosen_cast, chosen_comma, chosen_constant, chosen_convert, chosen_difference, chosen_logical, chosen_offset, chosen_read, chosen_step, chosen_struct_assign, chosen_unary, chosen_update, first_address, first_assign, first_call, first_constant, first_read, first_step, first_struct_assign, first_update, old_address, old_assign, old_binary, old_call, old_cast, old_comma, old_conditional, old_constant, old_convert, old_difference, old_logical, old_offset, old_read, old_step, old_struct_assign, old_unary, right_address, right_assign, right_call, right_cast, right_comma, right_conditional, right_constant, right_convert, right_read, right_step, right_struct_assign, right_unary, right_update}
@@ -15,7 +15,8 @@ use Rattle.src_rules.specs.Expressions.{arguments, found_in}
 use Rattle.src_rules.specs.Giving.{take_in}
 use Rattle.src_rules.specs.State.{Lost}
 use Rattle.src_rules.specs.Statements.{handed}
-use Rattle.src_values.specs.Control.{Args, At, AtWith, Called, Chosen, In, Nothing, One, Pending}
+use Rattle.src_rules.specs.Step.{call_in}
+use Rattle.src_values.specs.Control.{Args, At, AtWith, Called, Chosen, In, Nothing, One, Passed, Pending}
 use Rattle.src_values.specs.Data.{Datum}
 use Rattle.src_values.specs.Memory.{Memory, Setting}
 use Rattle.src_values.specs.declared.objects.Byte.{Byte}
@@ -244,3 +245,25 @@ is_read_other_layer (Open.Call function arguments ty line) e is no_read = ap (λ
 
 pub is_read_other : (e : TExpr) → ((place : _) (ty : _) (line : _) → e ≡ TExpr.Read place ty line → ⊥) → is_read (expression_of e) ≡ false
 is_read_other e no_read = is_read_other_layer (out-TExpr e) e (roll-out-TExpr e) no_read
+
+calls_lost_layer : (l : TExpr-F TExpr TPlace) (e : TExpr) → roll-TExpr l ≡ e → ((function : _) (arguments : _) (ty : _) (line : _) → e ≡ TExpr.Call function arguments ty line → ⊥) → (p : Program) (values : List Datum) (k : List Pending) (c : CopyOf) (m : Memory) (w : World Byte) → call_in p (expression_of e) (Passed values) k c m w ≡ Lost
+calls_lost_layer (Open.Constant value line) e is no_call p values k c m w = ap (λ e. call_in p (expression_of e) (Passed values) k c m w) (sym is ∙ TExpr.rolls-Constant value line) ∙ calls_constant p value line values k c m w
+calls_lost_layer (Open.Read place ty line) e is no_call p values k c m w = ap (λ e. call_in p (expression_of e) (Passed values) k c m w) (sym is ∙ TExpr.rolls-Read place ty line) ∙ calls_read p place ty line values k c m w
+calls_lost_layer (Open.Address place ty line) e is no_call p values k c m w = ap (λ e. call_in p (expression_of e) (Passed values) k c m w) (sym is ∙ TExpr.rolls-Address place ty line) ∙ calls_address p place ty line values k c m w
+calls_lost_layer (Open.Convert operand ty line) e is no_call p values k c m w = ap (λ e. call_in p (expression_of e) (Passed values) k c m w) (sym is ∙ TExpr.rolls-Convert operand ty line) ∙ calls_convert p operand ty line values k c m w
+calls_lost_layer (Open.Cast operand ty line) e is no_call p values k c m w = ap (λ e. call_in p (expression_of e) (Passed values) k c m w) (sym is ∙ TExpr.rolls-Cast operand ty line) ∙ calls_cast p operand ty line values k c m w
+calls_lost_layer (Open.Unary op operand ty line) e is no_call p values k c m w = ap (λ e. call_in p (expression_of e) (Passed values) k c m w) (sym is ∙ TExpr.rolls-Unary op operand ty line) ∙ calls_unary p op operand ty line values k c m w
+calls_lost_layer (Open.Binary op left right ty line) e is no_call p values k c m w = ap (λ e. call_in p (expression_of e) (Passed values) k c m w) (sym is ∙ TExpr.rolls-Binary op left right ty line) ∙ calls_binary p op left right ty line values k c m w
+calls_lost_layer (Open.Offset op left right size ty line) e is no_call p values k c m w = ap (λ e. call_in p (expression_of e) (Passed values) k c m w) (sym is ∙ TExpr.rolls-Offset op left right size ty line) ∙ calls_offset p op left right size ty line values k c m w
+calls_lost_layer (Open.Difference left right size line) e is no_call p values k c m w = ap (λ e. call_in p (expression_of e) (Passed values) k c m w) (sym is ∙ TExpr.rolls-Difference left right size line) ∙ calls_difference p left right size line values k c m w
+calls_lost_layer (Open.Logical op left right line) e is no_call p values k c m w = ap (λ e. call_in p (expression_of e) (Passed values) k c m w) (sym is ∙ TExpr.rolls-Logical op left right line) ∙ calls_logical p op left right line values k c m w
+calls_lost_layer (Open.Conditional condition chosen otherwise ty line) e is no_call p values k c m w = ap (λ e. call_in p (expression_of e) (Passed values) k c m w) (sym is ∙ TExpr.rolls-Conditional condition chosen otherwise ty line) ∙ calls_conditional p condition chosen otherwise ty line values k c m w
+calls_lost_layer (Open.Comma left right ty line) e is no_call p values k c m w = ap (λ e. call_in p (expression_of e) (Passed values) k c m w) (sym is ∙ TExpr.rolls-Comma left right ty line) ∙ calls_comma p left right ty line values k c m w
+calls_lost_layer (Open.Assign place value ty line) e is no_call p values k c m w = ap (λ e. call_in p (expression_of e) (Passed values) k c m w) (sym is ∙ TExpr.rolls-Assign place value ty line) ∙ calls_assign p place value ty line values k c m w
+calls_lost_layer (Open.StructAssign place from size line) e is no_call p values k c m w = ap (λ e. call_in p (expression_of e) (Passed values) k c m w) (sym is ∙ TExpr.rolls-StructAssign place from size line) ∙ calls_struct_assign p place from size line values k c m w
+calls_lost_layer (Open.Update op place value operation size ty line) e is no_call p values k c m w = ap (λ e. call_in p (expression_of e) (Passed values) k c m w) (sym is ∙ TExpr.rolls-Update op place value operation size ty line) ∙ calls_update p op place value operation size ty line values k c m w
+calls_lost_layer (Open.Step op place operation size ty line) e is no_call p values k c m w = ap (λ e. call_in p (expression_of e) (Passed values) k c m w) (sym is ∙ TExpr.rolls-Step op place operation size ty line) ∙ calls_step p op place operation size ty line values k c m w
+calls_lost_layer (Open.Call x0 x1 x2 x3) e is no_call p values k c m w = absurd (no_call x0 x1 x2 x3 (sym is ∙ TExpr.rolls-Call x0 x1 x2 x3))
+
+pub calls_lost : (e : TExpr) → ((function : _) (arguments : _) (ty : _) (line : _) → e ≡ TExpr.Call function arguments ty line → ⊥) → (p : Program) (values : List Datum) (k : List Pending) (c : CopyOf) (m : Memory) (w : World Byte) → call_in p (expression_of e) (Passed values) k c m w ≡ Lost
+calls_lost e no_call p values k c m w = calls_lost_layer (out-TExpr e) e (roll-out-TExpr e) no_call p values k c m w

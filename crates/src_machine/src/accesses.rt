@@ -59,12 +59,7 @@ impl<'a> Machine<'a> {
         match pending {
             Pending::Returns(other) => same_copy(*other, copy),
             Pending::Resumes(other) => same_copy(*other, copy) && !self.interrupted.is_over(),
-            Pending::In(_, _)
-            | Pending::Value(_)
-            | Pending::To(_)
-            | Pending::Doing(_, _)
-            | Pending::Before(_, _)
-            | Pending::Ended => false,
+            _ => false,
         }
     }
 
@@ -345,16 +340,7 @@ impl<'a> Machine<'a> {
     {
         match stage {
             Stage::Fills => self.go(Focus::Past),
-            Stage::Tests
-            | Stage::Begins
-            | Stage::Steps
-            | Stage::Turns
-            | Stage::Picks(_)
-            | Stage::InArm(_)
-            | Stage::Chooses
-            | Stage::AtItem(_)
-            | Stage::Items(_)
-            | Stage::Blanks => Outcome::Lost,
+            _ => Outcome::Lost,
         }
     }
 
@@ -387,14 +373,7 @@ impl<'a> Machine<'a> {
         match got {
             Got::Stores(spot, value) => self.go(Focus::Holds(answer_of(expr, spot, value))),
             Got::Copies => self.go(Focus::Holds(Datum::Missing)),
-            Got::Nothing
-            | Got::Chosen
-            | Got::One(_)
-            | Got::At(_)
-            | Got::AtWith(_, _)
-            | Got::Args(_)
-            | Got::Passed
-            | Got::Called => Outcome::Lost,
+            _ => Outcome::Lost,
         }
     }
 

@@ -127,7 +127,6 @@ impl<'a> Machine<'a> {
     }
 
     // The label of this number is compared with a value, for what is under way of a statement.
-    #[tactic(auto, using(crate::proofs::Gives::no_labels))]
     fn compares_for(
         &mut self,
         code: Code<'a>,
@@ -146,16 +145,7 @@ impl<'a> Machine<'a> {
         };
         match stage {
             Stage::Chooses => self.compares_in(code, statement, value, cases, next),
-            Stage::Tests
-            | Stage::Begins
-            | Stage::Steps
-            | Stage::Turns
-            | Stage::Picks(_)
-            | Stage::InArm(_)
-            | Stage::Fills
-            | Stage::AtItem(_)
-            | Stage::Items(_)
-            | Stage::Blanks => Outcome::Lost,
+            _ => Outcome::Lost,
         }
     }
 

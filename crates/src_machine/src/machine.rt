@@ -284,7 +284,6 @@ impl<'a> Machine<'a> {
     }
 
     // All arguments have their values: the function is called.
-    #[tactic(auto, using(crate::proofs::Calls::calls, crate::proofs::Calls::calls_no_part, crate::proofs::Calls::fit_call))]
     fn call_for(&mut self, expr: &'a TExpr, got: Got) -> Outcome
         ensures tells { HasRoom 3 self.old → (map : MapContent) (w : Worlds Bytes) → IsShaped (program_of self.old.program.now) map self.old.memory → FitCall (program_of self.old.program.now) self.old.copy (control.In (expression_of expr.now) (got_in (expression_of expr.now) got (values_on (waiting self.old))) ∷ frames_behind (interrupted_in self.old) (has_values got) (waiting self.old)) → silent result self.new w ≡ call_in (program_of self.old.program.now) (expression_of expr.now) (got_in (expression_of expr.now) got (values_on (waiting self.old))) (frames_behind (interrupted_in self.old) (has_values got) (waiting self.old)) self.old.copy (memory_of self.old) w }
         ensures shape { (p : Program) (map : MapContent) → IsShaped p map self.old.memory → IsShaped p map self.new.memory }
@@ -297,32 +296,9 @@ impl<'a> Machine<'a> {
                 TExpr::Call { function, line, .. } => {
                     self.call_with(expr, *function as usize, *line)
                 }
-                TExpr::Constant { .. }
-                | TExpr::Read { .. }
-                | TExpr::Address { .. }
-                | TExpr::Convert { .. }
-                | TExpr::Cast { .. }
-                | TExpr::Unary { .. }
-                | TExpr::Binary { .. }
-                | TExpr::Offset { .. }
-                | TExpr::Difference { .. }
-                | TExpr::Logical { .. }
-                | TExpr::Conditional { .. }
-                | TExpr::Comma { .. }
-                | TExpr::Assign { .. }
-                | TExpr::StructAssign { .. }
-                | TExpr::Update { .. }
-                | TExpr::Step { .. } => Outcome::Lost,
+                _ => Outcome::Lost,
             },
-            Got::Nothing
-            | Got::Chosen
-            | Got::One(_)
-            | Got::At(_)
-            | Got::AtWith(_, _)
-            | Got::Stores(_, _)
-            | Got::Copies
-            | Got::Args(_)
-            | Got::Called => Outcome::Lost,
+            _ => Outcome::Lost,
         }
     }
 
@@ -339,13 +315,7 @@ impl<'a> Machine<'a> {
         };
         match top {
             Pending::In(expr, got) => self.call_for(expr, got),
-            Pending::Value(_)
-            | Pending::To(_)
-            | Pending::Doing(_, _)
-            | Pending::Before(_, _)
-            | Pending::Ended
-            | Pending::Returns(_)
-            | Pending::Resumes(_) => Outcome::Lost,
+            _ => Outcome::Lost,
         }
     }
 
@@ -411,13 +381,7 @@ impl<'a> Machine<'a> {
         };
         match pending {
             Pending::Value(_) => true,
-            Pending::In(_, _)
-            | Pending::To(_)
-            | Pending::Doing(_, _)
-            | Pending::Before(_, _)
-            | Pending::Ended
-            | Pending::Returns(_)
-            | Pending::Resumes(_) => false,
+            _ => false,
         }
     }
 
@@ -456,13 +420,7 @@ impl<'a> Machine<'a> {
                 };
                 self.memory.put_value(variable, value);
             }
-            Pending::In(_, _)
-            | Pending::To(_)
-            | Pending::Doing(_, _)
-            | Pending::Before(_, _)
-            | Pending::Ended
-            | Pending::Returns(_)
-            | Pending::Resumes(_) => {}
+            _ => {}
         }
     }
 
@@ -492,13 +450,7 @@ impl<'a> Machine<'a> {
                 Datum::Missing => true,
                 Datum::Number(_) | Datum::Pointer(_) => false,
             },
-            Pending::In(_, _)
-            | Pending::To(_)
-            | Pending::Doing(_, _)
-            | Pending::Before(_, _)
-            | Pending::Ended
-            | Pending::Returns(_)
-            | Pending::Resumes(_) => false,
+            _ => false,
         }
     }
 

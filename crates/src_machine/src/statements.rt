@@ -177,22 +177,10 @@ impl<'a> Machine<'a> {
                 Pending::Doing(_, stage) => match stage {
                     Stage::Turns => return self.go(Focus::Past),
                     Stage::InArm(_) => {}
-                    Stage::Tests
-                    | Stage::Begins
-                    | Stage::Steps
-                    | Stage::Picks(_)
-                    | Stage::Chooses
-                    | Stage::Fills
-                    | Stage::AtItem(_)
-                    | Stage::Items(_)
-                    | Stage::Blanks => return Outcome::Lost,
+                    _ => return Outcome::Lost,
                 },
                 Pending::Before(_, _) | Pending::Ended => {}
-                Pending::In(_, _)
-                | Pending::Value(_)
-                | Pending::To(_)
-                | Pending::Returns(_)
-                | Pending::Resumes(_) => return Outcome::Lost,
+                _ => return Outcome::Lost,
             }
         }
         Outcome::Lost
@@ -218,22 +206,10 @@ impl<'a> Machine<'a> {
                         }
                     }
                     Stage::InArm(_) => {}
-                    Stage::Tests
-                    | Stage::Begins
-                    | Stage::Steps
-                    | Stage::Picks(_)
-                    | Stage::Chooses
-                    | Stage::Fills
-                    | Stage::AtItem(_)
-                    | Stage::Items(_)
-                    | Stage::Blanks => return Outcome::Lost,
+                    _ => return Outcome::Lost,
                 },
                 Pending::Before(_, _) | Pending::Ended => {}
-                Pending::In(_, _)
-                | Pending::Value(_)
-                | Pending::To(_)
-                | Pending::Returns(_)
-                | Pending::Resumes(_) => return Outcome::Lost,
+                _ => return Outcome::Lost,
             }
         }
         Outcome::Lost
@@ -252,24 +228,12 @@ impl<'a> Machine<'a> {
                 Pending::Before(_, _) | Pending::Ended => {}
                 Pending::Doing(_, stage) => match stage {
                     Stage::Turns | Stage::InArm(_) => {}
-                    Stage::Tests
-                    | Stage::Begins
-                    | Stage::Steps
-                    | Stage::Picks(_)
-                    | Stage::Chooses
-                    | Stage::Fills
-                    | Stage::AtItem(_)
-                    | Stage::Items(_)
-                    | Stage::Blanks => {
+                    _ => {
                         self.wait(top);
                         return;
                     }
                 },
-                Pending::In(_, _)
-                | Pending::Value(_)
-                | Pending::To(_)
-                | Pending::Returns(_)
-                | Pending::Resumes(_) => {
+                _ => {
                     self.wait(top);
                     return;
                 }
@@ -415,7 +379,7 @@ impl<'a> Machine<'a> {
     }
 
     // A call has its value, and its caller goes on.
-    #[tactic(auto, using(crate::proofs::Calls::hands, crate::proofs::OtherNodes::hands_other, crate::proofs::Calls::hands_no_part))]
+    #[tactic(auto, using(crate::proofs::Calls::hands))]
     fn handed_to(&mut self, expr: &'a TExpr, got: Got, value: Datum, caller: CopyOf) -> Outcome
         ensures tells { (w : Worlds Bytes) → silent result self.new w ≡ rules.handed (datum_of value) caller (above self.old (frames.In expr.entry got)) (memory_of self.old) w }
         ensures others { self.new ≡ record self.old { stack = self.new.stack; focus = self.new.focus; copy = self.new.copy } }
@@ -430,15 +394,7 @@ impl<'a> Machine<'a> {
                 }
                 _ => Outcome::Lost,
             },
-            Got::Nothing
-            | Got::Chosen
-            | Got::One(_)
-            | Got::At(_)
-            | Got::AtWith(_, _)
-            | Got::Stores(_, _)
-            | Got::Copies
-            | Got::Args(_)
-            | Got::Passed => Outcome::Lost,
+            _ => Outcome::Lost,
         }
     }
 
@@ -454,13 +410,7 @@ impl<'a> Machine<'a> {
         };
         match top {
             Pending::In(expr, got) => self.handed_to(expr, got, value, caller),
-            Pending::Value(_)
-            | Pending::To(_)
-            | Pending::Doing(_, _)
-            | Pending::Before(_, _)
-            | Pending::Ended
-            | Pending::Returns(_)
-            | Pending::Resumes(_) => Outcome::Lost,
+            _ => Outcome::Lost,
         }
     }
 
@@ -476,13 +426,7 @@ impl<'a> Machine<'a> {
         };
         match top {
             Pending::Returns(caller) => self.handed(value, caller),
-            Pending::In(_, _)
-            | Pending::Value(_)
-            | Pending::To(_)
-            | Pending::Doing(_, _)
-            | Pending::Before(_, _)
-            | Pending::Ended
-            | Pending::Resumes(_) => Outcome::Lost,
+            _ => Outcome::Lost,
         }
     }
 
