@@ -3,7 +3,7 @@
 
 ghost use Rattle.std.specs.Prelude.{[], None};
 
-use crate::commands::{check_all, host_of};
+use crate::commands::{check_all, host_of, words_of};
 use pic_sim::Board;
 use pic_world::Script;
 use picc_cli::picc;
@@ -124,24 +124,22 @@ impl Board for Silent {
     }
 }
 
-// The status of a simulation for so many instructions over that board, and whether nothing is printed.
-fn silent_run(alloc: Global, instructions: &str) -> Result<(u8, bool), AllocError> {
-    let hex =
-        "a.hex=:020000040000FA$:100000000528FF3FFF3FFF3F0900053083128600B0$:100010000828FF3FFF3FFF3FFF3FFF3FFF3FFF3FFE$:00000001FF$";
-    let map = "a.map=picc map 1$main 0005$halt 0008$frame main main 0020 3$end$";
-    let mut host = host_of(alloc, &[hex, map, "a.s="], Vec::new(alloc))?;
+// The status of a simulation over that board, and whether nothing is printed.
+fn silent_run(alloc: Global, command: &str) -> Result<(u8, bool), AllocError> {
+    let files =
+        "a.hex=:020000040000FA$:100000000528FF3FFF3FFF3F0900053083128600B0$:100010000828FF3FFF3FFF3FFF3FFF3FFF3FFF3FFE$:00000001FF$@a.map=picc map 1$main 0005$halt 0008$frame main main 0020 3$end$@a.s=";
+    let words = words_of(alloc, command)?;
+    let mut host = host_of(alloc, files, Vec::new(alloc))?;
     let mut board: Box<dyn Board> = Box::new(alloc, Silent)?;
-    let mut words = Vec::new(alloc);
-    for word in ["sim", "a.hex", "a.map", "a.s", instructions] {
-        words.push(String::from_str(alloc, word)?)?;
-    }
     let status = picc(alloc, &words, &mut host, &mut board);
     Ok((status, host.printed.is_empty()))
 }
 
 #[test]
 fn a_board_that_refuses(rt: HostRuntime) -> Result<(), Fail> {
-    assert!(rt; silent_run(rt.alloc(), "1000")? == (9, true), "a run");
-    assert!(rt; silent_run(rt.alloc(), "0")? == (0, true), "no instruction");
+    let (status, is_silent) = silent_run(rt.alloc(), "sim a.hex a.map a.s 1000")?;
+    assert!(rt; status == 9 && is_silent, "a run");
+    let (status, is_silent) = silent_run(rt.alloc(), "sim a.hex a.map a.s 0")?;
+    assert!(rt; status == 0 && is_silent, "no instruction");
     Ok(())
 }

@@ -55,17 +55,38 @@ pub fn bytes_of(alloc: Global, written: &str) -> Result<Vec<u8>, AllocError> {
     Ok(bytes)
 }
 
+// Adds the file of a field to the contents.
+fn put_file(
+    contents: &mut BTreeMap<String, Vec<u8>>,
+    alloc: Global,
+    file: &str,
+) -> Result<(), AllocError> {
+    if let Some((name, written)) = file.split_once('=') {
+        contents.insert(String::from_str(alloc, name)?, bytes_of(alloc, written)?)?;
+    }
+    Ok(())
+}
+
 /// A host that has the files of these fields, and whose calls fail as `fails` lists them.
-pub fn host_of(alloc: Global, files: &[&str], fails: Vec<Fail>) -> Result<MemoryHost, AllocError>
+pub fn host_of(alloc: Global, files: &str, fails: Vec<Fail>) -> Result<MemoryHost, AllocError>
     ensures { IfOk result (λ host. open_of host.current ≡ Closed) }
 {
     let mut contents = BTreeMap::new(alloc);
-    for file in files {
-        if let Some((name, written)) = file.split_once('=') {
-            contents.insert(String::from_str(alloc, name)?, bytes_of(alloc, written)?)?;
-        }
+    for file in files.split('@') {
+        put_file(&mut contents, alloc, file)?;
     }
     Ok(MemoryHost::new(contents, fails))
+}
+
+/// How many lines end in these bytes.
+pub fn line_ends(bytes: &[u8]) -> usize {
+    let mut count: usize = 0;
+    for byte in bytes {
+        if *byte == b'\n' {
+            count = count.saturating_add(1);
+        }
+    }
+    count
 }
 
 /// Whether the host has a file of this name with exactly this content.
@@ -85,15 +106,29 @@ pub fn is_same_file(host: &MemoryHost, other: &MemoryHost, name: &str) -> bool {
 }
 
 /// Whether the host has each file of these fields.
-pub fn has_files(alloc: Global, host: &MemoryHost, files: &[&str]) -> Result<bool, AllocError> {
+pub fn has_files(alloc: Global, host: &MemoryHost, files: &str) -> Result<bool, AllocError> {
     let mut all = true;
-    for file in files {
-        all = match file.split_once('=') {
-            Some((name, written)) => all && is_file(host, name, &bytes_of(alloc, written)?),
-            None => false,
-        };
+    for file in files.split('@') {
+        if let Some((name, written)) = file.split_once('=') {
+            all = all && is_file(host, name, &bytes_of(alloc, written)?);
+        }
     }
     Ok(all)
+}
+
+/// Whether the host has printed this.
+pub fn is_printed(alloc: Global, host: &MemoryHost, written: &str) -> Result<bool, AllocError> {
+    let text = bytes_of(alloc, written)?;
+    Ok(host.printed.as_slice() == text.as_slice())
+}
+
+/// The words of a command.
+pub fn words_of(alloc: Global, command: &str) -> Result<Vec<String>, AllocError> {
+    let mut words = Vec::new(alloc);
+    for word in command.split_whitespace() {
+        words.push(String::from_str(alloc, word)?)?;
+    }
+    Ok(words)
 }
 
 /// The status of a command, over a board that follows scripts.
@@ -101,10 +136,7 @@ pub fn run(alloc: Global, command: &str, host: &mut MemoryHost) -> Result<u8, Al
     requires { open_of host.old.current ≡ Closed }
     ensures { open_of host.new.current ≡ Closed }
 {
-    let mut words = Vec::new(alloc);
-    for word in command.split_whitespace() {
-        words.push(String::from_str(alloc, word)?)?;
-    }
+    let words = words_of(alloc, command)?;
     let mut board: Box<dyn Board> = Box::new(alloc, ScriptBoard::new(alloc))?;
     Ok(picc(alloc, &words, host, &mut board))
 }
@@ -125,12 +157,11 @@ pub fn run_all(alloc: Global, commands: &str, host: &mut MemoryHost) -> Result<u
 }
 
 /// A host that has the text as its file a.c and the script as a.s.
-pub fn host_with(alloc: Global, text: &str, script: &str) -> Result<MemoryHost, AllocError>
+fn host_with(alloc: Global, text: &str, script: &str) -> Result<MemoryHost, AllocError>
     ensures { IfOk result (λ host. open_of host.current ≡ Closed) }
 {
-    let text = format!(in alloc; "a.c={text}")?;
-    let script = format!(in alloc; "a.s={script}")?;
-    host_of(alloc, &[text.as_str(), script.as_str()], Vec::new(alloc))
+    let files = format!(in alloc; "a.c={text}@a.s={script}")?;
+    host_of(alloc, &files, Vec::new(alloc))
 }
 
 /// The host behind commands on a text and a script, which end with 0.
@@ -147,36 +178,70 @@ pub fn host_behind(
     Ok(host)
 }
 
-// Whether commands that end with this status have built something.
-fn has_built(commands: &str, status: u8) -> bool {
-    commands.starts_with("build ") && (status == 0 || commands.contains(';'))
+/// A case, cut at its marks.
+#[derive(Clone, Copy)]
+pub struct Case<'a> {
+    pub commands: &'a str,
+    pub status: u8,
+    pub printed: &'a str,
+    pub files: &'a str,
 }
 
-// Runs a case, and compares its status, what it prints, and the files that it leaves: those that were there, as they were, and
-// what a build has made.
-fn check(rt: &impl Abort, alloc: Global, case: &str) -> Result<(), AllocError> {
-    let fields: Vec<&str> = case.split('@').collect(alloc)?;
-    let [commands, status, printed, files @ ..] = fields.as_slice() else {
-        assert!(rt; false, "{case}");
-        return Ok(());
+/// What stands before the first `@`, and what behind it; all and nothing where there is none.
+pub fn cut(text: &str) -> (&str, &str) {
+    text.split_once('@').unwrap_or((text, ""))
+}
+
+/// The case of a line. A status that is no number is one that no command ends with.
+pub fn case_of(line: &str) -> Case<'_> {
+    let (commands, rest) = cut(line);
+    let (status, rest) = cut(rest);
+    let (printed, files) = cut(rest);
+    let status = status.parse().unwrap_or(u8::MAX);
+    Case {
+        commands,
+        status,
+        printed,
+        files,
+    }
+}
+
+// How many files a host has behind a case: a field for each that was there, and two that a build has made.
+fn file_count(case: Case<'_>) -> usize {
+    let fields = if case.files.is_empty() {
+        0
+    } else {
+        case.files.split('@').count()
     };
-    let mut host = host_of(alloc, files, Vec::new(alloc))?;
-    let answer = run_all(alloc, *commands, &mut host)?;
-    assert!(rt;
-        answer == status.parse().unwrap_or(u8::MAX),
-        "{answer}: {case}"
-    );
-    assert!(rt;
-        host.printed.as_slice() == bytes_of(alloc, *printed)?.as_slice(),
-        "{case}"
-    );
-    assert!(rt; has_files(alloc, &host, files)?, "{case}");
-    let made = if has_built(*commands, answer) { 2 } else { 0 };
-    assert!(rt;
-        host.files.len() == files.len().saturating_add(made),
-        "{case}"
-    );
-    Ok(())
+    let has_built = case.commands.starts_with("build ")
+        && (case.status == 0 || case.commands.contains(';'));
+    fields.saturating_add(if has_built { 2 } else { 0 })
+}
+
+// Whether a host behind commands that end with this status is as a case has it.
+fn is_behind(
+    alloc: Global,
+    case: Case<'_>,
+    host: &MemoryHost,
+    status: u8,
+) -> Result<bool, AllocError> {
+    let is_told = status == case.status && host.files.len() == file_count(case);
+    Ok(is_told && is_printed(alloc, host, case.printed)? && has_files(alloc, host, case.files)?)
+}
+
+/// Whether a case has its status, prints what it says, and leaves these files: those that were there, as they were, and what a
+/// build has made.
+pub fn holds(alloc: Global, line: &str) -> Result<bool, AllocError> {
+    let case = case_of(line);
+    let mut host = host_of(alloc, case.files, Vec::new(alloc))?;
+    let status = run_all(alloc, case.commands, &mut host)?;
+    is_behind(alloc, case, &host, status)
+}
+
+// Whether the case of a line holds, with the fields that are shared behind its own.
+fn holds_with(alloc: Global, line: &str, shared: &str) -> Result<bool, AllocError> {
+    let case = format!(in alloc; "{line}{shared}")?;
+    holds(alloc, &case)
 }
 
 /// Runs each case of a table, which has so many, with fields that all of them share behind its own.
@@ -190,7 +255,7 @@ pub fn check_all(
     let mut count: u32 = 0;
     for line in table.lines() {
         if !line.is_empty() && !line.starts_with('#') {
-            check(rt, alloc, &format!(in alloc; "{line}{shared}")?)?;
+            assert!(rt; holds_with(alloc, line, shared)?, "{line}");
             count = count.saturating_add(1);
         }
     }

@@ -1,8 +1,9 @@
 //! How far chip and source agree, under a flag before any instruction and after any number of instructions. All that is wanted was
 //! worked out by hand.
 
-use crate::commands::{BUILD, host_behind};
+use crate::commands::{BUILD, holds, host_behind, line_ends};
 use crate::cut_tests::KEY;
+use std::alloc::{AllocError, Global};
 use std::test::Fail as Failure;
 
 // A function that main and the handler call.
@@ -11,63 +12,98 @@ const TWO_COPIES: &str =
 
 const SUM: &str = "void main(void){unsigned char a=200;unsigned char b=100;PORTB=(a+b)>>1;}";
 
+// Whether `agree` runs so many instructions of a text under a script, and prints this.
+fn is_agreed(
+    alloc: Global,
+    instructions: u32,
+    printed: &str,
+    text: &str,
+    script: &str,
+) -> Result<bool, AllocError> {
+    let case = format!(in alloc;
+        "agree a.c a.s {instructions}@0@{printed}@a.c={text}@a.s={script}"
+    )?;
+    holds(alloc, &case)
+}
+
+// How many events agree under a flag before the instruction of this number, if they are three or six.
+fn events_under(alloc: Global, t: u32) -> Result<u32, AllocError> {
+    let script = format!(in alloc; "at {t} INTF")?;
+    if is_agreed(alloc, 2000, "agree 6$", TWO_COPIES, &script)? {
+        Ok(6)
+    } else if is_agreed(alloc, 2000, "agree 3$", TWO_COPIES, &script)? {
+        Ok(3)
+    } else {
+        Ok(0)
+    }
+}
+
 // A flag before each of a thousand instructions: as long as INTCON isn't written it is lost, and from then on the handler runs
 // once.
 #[test]
 fn two_copies_under_a_flag_anywhere(rt: HostRuntime) -> Result<(), Failure> {
-    let alloc = rt.alloc();
     let mut taken = false;
     for t in 0..=1000u32 {
-        let script = format!(in alloc; "at {t} INTF")?;
-        let host = host_behind(&rt, alloc, "agree a.c a.s 2000", TWO_COPIES, &script)?;
-        let printed = host.printed.as_slice();
-        let is_taken = printed == b"agree 6\n".as_slice();
-        assert!(rt;
-            is_taken || (!taken && printed == b"agree 3\n".as_slice()),
-            "a flag at {t}"
-        );
-        taken = is_taken;
+        let events = events_under(rt.alloc(), t)?;
+        assert!(rt; events == 6 || (events == 3 && !taken), "a flag at {t}");
+        taken = events == 6;
     }
     assert!(rt; taken);
     Ok(())
 }
 
-#[test]
-fn a_key_under_forty_ticks(rt: HostRuntime) -> Result<(), Failure> {
-    let alloc = rt.alloc();
+// Forty flags of a timer, one before each five hundredth instruction.
+fn ticks(alloc: Global) -> Result<String, AllocError> {
     let mut script = String::new(alloc);
     for tick in 1..=40u32 {
         script.push_str(&format!(in alloc; "at {} TMR0IF\n", tick.saturating_mul(500))?)?;
     }
-    let host = host_behind(&rt, alloc, "agree a.c a.s 20000", KEY, &script)?;
-    assert!(rt; host.printed.starts_with(b"agree ".as_slice()));
-    assert!(rt; host.printed.iter().filter(|c| **c == b'\n').count() == 1);
+    Ok(script)
+}
+
+#[test]
+fn a_key_under_forty_ticks(rt: HostRuntime) -> Result<(), Failure> {
+    let script = ticks(rt.alloc())?;
+    let host = host_behind(&rt, rt.alloc(), "agree a.c a.s 20000", KEY, &script)?;
+    let printed = host.printed.as_slice();
+    assert!(rt; printed.starts_with(b"agree ".as_slice()) && line_ends(printed) == 1);
     Ok(())
+}
+
+// Whether `sim` prints this after so many instructions, and `agree` that.
+fn is_whole(
+    alloc: Global,
+    instructions: u32,
+    printed: &str,
+    agreed: &str,
+) -> Result<bool, AllocError> {
+    let case = format!(in alloc;
+        "{BUILD};sim a.hex a.map a.s {instructions}@0@{printed}@a.c={SUM}@a.s="
+    )?;
+    Ok(holds(alloc, &case)? && is_agreed(alloc, instructions, agreed, SUM, "")?)
+}
+
+// How many events the chip makes in so many instructions, where `agree` tells as many: none, the write, or the end behind it.
+fn events_within(alloc: Global, instructions: u32) -> Result<Option<u32>, AllocError> {
+    if is_whole(alloc, instructions, "", "agree 0$")? {
+        Ok(Some(0))
+    } else if is_whole(alloc, instructions, "W PORTB 96$", "agree 1$")? {
+        Ok(Some(1))
+    } else if is_whole(alloc, instructions, "W PORTB 96$End$", "agree 2$")? {
+        Ok(Some(2))
+    } else {
+        Ok(None)
+    }
 }
 
 // `agree` tells as many events as `sim` prints, however far the chip runs.
 #[test]
 fn as_many_events_as_the_chip_makes(rt: HostRuntime) -> Result<(), Failure> {
-    let alloc = rt.alloc();
-    let whole = b"W PORTB 96\nEnd\n".as_slice();
-    let mut longest: usize = 0;
+    let mut longest = None;
     for instructions in 0..=300u32 {
-        let commands = format!(in alloc; "{BUILD};sim a.hex a.map a.s {instructions}")?;
-        let chip = host_behind(&rt, alloc, &commands, SUM, "")?;
-        assert!(rt;
-            whole.starts_with(&chip.printed),
-            "{instructions} instructions"
-        );
-        longest = chip.printed.len();
-        let lines = chip.printed.iter().filter(|c| **c == b'\n').count();
-        let commands = format!(in alloc; "agree a.c a.s {instructions}")?;
-        let host = host_behind(&rt, alloc, &commands, SUM, "")?;
-        let wanted = format!(in alloc; "agree {lines}\n")?;
-        assert!(rt;
-            host.printed.as_slice() == wanted.as_bytes(),
-            "{instructions} instructions"
-        );
+        longest = events_within(rt.alloc(), instructions)?;
+        assert!(rt; longest.is_some(), "{instructions} instructions");
     }
-    assert!(rt; longest == whole.len());
+    assert!(rt; longest == Some(2));
     Ok(())
 }

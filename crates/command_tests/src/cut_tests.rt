@@ -1,8 +1,7 @@
 //! A text that was cut off after each of its bytes: what is reported of it follows from the line in which the cut lies.
 
-use crate::commands::{BUILD, host_with, run};
+use crate::commands::{BUILD, holds, line_ends};
 use std::alloc::{AllocError, Global};
-use std::process::Abort;
 use std::test::Fail as Failure;
 
 /// A key with a pause against its bouncing, and a timer.
@@ -88,38 +87,28 @@ fn reported(alloc: Global, fault: &str, number: usize) -> Result<String, AllocEr
     }
 }
 
-fn check_cut(rt: &impl Abort, alloc: Global, cut: &str) -> Result<(), AllocError> {
-    let front = cut.as_bytes().trim_ascii_end();
-    let ends = front.iter().filter(|c| **c == b'\n').count();
-    let number = ends.saturating_add(1);
-    let fault = fault_of(KEY.as_bytes(), front, number);
-    let text = reported(alloc, fault, number)?;
-    let mut host = host_with(alloc, cut, "")?;
-    let status = run(alloc, BUILD, &mut host)?;
-    let length = cut.len();
-    assert!(rt;
-        host.printed.as_slice() == text.as_bytes(),
-        "{length} bytes"
-    );
-    assert!(rt;
-        status == if fault.is_empty() { 0 } else { 1 },
-        "{length} bytes"
-    );
-    assert!(rt;
-        host.files.len() == if fault.is_empty() { 4 } else { 2 },
-        "{length} bytes"
-    );
-    Ok(())
+// Whether a build of the front of a text ends as it must.
+fn is_told(alloc: Global, front: &str) -> Result<bool, AllocError> {
+    let read = front.as_bytes().trim_ascii_end();
+    let number = line_ends(read).saturating_add(1);
+    let fault = fault_of(KEY.as_bytes(), read, number);
+    let status: u8 = if fault.is_empty() { 0 } else { 1 };
+    let printed = reported(alloc, fault, number)?;
+    let case = format!(in alloc; "{BUILD}@{status}@{printed}@a.c={front}@a.s=")?;
+    holds(alloc, &case)
+}
+
+fn is_told_behind(alloc: Global, length: usize) -> Result<bool, AllocError> {
+    match KEY.get(..length) {
+        Some(front) => is_told(alloc, front),
+        None => Ok(false),
+    }
 }
 
 #[test]
 fn a_text_is_cut_anywhere(rt: HostRuntime) -> Result<(), Failure> {
-    let alloc = rt.alloc();
     for length in 0..=KEY.len() {
-        match KEY.get(..length) {
-            Some(cut) => check_cut(&rt, alloc, cut)?,
-            None => assert!(rt; false, "{length} bytes"),
-        }
+        assert!(rt; is_told_behind(rt.alloc(), length)?, "{length} bytes");
     }
     Ok(())
 }

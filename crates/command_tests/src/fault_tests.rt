@@ -4,11 +4,11 @@
 //! them.
 
 use crate::commands::{
-    BUILD, LED, bytes_of, has_files, host_behind, host_of, is_same_file, run_all,
+    BUILD, Case, LED, case_of, cut, has_files, host_behind, host_of, is_printed, is_same_file,
+    run_all,
 };
 use host_io::{Fail, MemoryHost};
 use std::alloc::{AllocError, Global};
-use std::process::Abort;
 use std::test::Fail as Failure;
 
 const BUILDING: &str = "\
@@ -26,18 +26,23 @@ gen 1@0@unsigned char s;$unsigned char f0(unsigned char x){return x+0;}$void mai
 gen 2@0@unsigned char s;$unsigned char f0(unsigned char x){return x+0;}$unsigned char f1(unsigned char x){return x+1;}$void main(void){unsigned char x;$x=PORTB;$x=f0(x);$x=f1(x);$PORTC=x;$}$/* gen 2: words 316 ram 14 depth 1 */$@
 ";
 
-/// A case, cut at its marks.
+/// What a run shows of which one call was to fail.
 #[derive(Clone, Copy)]
-struct Faulted<'a> {
-    commands: &'a str,
-    status: u8,
-    reports: &'a str,
-    files: &'a [&'a str],
+enum Outcome {
+    /// It is as if nothing failed: there is no call of that number.
+    Whole,
+    /// The report of a file is printed.
+    Reported,
+    /// A front of what is wanted is printed.
+    Front,
+    Wrong,
 }
 
-/// How many calls a case makes, and how many of them, where they fail, leave a front of what is wanted.
+/// How many calls a case makes, and how many of them, where they fail, leave a front of what is wanted. Where something is wrong,
+/// `calls` is the number of the call.
 #[derive(Clone, Copy)]
 struct Faults {
+    is_right: bool,
     calls: u64,
     fronts: u32,
 }
@@ -51,14 +56,31 @@ fn is_line(printed: &[u8], text: &str) -> bool {
 }
 
 fn is_report(printed: &[u8], reports: &str) -> bool {
-    reports.split('|').any(|text| is_line(printed, text))
+    for text in reports.split('|') {
+        if is_line(printed, text) {
+            return true;
+        }
+    }
+    false
+}
+
+fn has_line(told: &[u8], text: &str) -> bool {
+    for line in told.split(|c| *c == b'\n') {
+        if line == text.as_bytes() {
+            return true;
+        }
+    }
+    false
 }
 
 // Whether each report is one of these lines.
 fn are_told(told: &[u8], reports: &str) -> bool {
-    reports.split('|').all(|text| told
-        .split(|c| *c == b'\n')
-        .any(|line| line == text.as_bytes()))
+    for text in reports.split('|') {
+        if !has_line(told, text) {
+            return false;
+        }
+    }
+    true
 }
 
 // Whether the host has no file of this name, or the front of the other's.
@@ -70,118 +92,163 @@ fn is_front(host: &MemoryHost, whole: &MemoryHost, name: &str) -> bool {
     }
 }
 
-// The host behind a case of which this call fails, and the status.
-fn host_at(alloc: Global, case: Faulted<'_>, call: u64) -> Result<(MemoryHost, u8), AllocError> {
-    let mut host = host_of(alloc, case.files, vec![in alloc; Fail::Call(call)]?)?;
-    let status = run_all(alloc, case.commands, &mut host)?;
+// The host behind commands of which one call fails, and the status.
+fn host_at(
+    alloc: Global,
+    commands: &str,
+    files: &str,
+    fail: Fail,
+) -> Result<(MemoryHost, u8), AllocError> {
+    let mut host = host_of(alloc, files, vec![in alloc; fail]?)?;
+    let status = run_all(alloc, commands, &mut host)?;
     Ok((host, status))
+}
+
+// What is shown by a status and what was printed.
+fn shown(printed: &[u8], status: u8, case: Case<'_>, whole: &[u8], reports: &str) -> Outcome {
+    if status == case.status {
+        if printed == whole {
+            Outcome::Whole
+        } else {
+            Outcome::Wrong
+        }
+    } else if status != 3 {
+        Outcome::Wrong
+    } else if is_report(printed, reports) {
+        Outcome::Reported
+    } else if whole.starts_with(printed) {
+        Outcome::Front
+    } else {
+        Outcome::Wrong
+    }
+}
+
+// What is shown where the files that are there stay, and others are fronts.
+fn shown_by(
+    alloc: Global,
+    host: &MemoryHost,
+    status: u8,
+    case: Case<'_>,
+    whole: &MemoryHost,
+    reports: &str,
+) -> Result<Outcome, AllocError> {
+    let are_fronts = is_front(host, whole, "a.hex") && is_front(host, whole, "a.map");
+    if are_fronts && has_files(alloc, host, case.files)? {
+        let printed = host.printed.as_slice();
+        Ok(shown(printed, status, case, &whole.printed, reports))
+    } else {
+        Ok(Outcome::Wrong)
+    }
+}
+
+// The same of a run of which this call fails. What a report prints is added to what was told.
+fn shown_at(
+    alloc: Global,
+    case: Case<'_>,
+    call: u64,
+    whole: &MemoryHost,
+    reports: &str,
+    told: &mut Vec<u8>,
+) -> Result<Outcome, AllocError> {
+    let (host, status) = host_at(alloc, case.commands, case.files, Fail::Call(call))?;
+    let shown = shown_by(alloc, &host, status, case, whole, reports)?;
+    if let Outcome::Reported = shown {
+        told.extend_from_slice(&host.printed)?;
+    }
+    Ok(shown)
 }
 
 // Each call fails in turn, up to a run in which none does. The files that are there stay, others are fronts, and nothing is printed
 // but a front of what is wanted, or one of the reports. Each of these comes.
-fn faults_of(
-    rt: &impl Abort,
+fn faults_within(
     alloc: Global,
-    case: Faulted<'_>,
+    case: Case<'_>,
     whole: &MemoryHost,
+    reports: &str,
 ) -> Result<Faults, AllocError> {
-    let commands = case.commands;
     let mut told = Vec::new(alloc);
-    let mut fronts: u32 = 0;
+    let mut faults = Faults {
+        is_right: false,
+        calls: 0,
+        fronts: 0,
+    };
     for calls in 0..200u64 {
-        let (host, status) = host_at(alloc, case, calls)?;
-        let printed = host.printed.as_slice();
-        assert!(rt;
-            has_files(alloc, &host, case.files)?,
-            "call {calls} of {commands}"
-        );
-        assert!(rt;
-            is_front(&host, whole, "a.hex"),
-            "the HEX at call {calls} of {commands}"
-        );
-        assert!(rt;
-            is_front(&host, whole, "a.map"),
-            "the map at call {calls} of {commands}"
-        );
-        if status == case.status {
-            assert!(rt; printed == whole.printed.as_slice(), "{commands}");
-            assert!(rt; are_told(&told, case.reports), "{commands}");
-            return Ok(Faults { calls, fronts });
-        }
-        assert!(rt; status == 3, "call {calls} of {commands}");
-        if is_report(printed, case.reports) {
-            told.extend_from_slice(printed)?;
-        } else {
-            assert!(rt;
-                whole.printed.starts_with(printed),
-                "call {calls} of {commands}"
-            );
-            fronts = fronts.saturating_add(1);
+        faults.calls = calls;
+        match shown_at(alloc, case, calls, whole, reports, &mut told)? {
+            Outcome::Reported => {}
+            Outcome::Front => faults.fronts = faults.fronts.saturating_add(1),
+            Outcome::Whole => {
+                faults.is_right = are_told(&told, reports);
+                return Ok(faults);
+            }
+            Outcome::Wrong => return Ok(faults),
         }
     }
-    assert!(rt; false, "some call of {commands} is the last");
-    Ok(Faults { calls: 0, fronts })
+    // some call is the last
+    Ok(faults)
 }
 
-fn check_faults(rt: &impl Abort, alloc: Global, case: &str) -> Result<Faults, AllocError> {
-    let fields: Vec<&str> = case.split('@').collect(alloc)?;
-    let [commands, status, printed, reports, files @ ..] = fields.as_slice() else {
-        assert!(rt; false, "{case}");
-        return Ok(Faults {
+// The faults of a line's case. Where nothing fails, it has its status, and prints what it says.
+fn faults_of(alloc: Global, line: &str) -> Result<Faults, AllocError> {
+    let case = case_of(line);
+    let (reports, files) = cut(case.files);
+    let case = Case { files, ..case };
+    let mut whole = host_of(alloc, files, Vec::new(alloc))?;
+    let status = run_all(alloc, case.commands, &mut whole)?;
+    if status == case.status && is_printed(alloc, &whole, case.printed)? {
+        faults_within(alloc, case, &whole, reports)
+    } else {
+        Ok(Faults {
+            is_right: false,
             calls: 0,
             fronts: 0,
-        });
-    };
-    let mut whole = host_of(alloc, files, Vec::new(alloc))?;
-    let answer = run_all(alloc, *commands, &mut whole)?;
-    assert!(rt;
-        answer == status.parse().unwrap_or(u8::MAX),
-        "{answer}: {case}"
-    );
-    assert!(rt;
-        whole.printed.as_slice() == bytes_of(alloc, *printed)?.as_slice(),
-        "{case}"
-    );
-    let faulted = Faulted {
-        commands: *commands,
-        status: answer,
-        reports: *reports,
-        files,
-    };
-    faults_of(rt, alloc, faulted, &whole)
+        })
+    }
 }
 
 #[test]
 fn each_fault_ends_each_command(rt: HostRuntime) -> Result<(), Failure> {
     let alloc = rt.alloc();
-    let building = check_faults(&rt, alloc, BUILDING)?;
-    assert!(rt; building.calls > 5, "the calls of a build");
-    // the printing of both lines fails, one by one
-    let dividing = check_faults(&rt, alloc, DIVIDING)?;
+    let building = faults_of(alloc, BUILDING)?;
     assert!(rt;
-        dividing.calls > 8 && dividing.fronts == 2,
+        building.is_right && building.calls > 5,
+        "the calls of a build"
+    );
+    // the printing of both lines fails, one by one
+    let dividing = faults_of(alloc, DIVIDING)?;
+    assert!(rt;
+        dividing.is_right && dividing.calls > 8 && dividing.fronts == 2,
         "the calls of a trace"
     );
     let mut count: u32 = 0;
-    for case in OTHERS.lines() {
-        check_faults(&rt, alloc, case)?;
+    for line in OTHERS.lines() {
+        let Faults {
+            is_right,
+            calls,
+            ..
+        } = faults_of(alloc, line)?;
+        assert!(rt; is_right, "call {calls} of {line}");
         count = count.saturating_add(1);
     }
     assert!(rt; count == 5, "{count} cases");
     Ok(())
 }
 
+// Whether the host behind a build that can't create the map has the whole build's HEX, and the report.
+fn has_hex_alone(host: &MemoryHost, whole: &MemoryHost) -> bool {
+    is_line(&host.printed, "cannot write a.map") && is_same_file(host, whole, "a.hex")
+}
+
 #[test]
 fn a_map_that_cannot_be_created(rt: HostRuntime) -> Result<(), Failure> {
     let alloc = rt.alloc();
+    let map = Fail::Create(String::from_str(alloc, "a.map")?);
+    let files = "a.c=void main(void){PORTB=5;}";
+    let (host, status) = host_at(alloc, BUILD, files, map)?;
     let whole = host_behind(&rt, alloc, BUILD, LED, "")?;
-    let fails = vec![in alloc; Fail::Create(String::from_str(alloc, "a.map")?)]?;
-    let mut host = host_of(alloc, &["a.c=void main(void){PORTB=5;}"], fails)?;
-    assert!(rt; run_all(alloc, BUILD, &mut host)? == 3, "the status");
     assert!(rt;
-        is_line(&host.printed, "cannot write a.map"),
-        "what is printed"
+        status == 3 && has_hex_alone(&host, &whole),
+        "the status, the report and the HEX"
     );
-    assert!(rt; is_same_file(&host, &whole, "a.hex"), "the HEX");
     Ok(())
 }

@@ -2,6 +2,7 @@
 
 use crate::commands::{host_of, run};
 use picc_cli::generate;
+use std::alloc::{AllocError, Global};
 use std::test::Fail;
 
 const ONE: &str = "unsigned char s;\n\
@@ -22,34 +23,37 @@ x=f1(x);\n\
 PORTC=x;\n\
 }\n";
 
+// Whether this is the text of a program of so many functions.
+fn is_text(alloc: Global, functions: u32, text: &str) -> Result<bool, AllocError> {
+    let generated = generate(alloc, functions)?;
+    Ok(generated.as_slice() == text.as_bytes())
+}
+
 #[test]
 fn programs_of_one_and_two_functions(rt: HostRuntime) -> Result<(), Fail> {
-    assert!(rt;
-        generate(rt.alloc(), 1)?.as_slice() == ONE.as_bytes(),
-        "one"
-    );
-    assert!(rt;
-        generate(rt.alloc(), 2)?.as_slice() == TWO.as_bytes(),
-        "two"
-    );
+    assert!(rt; is_text(rt.alloc(), 1, ONE)?, "one");
+    assert!(rt; is_text(rt.alloc(), 2, TWO)?, "two");
     Ok(())
+}
+
+// Whether `gen` ends with 0 and leaves no file, and what it prints ends with the sizes: main's block and what starts it, and for
+// each function its block and a call.
+fn is_accepted(alloc: Global, functions: u32) -> Result<bool, AllocError> {
+    let words = functions.saturating_mul(92).saturating_add(132);
+    let end = format!(in alloc; "/* gen {functions}: words {words} ram 14 depth 1 */\n")?;
+    let command = format!(in alloc; "gen {functions}")?;
+    let mut host = host_of(alloc, "", Vec::new(alloc))?;
+    let status = run(alloc, &command, &mut host)?;
+    Ok(status == 0 && host.printed.ends_with(end.as_bytes()) && host.files.is_empty())
 }
 
 #[test]
 fn no_generated_program_is_refused(rt: HostRuntime) -> Result<(), Fail> {
-    let alloc = rt.alloc();
     for functions in 1..=64u32 {
-        // main's block and what starts it, and for each function its block and a call
-        let words = functions.saturating_mul(92).saturating_add(132);
-        let end = format!(in alloc; "/* gen {functions}: words {words} ram 14 depth 1 */\n")?;
-        let mut host = host_of(alloc, &[], Vec::new(alloc))?;
-        let status = run(alloc, &format!(in alloc; "gen {functions}")?, &mut host)?;
-        assert!(rt; status == 0, "{functions} functions");
         assert!(rt;
-            host.printed.ends_with(end.as_bytes()),
+            is_accepted(rt.alloc(), functions)?,
             "{functions} functions"
         );
-        assert!(rt; host.files.is_empty(), "{functions} functions");
     }
     Ok(())
 }

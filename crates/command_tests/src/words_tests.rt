@@ -2,7 +2,6 @@
 
 use picc_cli::command::{Command, command_of};
 use std::alloc::{AllocError, Global};
-use std::process::Abort;
 use std::test::Fail as Failure;
 
 // Words, and behind `=` what they ask for, or `none`.
@@ -103,22 +102,26 @@ fn shown(alloc: Global, command: Option<Command<'_>>) -> Result<String, AllocErr
     }
 }
 
-fn check_words(rt: &impl Abort, alloc: Global, line: &str) -> Result<(), AllocError> {
+// Whether the words of a line ask for what stands behind them.
+fn is_asked(alloc: Global, line: &str) -> Result<bool, AllocError> {
     let (words, wanted) = line.split_once('=').unwrap_or((line, ""));
     let words = words_between_bars(alloc, words)?;
     let text = shown(alloc, command_of(alloc, &words)?)?;
-    assert!(rt; text.as_str() == wanted, "{line}");
-    Ok(())
+    Ok(text.as_str() == wanted)
+}
+
+// Whether no words ask for nothing.
+fn is_nothing_asked(alloc: Global) -> Result<bool, AllocError> {
+    let none = Vec::new(alloc);
+    Ok(command_of(alloc, &none)?.is_none())
 }
 
 #[test]
 fn each_form_and_no_other_is_read(rt: HostRuntime) -> Result<(), Failure> {
-    let alloc = rt.alloc();
-    let none = Vec::new(alloc);
-    assert!(rt; command_of(alloc, &none)?.is_none(), "no words");
+    assert!(rt; is_nothing_asked(rt.alloc())?, "no words");
     let mut count: u32 = 0;
     for line in ASKED.lines() {
-        check_words(&rt, alloc, line)?;
+        assert!(rt; is_asked(rt.alloc(), line)?, "{line}");
         count = count.saturating_add(1);
     }
     assert!(rt; count == 60, "{count} cases");

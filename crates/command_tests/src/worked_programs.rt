@@ -1,7 +1,7 @@
 //! Worked programs: their traces, what they do on the chip, and where their objects and frames stand. All that is wanted was worked
 //! out by hand.
 
-use crate::commands::{BUILD, LED, bytes_of, check_all, host_behind, is_same_file};
+use crate::commands::{BUILD, LED, bytes_of, check_all, cut, host_behind, is_same_file, line_ends};
 use host_io::MemoryHost;
 use std::alloc::{AllocError, Global};
 use std::process::Abort;
@@ -81,8 +81,10 @@ fn layout_says_nothing(rt: HostRuntime) -> Result<(), Failure> {
     let wide = "void main(void){TRISB=0;PORTB=5;PORTC=255;TRISE=128; }";
     let host = host_behind(&rt, alloc, BUILD, text, "")?;
     let other = host_behind(&rt, alloc, BUILD, wide, "")?;
-    assert!(rt; is_same_file(&host, &other, "a.hex"), "the HEX");
-    assert!(rt; is_same_file(&host, &other, "a.map"), "the map");
+    assert!(rt;
+        is_same_file(&host, &other, "a.hex") && is_same_file(&host, &other, "a.map"),
+        "the HEX and the map"
+    );
     Ok(())
 }
 
@@ -99,17 +101,11 @@ fn a_map_has_its_lines(rt: HostRuntime) -> Result<(), Failure> {
     let host = host_behind(&rt, rt.alloc(), BUILD, LED, "")?;
     let map = map_of(&host);
     assert!(rt;
-        map.starts_with(b"picc map 1\nmain ".as_slice()),
-        "its first lines"
+        map.starts_with(b"picc map 1\nmain ".as_slice())
+            && map.ends_with(b"\nframe main main 0020 3\nend\n".as_slice()),
+        "its first and its last lines"
     );
-    assert!(rt;
-        map.ends_with(b"\nframe main main 0020 3\nend\n".as_slice()),
-        "its last lines"
-    );
-    assert!(rt;
-        map.iter().filter(|c| **c == b'\n').count() == 5,
-        "the count of its lines"
-    );
+    assert!(rt; line_ends(map) == 5, "the count of its lines");
     Ok(())
 }
 
@@ -127,20 +123,24 @@ fn is_placed(line: &[u8]) -> bool {
         || line.starts_with(b"frame ".as_slice())
 }
 
-fn check_placed(rt: &impl Abort, alloc: Global, case: &str) -> Result<(), AllocError> {
-    let (text, wanted) = case.split_once('@').unwrap_or((case, ""));
-    let host = host_behind(rt, alloc, BUILD, text, "")?;
+// The lines of a map for objects and frames.
+fn placed_lines(alloc: Global, map: &[u8]) -> Result<Vec<u8>, AllocError> {
     let mut lines = Vec::new(alloc);
-    for line in map_of(&host).split(|c| *c == b'\n') {
+    for line in map.split(|c| *c == b'\n') {
         if is_placed(line) {
             lines.extend_from_slice(line)?;
             lines.push(b'\n')?;
         }
     }
-    assert!(rt;
-        lines.as_slice() == bytes_of(alloc, wanted)?.as_slice(),
-        "{case}"
-    );
+    Ok(lines)
+}
+
+fn check_placed(rt: &impl Abort, alloc: Global, case: &str) -> Result<(), AllocError> {
+    let (text, wanted) = cut(case);
+    let wanted = bytes_of(alloc, wanted)?;
+    let host = host_behind(rt, alloc, BUILD, text, "")?;
+    let lines = placed_lines(alloc, map_of(&host))?;
+    assert!(rt; lines.as_slice() == wanted.as_slice(), "{case}");
     Ok(())
 }
 
