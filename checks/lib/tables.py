@@ -19,7 +19,7 @@ def lines_of(table):
 
 
 def files_of(table):
-    """The texts of a table of commands, whose lines have files as their last fields; crates/command_tests/src/commands.rt says how."""
+    """The texts of a table of commands, whose lines have files as their last fields; crates/command_cases/src/lib.rt says how."""
     for line in table.split('\n'):
         for field in line.split('@')[1:]:
             name, _, notation = field.partition('=')

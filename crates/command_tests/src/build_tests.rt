@@ -1,6 +1,6 @@
 //! Builds and refusals: the printed lines, and texts at each limit. Words of blocks and bytes of objects were added up by hand.
 
-use crate::commands::check_all;
+use crate::tables::check_all;
 use std::test::Fail;
 
 const BUILDS: &str = "\

@@ -3,7 +3,8 @@
 
 ghost use Rattle.std.specs.Prelude.{[], None};
 
-use crate::commands::{check_all, host_of, words_of};
+use crate::tables::check_all;
+use command_cases::{host_of, words_of};
 use pic_sim::Board;
 use pic_world::Script;
 use picc_cli::picc;

@@ -1,6 +1,6 @@
 //! Generated programs, written out by hand.
 
-use crate::commands::{host_of, run};
+use command_cases::{host_of, run};
 use picc_cli::generate;
 use std::alloc::{AllocError, Global};
 use std::test::Fail;

@@ -1,5 +1,4 @@
-//! The commands over a host in memory: worked programs with their files, traces, refusals and statuses, hostile files, and a
-//! host of which each call fails in turn.
+//! The commands over a host in memory: worked programs with their files, traces, refusals and statuses, and hostile files.
 //!
 //! In: words, texts and files written out by hand, most of them as the lines of tables. Out: nothing; these are tests.
 #![tactic(auto)]
@@ -9,15 +8,9 @@ mod build_tests;
 #[cfg(test)]
 mod chip_tests;
 #[cfg(test)]
-mod commands;
-#[cfg(test)]
-mod comparison_tests;
-#[cfg(test)]
-mod cut_tests;
-#[cfg(test)]
-mod fault_tests;
-#[cfg(test)]
 mod generating_tests;
+#[cfg(test)]
+mod tables;
 #[cfg(test)]
 mod trace_tests;
 #[cfg(test)]

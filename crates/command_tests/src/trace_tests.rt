@@ -1,6 +1,6 @@
 //! Traces: what each ends in, and how many steps it takes. Events and numbers of steps were worked out by hand.
 
-use crate::commands::check_all;
+use crate::tables::check_all;
 use std::test::Fail;
 
 const ENDS: &str = "\

@@ -1,10 +1,10 @@
 //! Worked programs: their traces, what they do on the chip, and where their objects and frames stand. All that is wanted was worked
 //! out by hand.
 
-use crate::commands::{BUILD, LED, bytes_of, check_all, cut, host_behind, is_same_file, line_ends};
+use crate::tables::check_all;
+use command_cases::{BUILD, LED, bytes_of, cut, host_behind, is_same_file, line_ends};
 use host_io::MemoryHost;
 use std::alloc::{AllocError, Global};
-use std::process::Abort;
 use std::test::Fail as Failure;
 
 const TRACES: &str = "\
@@ -73,16 +73,21 @@ fn programs_on_the_chip(rt: HostRuntime) -> Result<(), Failure> {
     Ok(check_all(&rt, rt.alloc(), ON_THE_CHIP, "", 9)?)
 }
 
+// Whether two texts are built to the same HEX and the same map.
+fn are_built_alike(alloc: Global, text: &str, other: &str) -> Result<bool, AllocError> {
+    let (host, status) = host_behind(alloc, BUILD, text, "")?;
+    let (behind, end) = host_behind(alloc, BUILD, other, "")?;
+    let are_built = status == 0 && end == 0;
+    Ok(are_built && is_same_file(&host, &behind, "a.hex") && is_same_file(&host, &behind, "a.map"))
+}
+
 // A blank more between two tokens changes neither file.
 #[test]
 fn layout_says_nothing(rt: HostRuntime) -> Result<(), Failure> {
-    let alloc = rt.alloc();
     let text = "void main(void){TRISB=0;PORTB=5;PORTC=255;TRISE=128;}";
     let wide = "void main(void){TRISB=0;PORTB=5;PORTC=255;TRISE=128; }";
-    let host = host_behind(&rt, alloc, BUILD, text, "")?;
-    let other = host_behind(&rt, alloc, BUILD, wide, "")?;
     assert!(rt;
-        is_same_file(&host, &other, "a.hex") && is_same_file(&host, &other, "a.map"),
+        are_built_alike(rt.alloc(), text, wide)?,
         "the HEX and the map"
     );
     Ok(())
@@ -98,14 +103,14 @@ fn map_of(host: &MemoryHost) -> &[u8] {
 // Main's frame has the temporary bytes of the assignment: one of the constant, and two of the address.
 #[test]
 fn a_map_has_its_lines(rt: HostRuntime) -> Result<(), Failure> {
-    let host = host_behind(&rt, rt.alloc(), BUILD, LED, "")?;
+    let (host, status) = host_behind(rt.alloc(), BUILD, LED, "")?;
     let map = map_of(&host);
+    let begins = map.starts_with(b"picc map 1\nmain ".as_slice());
+    let ends = map.ends_with(b"\nframe main main 0020 3\nend\n".as_slice());
     assert!(rt;
-        map.starts_with(b"picc map 1\nmain ".as_slice())
-            && map.ends_with(b"\nframe main main 0020 3\nend\n".as_slice()),
-        "its first and its last lines"
+        status == 0 && begins && ends && line_ends(map) == 5,
+        "its lines"
     );
-    assert!(rt; line_ends(map) == 5, "the count of its lines");
     Ok(())
 }
 
@@ -135,20 +140,19 @@ fn placed_lines(alloc: Global, map: &[u8]) -> Result<Vec<u8>, AllocError> {
     Ok(lines)
 }
 
-fn check_placed(rt: &impl Abort, alloc: Global, case: &str) -> Result<(), AllocError> {
+// Whether a text is built, and objects and frames stand where the case has them.
+fn is_case_placed(alloc: Global, case: &str) -> Result<bool, AllocError> {
     let (text, wanted) = cut(case);
-    let wanted = bytes_of(alloc, wanted)?;
-    let host = host_behind(rt, alloc, BUILD, text, "")?;
+    let (host, status) = host_behind(alloc, BUILD, text, "")?;
     let lines = placed_lines(alloc, map_of(&host))?;
-    assert!(rt; lines.as_slice() == wanted.as_slice(), "{case}");
-    Ok(())
+    Ok(status == 0 && lines.as_slice() == bytes_of(alloc, wanted)?.as_slice())
 }
 
 #[test]
 fn where_objects_and_frames_stand(rt: HostRuntime) -> Result<(), Failure> {
     let mut count: u32 = 0;
     for case in PLACED.lines() {
-        check_placed(&rt, rt.alloc(), case)?;
+        assert!(rt; is_case_placed(rt.alloc(), case)?, "{case}");
         count = count.saturating_add(1);
     }
     assert!(rt; count == 3, "{count} cases");

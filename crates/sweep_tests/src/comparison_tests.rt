@@ -1,8 +1,8 @@
 //! How far chip and source agree, under a flag before any instruction and after any number of instructions. All that is wanted was
 //! worked out by hand.
 
-use crate::commands::{BUILD, holds, host_behind, line_ends};
 use crate::cut_tests::KEY;
+use command_cases::{BUILD, holds_on, host_behind, line_ends};
 use std::alloc::{AllocError, Global};
 use std::test::Fail as Failure;
 
@@ -12,26 +12,12 @@ const TWO_COPIES: &str =
 
 const SUM: &str = "void main(void){unsigned char a=200;unsigned char b=100;PORTB=(a+b)>>1;}";
 
-// Whether `agree` runs so many instructions of a text under a script, and prints this.
-fn is_agreed(
-    alloc: Global,
-    instructions: u32,
-    printed: &str,
-    text: &str,
-    script: &str,
-) -> Result<bool, AllocError> {
-    let case = format!(in alloc;
-        "agree a.c a.s {instructions}@0@{printed}@a.c={text}@a.s={script}"
-    )?;
-    holds(alloc, &case)
-}
-
 // How many events agree under a flag before the instruction of this number, if they are three or six.
 fn events_under(alloc: Global, t: u32) -> Result<u32, AllocError> {
     let script = format!(in alloc; "at {t} INTF")?;
-    if is_agreed(alloc, 2000, "agree 6$", TWO_COPIES, &script)? {
+    if holds_on(alloc, "agree a.c a.s 2000@0@agree 6$", TWO_COPIES, &script)? {
         Ok(6)
-    } else if is_agreed(alloc, 2000, "agree 3$", TWO_COPIES, &script)? {
+    } else if holds_on(alloc, "agree a.c a.s 2000@0@agree 3$", TWO_COPIES, &script)? {
         Ok(3)
     } else {
         Ok(0)
@@ -64,9 +50,10 @@ fn ticks(alloc: Global) -> Result<String, AllocError> {
 #[test]
 fn a_key_under_forty_ticks(rt: HostRuntime) -> Result<(), Failure> {
     let script = ticks(rt.alloc())?;
-    let host = host_behind(&rt, rt.alloc(), "agree a.c a.s 20000", KEY, &script)?;
+    let (host, status) = host_behind(rt.alloc(), "agree a.c a.s 20000", KEY, &script)?;
     let printed = host.printed.as_slice();
-    assert!(rt; printed.starts_with(b"agree ".as_slice()) && line_ends(printed) == 1);
+    let is_told = printed.starts_with(b"agree ".as_slice()) && line_ends(printed) == 1;
+    assert!(rt; status == 0 && is_told);
     Ok(())
 }
 
@@ -77,10 +64,9 @@ fn is_whole(
     printed: &str,
     agreed: &str,
 ) -> Result<bool, AllocError> {
-    let case = format!(in alloc;
-        "{BUILD};sim a.hex a.map a.s {instructions}@0@{printed}@a.c={SUM}@a.s="
-    )?;
-    Ok(holds(alloc, &case)? && is_agreed(alloc, instructions, agreed, SUM, "")?)
+    let run = format!(in alloc; "{BUILD};sim a.hex a.map a.s {instructions}@0@{printed}")?;
+    let compared = format!(in alloc; "agree a.c a.s {instructions}@0@{agreed}")?;
+    Ok(holds_on(alloc, &run, SUM, "")? && holds_on(alloc, &compared, SUM, "")?)
 }
 
 // How many events the chip makes in so many instructions, where `agree` tells as many: none, the write, or the end behind it.

@@ -1,9 +1,12 @@
-//! Commands over a host in memory, and tables of them.
+//! Commands over a host in memory, and cases of them as lines of tables. The crates of tests above share them.
+//!
+//! In: commands, and lines of tables. Out: the host behind a command and its status, and whether a case holds.
 //!
 //! A table is a text with a case on each line, but for empty lines and those that begin with `#`. A case has `@` between its fields: the
 //! command, or two with `;` between them, of which the first is a build that ends with 0; the status; what is printed; and the
 //! files that are there, each as its name, `=` and its content. In these `$` ends a line, and between two '`' stand a count,
 //! `*` and what is repeated so often.
+#![tactic(auto)]
 
 ghost use Rattle.std.specs.Prelude.{◌≡◌, IfOk};
 ghost use Rattle.host_io.specs.Host.{Closed};
@@ -14,7 +17,6 @@ use pic_sim::{Board, ScriptBoard};
 use picc_cli::picc;
 use std::alloc::{AllocError, Global};
 use std::collections::BTreeMap;
-use std::process::Abort;
 
 /// A build.
 pub const BUILD: &str = "build a.c a.hex a.map";
@@ -164,18 +166,16 @@ fn host_with(alloc: Global, text: &str, script: &str) -> Result<MemoryHost, Allo
     host_of(alloc, &files, Vec::new(alloc))
 }
 
-/// The host behind commands on a text and a script, which end with 0.
+/// The host behind commands on a text and a script, and the status.
 pub fn host_behind(
-    rt: &impl Abort,
     alloc: Global,
     commands: &str,
     text: &str,
     script: &str,
-) -> Result<MemoryHost, AllocError> {
+) -> Result<(MemoryHost, u8), AllocError> {
     let mut host = host_with(alloc, text, script)?;
     let status = run_all(alloc, commands, &mut host)?;
-    assert!(rt; status == 0, "{status} of {commands} on {text}");
-    Ok(host)
+    Ok((host, status))
 }
 
 /// A case, cut at its marks.
@@ -238,27 +238,14 @@ pub fn holds(alloc: Global, line: &str) -> Result<bool, AllocError> {
     is_behind(alloc, case, &host, status)
 }
 
-// Whether the case of a line holds, with the fields that are shared behind its own.
-fn holds_with(alloc: Global, line: &str, shared: &str) -> Result<bool, AllocError> {
+/// Whether the case of a line holds, with the fields that are shared behind its own.
+pub fn holds_with(alloc: Global, line: &str, shared: &str) -> Result<bool, AllocError> {
     let case = format!(in alloc; "{line}{shared}")?;
     holds(alloc, &case)
 }
 
-/// Runs each case of a table, which has so many, with fields that all of them share behind its own.
-pub fn check_all(
-    rt: &impl Abort,
-    alloc: Global,
-    table: &str,
-    shared: &str,
-    cases: u32,
-) -> Result<(), AllocError> {
-    let mut count: u32 = 0;
-    for line in table.lines() {
-        if !line.is_empty() && !line.starts_with('#') {
-            assert!(rt; holds_with(alloc, line, shared)?, "{line}");
-            count = count.saturating_add(1);
-        }
-    }
-    assert!(rt; count == cases, "{count} cases");
-    Ok(())
+/// Whether a case holds on this text and this script: what is asked are its command, its status, and what is printed.
+pub fn holds_on(alloc: Global, asked: &str, text: &str, script: &str) -> Result<bool, AllocError> {
+    let line = format!(in alloc; "{asked}@a.c={text}@a.s={script}")?;
+    holds(alloc, &line)
 }

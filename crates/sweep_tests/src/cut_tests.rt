@@ -1,6 +1,6 @@
 //! A text that was cut off after each of its bytes: what is reported of it follows from the line in which the cut lies.
 
-use crate::commands::{BUILD, holds, line_ends};
+use command_cases::{BUILD, holds_on, line_ends};
 use std::alloc::{AllocError, Global};
 use std::test::Fail as Failure;
 
@@ -94,8 +94,8 @@ fn is_told(alloc: Global, front: &str) -> Result<bool, AllocError> {
     let fault = fault_of(KEY.as_bytes(), read, number);
     let status: u8 = if fault.is_empty() { 0 } else { 1 };
     let printed = reported(alloc, fault, number)?;
-    let case = format!(in alloc; "{BUILD}@{status}@{printed}@a.c={front}@a.s=")?;
-    holds(alloc, &case)
+    let asked = format!(in alloc; "{BUILD}@{status}@{printed}")?;
+    holds_on(alloc, &asked, front, "")
 }
 
 fn is_told_behind(alloc: Global, length: usize) -> Result<bool, AllocError> {

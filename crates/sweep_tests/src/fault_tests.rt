@@ -3,7 +3,7 @@
 //! A case has one field more than others, behind what is printed: the lines by which its commands report a file, with `|` between
 //! them.
 
-use crate::commands::{
+use command_cases::{
     BUILD, Case, LED, case_of, cut, has_files, host_behind, host_of, is_printed, is_same_file,
     run_all,
 };
@@ -210,45 +210,31 @@ fn faults_of(alloc: Global, line: &str) -> Result<Faults, AllocError> {
 fn each_fault_ends_each_command(rt: HostRuntime) -> Result<(), Failure> {
     let alloc = rt.alloc();
     let building = faults_of(alloc, BUILDING)?;
-    assert!(rt;
-        building.is_right && building.calls > 5,
-        "the calls of a build"
-    );
     // the printing of both lines fails, one by one
     let dividing = faults_of(alloc, DIVIDING)?;
-    assert!(rt;
-        dividing.is_right && dividing.calls > 8 && dividing.fronts == 2,
-        "the calls of a trace"
-    );
+    let are_two = dividing.calls > 8 && dividing.fronts == 2;
+    assert!(rt; building.is_right && building.calls > 5 && dividing.is_right && are_two);
     let mut count: u32 = 0;
     for line in OTHERS.lines() {
-        let Faults {
-            is_right,
-            calls,
-            ..
-        } = faults_of(alloc, line)?;
-        assert!(rt; is_right, "call {calls} of {line}");
+        let faults = faults_of(alloc, line)?;
+        assert!(rt; faults.is_right, "call {} of {line}", faults.calls);
         count = count.saturating_add(1);
     }
-    assert!(rt; count == 5, "{count} cases");
+    assert!(rt; count == 5);
     Ok(())
 }
 
-// Whether the host behind a build that can't create the map has the whole build's HEX, and the report.
-fn has_hex_alone(host: &MemoryHost, whole: &MemoryHost) -> bool {
-    is_line(&host.printed, "cannot write a.map") && is_same_file(host, whole, "a.hex")
+// Whether a build that can't create the map ends with the report, beside the HEX of the whole build.
+fn is_hex_alone(alloc: Global, file: Fail) -> Result<bool, AllocError> {
+    let (host, status) = host_at(alloc, BUILD, "a.c=void main(void){PORTB=5;}", file)?;
+    let (whole, end) = host_behind(alloc, BUILD, LED, "")?;
+    let is_told = status == 3 && is_line(&host.printed, "cannot write a.map");
+    Ok(is_told && end == 0 && is_same_file(&host, &whole, "a.hex"))
 }
 
 #[test]
 fn a_map_that_cannot_be_created(rt: HostRuntime) -> Result<(), Failure> {
-    let alloc = rt.alloc();
-    let map = Fail::Create(String::from_str(alloc, "a.map")?);
-    let files = "a.c=void main(void){PORTB=5;}";
-    let (host, status) = host_at(alloc, BUILD, files, map)?;
-    let whole = host_behind(&rt, alloc, BUILD, LED, "")?;
-    assert!(rt;
-        status == 3 && has_hex_alone(&host, &whole),
-        "the status, the report and the HEX"
-    );
+    let name = String::from_str(rt.alloc(), "a.map")?;
+    assert!(rt; is_hex_alone(rt.alloc(), Fail::Create(name))?);
     Ok(())
 }
