@@ -150,7 +150,7 @@ def crate_lines(top, crate):
 
 
 def is_listed(crate):
-    return not crate.endswith('_tests') or crate == 'spec_tests'
+    return not crate.endswith(('_tests', '_cases')) or crate == 'spec_tests'
 
 
 def unlisted(top):
