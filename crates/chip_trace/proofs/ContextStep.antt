@@ -22,8 +22,8 @@ use Rattle.chip_trace.specs.Arriving.{is_kept}
 use Rattle.chip_trace.proofs.Addresses.{saved_nobody}
 use Rattle.chip_trace.proofs.Fetch.{Ordinary, performs, accesses_are}
 use Rattle.chip_trace.proofs.Image.{nobody_put, Same, IsImage, after, elsewhere, again, words_length, same_length}
-use Rattle.chip_trace.proofs.Ranges.{IsRanged, executed_ranged}
-use Rattle.chip_trace.proofs.Relations.{Ground, Sees, IsOn, IsAt, words, spot}
+use Rattle.pic_chip.proofs.Ranges.{IsRanged, executed_ranged}
+use Rattle.chip_trace.proofs.Relations.{Ground, Sees, IsAt, words, spot}
 use Rattle.chip_trace.proofs.Runs.{inside_steps, due_steps, enters, isr_leaves, isr_cost, due_cost, leave_cost, comes_silent, over, raised, exactly, raised_none}
 use Rattle.chip_trace.proofs.Sound.{IsGood, is_out, is_copy, stand_block}
 use Rattle.chip_trace.proofs.Stands.{IsMain, Mode, InMain, Saving, Selecting, InHandler, Leaving, IsEntered, IsLeft, IsSaved, IsSelected, Vector, main_words, saved, given, like, found, cell, status, saving_ins, restoring_ins, ram_1, ram_2, ram_3, ram_4, IsThere, IsSince}
@@ -47,9 +47,9 @@ use Rattle.sym_code.specs.declared.code.PageBit.{PageBit}
 use Rattle.sym_code.specs.declared.code.PageBit.TheVariants.{Low, High}
 use Rattle.chip_trace.proofs.Context.{saves_on, saves_control, saved_pc, gives_on, gives_control, given_pc, saving_silent, restoring_silent, select_silent, goto_silent, select_done, selected, low_selected, high_selected, swap_twice, set_here, set_there}
 use Rattle.chip_trace.proofs.Fetch.{page_ordinary}
-use Rattle.chip_trace.proofs.Ranges.{entered_ranged}
+use Rattle.pic_chip.proofs.Ranges.{entered_ranged}
 use Rattle.chip_trace.proofs.Relations.{page_row}
-use Rattle.chip_trace.proofs.Stack.{on_push, on_pop}
+use Rattle.pic_chip.proofs.Stack.{IsOn, on_push, on_pop}
 use Rattle.chip_trace.proofs.StatusBits.{packed, unpack}
 
 module _ (g : Setting) (h : Ground) (image input : List ℕ) (hd : ℕ) (x : IsImage g h image input hd) (watch : Watch) (halt_is : watch.halt ≡ h.halt) (e : Entry) (t0 : Machine) (start from to : ℕ) where

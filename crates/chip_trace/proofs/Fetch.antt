@@ -32,7 +32,7 @@ use Rattle.sym_code.specs.declared.code.Sym.TheVariants as syms
 use Rattle.chip_trace.proofs.Effects.{reads_silently}
 use Rattle.chip_trace.proofs.Lock.{sym_locked}
 use Rattle.chip_trace.proofs.Locked.{LockedBy}
-use Rattle.chip_trace.proofs.Ranges.{IsRanged}
+use Rattle.pic_chip.proofs.Ranges.{IsRanged}
 use Rattle.chip_trace.proofs.Relations.{Ground, Means, IsAt, IsPlaced, words, spot, page_row}
 
 -- the model has the instruction, and it is no return from an interrupt

@@ -22,8 +22,9 @@ use Rattle.chip_trace.proofs.Fetch.{LockedAt, locked_at, Ordinary}
 use Rattle.chip_trace.proofs.Image.{IsImage, after, elsewhere, observed_long, put_written, put_apart, words_length, same_length}
 use Rattle.chip_trace.proofs.Locked.{Locked, LockedIf, LockedRead, LockedBy}
 use Rattle.chip_trace.proofs.Past.{IsNear, near, near_apart, IsForeign, IsSomebodys, somebody_apart, somebodys, foreign, gie, ahead_past, ahead_outside, MadeIf, made_case, is_event, longer, inside, good, read_long, read_control, read_inside, silent_somebody, watched_somebody}
-use Rattle.chip_trace.proofs.Ranges.{executed_ranged}
-use Rattle.chip_trace.proofs.Relations.{Ground, IsOn, words, spot}
+use Rattle.pic_chip.proofs.Ranges.{executed_ranged}
+use Rattle.pic_chip.proofs.Stack.{IsOn}
+use Rattle.chip_trace.proofs.Relations.{Ground, words, spot}
 use Rattle.chip_trace.proofs.Runs.{inside_steps, isr_makes, isr_made, isr_cost, comes_silent, over, raised, Extends, exactly, Comes, settled_is, raised_none, step_from, cost_from, makes, same_made, one_cost, rest_cost, comes_loud}
 use Rattle.chip_trace.proofs.Sound.{IsGood, IsSound, IsLeft as IsLeftOver, is_out, sound}
 use Rattle.chip_trace.proofs.Stands.{InHandler, Leaving, IsHandling, IsSaved, main_words, IsSince}

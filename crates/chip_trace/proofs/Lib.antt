@@ -2,7 +2,6 @@ pub mod Runs
 pub mod Effects
 pub mod Sound
 pub mod Past
-pub mod Ranges
 pub mod Addresses
 pub mod Relations
 pub mod Operands
@@ -10,7 +9,6 @@ pub mod Rows
 pub mod Accesses
 pub mod Locked
 pub mod FileLock
-pub mod Stack
 pub mod StatusBits
 pub mod Lock
 pub mod Stands

@@ -46,10 +46,10 @@ use Rattle.chip_trace.proofs.Addresses.{clear_cell}
 use Rattle.chip_trace.proofs.Effects.{access_sound, reads_silently}
 use Rattle.chip_trace.proofs.FileLock as files
 use Rattle.chip_trace.proofs.Locked.{LockedBy, moved_to, next_pc, on_pc, silent}
-use Rattle.chip_trace.proofs.Ranges.{IsRanged}
-use Rattle.chip_trace.proofs.Relations.{Sees, put_in, IsOn, Ground, Reaches, Means, page_row, words, spot, IsAt, IsPlaced, low_of}
+use Rattle.pic_chip.proofs.Ranges.{IsRanged}
+use Rattle.chip_trace.proofs.Relations.{Sees, put_in, Ground, Reaches, Means, page_row, words, spot, IsAt, IsPlaced, low_of}
 use Rattle.chip_trace.proofs.Rows.{change_done, change_notes, test_done, tested}
-use Rattle.chip_trace.proofs.Stack.{on_push, on_pop, after_pop}
+use Rattle.pic_chip.proofs.Stack.{IsOn, on_push, on_pop, after_pop}
 use Rattle.chip_trace.proofs.StatusBits.{Parts, packed, unpack, set_0, clear_0, set_1, clear_1, set_2, clear_2, set_5, clear_5, set_6, clear_6, set_7, clear_7, low_set, low_clear, high_set, high_clear}
 
 module _ (reaches : ℕ → ℕ → Bool) (g : Setting) (h : Ground) (o : Outside) (image : List ℕ) (placed : IsPlaced g h image) (banked : g.banked ≡ true) (laid : IsLaidOut reaches g.program.layout)

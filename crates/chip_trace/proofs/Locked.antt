@@ -12,7 +12,8 @@ use Rattle.sym_code.specs.Programs.{Program, Position, lands, behind, onward}
 use Rattle.sym_code.specs.Registers.{Registers, page}
 use Rattle.chip_trace.proofs.Accesses.{cell_for, cell_by, taken_after, control_after, state_stored, read_taken, read_trace, wrote_taken, wrote_control, wrote_trace}
 use Rattle.chip_trace.proofs.Past.{read_control}
-use Rattle.chip_trace.proofs.Relations.{Sees, put_in, IsOn, Ground, words, IsAt, IsPlaced}
+use Rattle.pic_chip.proofs.Stack.{IsOn}
+use Rattle.chip_trace.proofs.Relations.{Sees, put_in, Ground, words, IsAt, IsPlaced}
 
 module _ (g : Setting) (h : Ground) (o : Outside) where
   -- t: the chip's state s after the instruction; w: the world before it; ev: its events

@@ -25,8 +25,9 @@ use Rattle.chip_trace.proofs.Fetch.{LockedAt, locked_at, Ordinary}
 use Rattle.chip_trace.proofs.Image.{IsImage, after, elsewhere, ending, observed_long, put_written, put_apart, words_length, same_length}
 use Rattle.chip_trace.proofs.Locked.{Locked, LockedIf, LockedRead, LockedBy}
 use Rattle.chip_trace.proofs.Past.{IsNear, near, near_apart, MadeIf, made_case, is_event, longer, inside, good, read_long, read_control, read_inside, silent_somebody, watched_somebody}
-use Rattle.chip_trace.proofs.Ranges.{executed_ranged}
-use Rattle.chip_trace.proofs.Relations.{Ground, Sees, IsOn, words, spot}
+use Rattle.pic_chip.proofs.Ranges.{executed_ranged}
+use Rattle.pic_chip.proofs.Stack.{IsOn}
+use Rattle.chip_trace.proofs.Relations.{Ground, Sees, words, spot}
 use Rattle.chip_trace.proofs.Rested.{rested, words_at, image_at}
 use Rattle.chip_trace.proofs.Runs.{over, raised, Extends, exactly, Comes, settled_is, raised_none, step_from, cost_from, off_steps, main_makes, main_made, main_ends, makes, same_made, main_cost, one_cost, rest_cost, end_cost, comes_main, comes_loud}
 use Rattle.chip_trace.proofs.Sound.{IsGood, IsSound, IsLeft, is_out, sound}

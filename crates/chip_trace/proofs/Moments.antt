@@ -13,7 +13,7 @@ use Rattle.pic_world.specs.Control.{is_due}
 use Rattle.pic_world.specs.Arrivals.{arriving}
 use Rattle.pic_world.specs.declared.Event.TheVariants as events
 use Rattle.chip_trace.proofs.Image.{after}
-use Rattle.chip_trace.proofs.Ranges.{IsRanged, executed_ranged, raised_ranged, entered_ranged}
+use Rattle.pic_chip.proofs.Ranges.{IsRanged, executed_ranged, raised_ranged, entered_ranged}
 
 -- each input is a byte, and so is 0 past the end
 pub inputs_small : (xs : List ℕ) → All (λ byte. byte < 256) xs → (k : ℕ) → slice_index xs k < 256

@@ -1,9 +1,10 @@
 -- How the chip stands at a thread: its registers, its return stack, and what an image has at the places of instructions.
-use Rattle.std.specs.Prelude.{◌≡◌, ℕ, suc, ◌+◌, ◌*◌, ◌/◌, ◌%◌, ◌<◌, true, nat_eq, List, [], ◌∷◌, length, Option, Some, None, slice_index, slice_set}
+use Rattle.std.specs.Prelude.{◌≡◌, ℕ, ◌+◌, ◌*◌, ◌/◌, ◌%◌, ◌<◌, true, nat_eq, List, [], ◌∷◌, length, Option, Some, None, slice_index, slice_set}
 use Rattle.pic_isa.specs.declared.Ins.{Ins}
 use Rattle.pic_isa.specs.declared.Ins.TheVariants as isa
 use Rattle.pic_isa.specs.Lookup.{row_of}
 use Rattle.pic_chip.specs.State.{State}
+use Rattle.pic_chip.proofs.Stack.{IsOn}
 use Rattle.code_place.specs.Instructions.{file_row, bit_row, literal_row, plain_row, bank_row, bit_set}
 use Rattle.sym_code.specs.Effect.{Setting, Thread, Write, literal_value}
 use Rattle.sym_code.specs.Layout.{DataLayout, address_of, saved_address}
@@ -38,12 +39,6 @@ pub record Sees (s : State) (r : Registers) : Type 0 where
 abbrev pub put_in : Option Write → List ℕ → List ℕ
 put_in None ram = ram
 put_in (Some x) ram = slice_set ram x.number x.byte
-
--- ---- the return stack
--- the words stand on it from this level on
-abbrev pub IsOn : List ℕ → ℕ → List ℕ → Type 0
-IsOn stack k [] = Unit {0}
-IsOn stack k (x ∷ xs) = (slice_index stack k ≡ x) × IsOn stack (suc k) xs
 
 -- ---- places
 -- the low seven bits by which an instruction names an operand

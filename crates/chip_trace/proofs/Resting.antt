@@ -23,8 +23,9 @@ use Rattle.chip_trace.proofs.Context.{select_silent, goto_silent, select_done, s
 use Rattle.chip_trace.proofs.Fetch.{Ordinary, page_ordinary, performs, accesses_are}
 use Rattle.chip_trace.proofs.Image.{IsImage, after, again}
 use Rattle.chip_trace.proofs.MainStep.{dear_prices, St, Stepped}
-use Rattle.chip_trace.proofs.Ranges.{executed_ranged}
-use Rattle.chip_trace.proofs.Relations.{Ground, Sees, IsOn, words, spot, page_row}
+use Rattle.pic_chip.proofs.Ranges.{executed_ranged}
+use Rattle.pic_chip.proofs.Stack.{IsOn}
+use Rattle.chip_trace.proofs.Relations.{Ground, Sees, words, spot, page_row}
 use Rattle.chip_trace.proofs.Rested.{rested, words_at, image_at}
 use Rattle.chip_trace.proofs.Stands.{Stands, IsMain, InMain}
 

@@ -21,8 +21,9 @@ use Rattle.sym_code.specs.Registers.{Registers, Fits, bank, page}
 use Rattle.sym_code.specs.declared.code.BlockName.TheVariants.{Copy}
 use Rattle.sym_code.specs.declared.code.PageBit.{PageBit}
 use Rattle.sym_code.specs.declared.code.PageBit.TheVariants.{Low, High}
-use Rattle.chip_trace.proofs.Ranges.{IsRanged}
-use Rattle.chip_trace.proofs.Relations.{Sees, IsOn, Ground, words, spot, IsAt, page_row}
+use Rattle.pic_chip.proofs.Ranges.{IsRanged}
+use Rattle.pic_chip.proofs.Stack.{IsOn}
+use Rattle.chip_trace.proofs.Relations.{Sees, Ground, words, spot, IsAt, page_row}
 use Rattle.chip_trace.proofs.Runs.{Comes, Ahead}
 use Rattle.chip_trace.proofs.Sound.{IsGood}
 use Rattle.chip_trace.proofs.StatusBits.{packed}

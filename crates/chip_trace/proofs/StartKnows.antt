@@ -4,7 +4,7 @@ use Rattle.pic_chip.specs.State.{State}
 use Rattle.pic_world.specs.Bits.{set_bit, clear_bit, truth}
 use Rattle.sym_code.specs.declared.code.BlockName.{BlockName}
 use Rattle.bank_page.specs.declared.known.Known.{Known}
-use Rattle.chip_trace.proofs.Ranges.{IsRanged}
+use Rattle.pic_chip.proofs.Ranges.{IsRanged}
 use Rattle.chip_trace.proofs.StatusBits.{set_5, clear_5, set_6, clear_6, low_set, low_clear, high_set, high_clear}
 use Rattle.chip_trace.proofs.StartRows.{S}
 

@@ -34,7 +34,7 @@ use Rattle.bank_page.specs.Known.{is_bit, seen_after}
 use Rattle.bank_page.specs.Selected.{is_right, has_bank, reaches_byte}
 use Rattle.bank_page.specs.Step.{rp0_of, rp1_of}
 use Rattle.bank_page.specs.declared.known.Known.{Known}
-use Rattle.chip_trace.proofs.Ranges.{IsRanged}
+use Rattle.pic_chip.proofs.Ranges.{IsRanged}
 use Rattle.chip_trace.proofs.Relations.{page_row}
 use Rattle.chip_trace.proofs.Sound.{left_of, right_of}
 use Rattle.chip_trace.proofs.StartKnows as selects

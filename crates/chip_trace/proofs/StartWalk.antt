@@ -26,7 +26,7 @@ use Rattle.chip_trace.specs.Arriving.{IsAssembled}
 use Rattle.chip_trace.proofs.Blocks.{words_append, words_cons, words_behind, get_behind}
 use Rattle.chip_trace.proofs.Moments.{moment_ranged}
 use Rattle.chip_trace.proofs.Placing.{G, H, place_in}
-use Rattle.chip_trace.proofs.Ranges.{IsRanged, raised_ranged}
+use Rattle.pic_chip.proofs.Ranges.{IsRanged, raised_ranged}
 use Rattle.chip_trace.proofs.Relations.{Ground, Means, page_row}
 use Rattle.chip_trace.proofs.Sound.{left_of, right_of}
 use Rattle.chip_trace.proofs.Vectors.{is_image}

@@ -24,7 +24,7 @@ use Rattle.pic_chip.proofs.ChipControl.{control_raised}
 use Rattle.pic_world.specs.Control.{is_enabled}
 use Rattle.pic_world.proofs.ControlLaws.{raised_enabled, disabled_not_due}
 use Rattle.sym_code.specs.declared.code.BlockName.TheVariants.{Copy}
-use Rattle.chip_trace.proofs.Ranges.{raised_ranged}
+use Rattle.pic_chip.proofs.Ranges.{raised_ranged}
 use Rattle.chip_trace.proofs.Resting.{rests_on}
 use Rattle.chip_trace.proofs.ContextStep.{saves, selecting, gives, returns, interrupts}
 use Rattle.chip_trace.proofs.HandlerStep.{handler_step}

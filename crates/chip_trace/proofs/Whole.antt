@@ -31,7 +31,7 @@ use Rattle.chip_trace.specs.Arriving.{arrived_before, IsRunning, IsStarted, outs
 use Rattle.chip_trace.proofs.Image.{IsImage, after, same_length}
 use Rattle.chip_trace.proofs.MainStep.{St, IsClean, Stepped}
 use Rattle.chip_trace.proofs.Moments.{moment_ranged, early_moments, met_at, raised_at, next_is}
-use Rattle.chip_trace.proofs.Ranges.{IsRanged}
+use Rattle.pic_chip.proofs.Ranges.{IsRanged}
 use Rattle.chip_trace.proofs.Relations.{Ground, Sees}
 use Rattle.chip_trace.proofs.Runs.{over, raised, Extends, settled_is, off_steps, act_main}
 use Rattle.chip_trace.proofs.Schedules.{before, off_before, goes_on as schedule_goes_on, none_later, first_later, first_here}

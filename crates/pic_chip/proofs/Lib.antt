@@ -5,3 +5,5 @@ pub mod Done
 pub mod Growth
 pub mod Wanted
 pub mod ChipControl
+pub mod Ranges
+pub mod Stack
