@@ -1,0 +1,7 @@
+pub mod Certificate
+pub mod Facts
+pub mod Valid
+pub mod Depth
+pub mod Marks
+pub mod Search
+pub mod Found

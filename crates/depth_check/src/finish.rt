@@ -1,0 +1,178 @@
+//! From what a search has found to a certificate with its bounds.
+
+ghost use Rattle.std.specs.Prelude.{◌≡◌, ◌≤◌, ◌+◌, length, IfOk, IfSome};
+ghost use Rattle.pic_isa.specs.Table.{IsWellFormed};
+ghost use Rattle.depth_check.specs.Certificate.{seen};
+ghost use Rattle.depth_check.specs.Search.{tables, spot_at as spot_at_of, is_first as is_first_of, position as position_of, with_entry as with_entry_of, entries_of, row_for as row_for_of, rows_from, routine_for as routine_for_of, routines_for, certificate_of, raised_to, raised_by, raised_from, raised};
+
+use crate::check::{call_height, instruction};
+use crate::tables::{Search, Spot};
+use crate::{Heights, Routine, Row};
+use pic_chip::Image;
+use std::alloc::{AllocError, Global};
+
+// The place of a number in a list, and the list's length if it isn't there.
+fn position(n: u16, numbers: &[u16]) -> usize
+    ensures place { result ≡ position_of n numbers.now }
+    ensures within { result ≤ length numbers.now }
+{
+    for i in 0..numbers.len() {
+        if numbers[i] == n {
+            return i;
+        }
+    }
+    numbers.len()
+}
+
+fn with_entry(entries: &mut Vec<u16>, at: u16) -> Result<(), AllocError>
+    ensures { IfOk result (λ nothing. entries.new.items ≡ with_entry_of entries.old.items at) }
+{
+    if position(at, entries) >= entries.len() {
+        entries.push(at)?;
+    }
+    Ok(())
+}
+
+fn is_first(s: &Search, at: u16) -> bool
+    ensures { result ≡ is_first_of at (spot_at_of (tables s.now) at) }
+{
+    match s.spot_at(at) {
+        None => false,
+        Some(spot) => spot.entry == at,
+    }
+}
+
+// The entries of all routines: main's, the handler's where interrupts come, and the others in order of address.
+fn entries(alloc: Global, s: &Search) -> Result<Vec<u16>, AllocError>
+    requires spots { length s.now.spots.items ≡ 8192 }
+    ensures all { IfOk result (λ found. found.items ≡ entries_of (tables s.now)) }
+    ensures few { IfOk result (λ found. length found.items ≤ 8194) }
+{
+    let mut found = Vec::new(alloc);
+    found.push(0)?;
+    if s.interrupts {
+        found.push(4)?;
+    }
+    for at in 0..8192u16 {
+        if is_first(s, at) {
+            with_entry(&mut found, at)?;
+        }
+    }
+    Ok(found)
+}
+
+fn row_for(entries: &[u16], at: u16, spot: Spot) -> Row
+    requires few { length entries.now ≤ 8194 }
+    ensures { result ≡ row_for_of entries.now at spot }
+{
+    Row {
+        at,
+        routine: position(spot.entry, entries) as u16,
+        facts: spot.facts,
+    }
+}
+
+fn rows(alloc: Global, s: &Search, entries: &[u16]) -> Result<Vec<Row>, AllocError>
+    requires spots { length s.now.spots.items ≡ 8192 }
+    requires few { length entries.now ≤ 8194 }
+    ensures { IfOk result (λ rows. rows.items ≡ rows_from entries.now 0 s.now.spots.items) }
+{
+    let mut rows = Vec::new(alloc);
+    for at in 0..8192u16 {
+        if let Some(spot) = s.spot_at(at) {
+            rows.push(row_for(entries, at, spot))?;
+        }
+    }
+    Ok(rows)
+}
+
+fn routine_for(s: &Search, entry: u16) -> Routine
+    ensures { result ≡ routine_for_of (tables s.now) entry }
+{
+    let isr = match s.spot_at(entry) {
+        None => false,
+        Some(spot) => spot.isr,
+    };
+    let (out3, out4) = match s.out_at(entry) {
+        None => (None, None),
+        Some(o) => (o.p3, o.p4),
+    };
+    Routine {
+        entry,
+        isr,
+        bound: 0,
+        out3,
+        out4,
+    }
+}
+
+fn routines(alloc: Global, s: &Search, entries: &[u16]) -> Result<Vec<Routine>, AllocError>
+    ensures { IfOk result (λ found. found.items ≡ routines_for (tables s.now) entries.now) }
+{
+    let mut found = Vec::new(alloc);
+    for i in 0..entries.len() {
+        found.push(routine_for(s, entries[i]))?;
+    }
+    Ok(found)
+}
+
+/// What was found as a certificate, with all bounds 0.
+pub fn certificate(alloc: Global, s: &Search) -> Result<Heights, AllocError>
+    requires spots { length s.now.spots.items ≡ 8192 }
+    ensures { IfOk result (λ h. seen h ≡ certificate_of (tables s.now)) }
+{
+    let entries = entries(alloc, s)?;
+    let rows = rows(alloc, s, &entries)?;
+    let routines = routines(alloc, s, &entries)?;
+    Ok(Heights {
+        interrupts: s.interrupts,
+        cell: s.cell,
+        rows,
+        routines,
+    })
+}
+
+// No bound that counts is as large as 100.
+fn raise_to(h: &mut Heights, n: u16, bound: u16)
+    ensures { seen h.new ≡ raised_to (seen h.old) n bound }
+{
+    if (n as usize) < h.routines.len() {
+        let old = h.routines[n as usize];
+        if (old.bound as u16) < bound && bound < 100 {
+            h.routines[n as usize] = Routine {
+                entry: old.entry,
+                isr: old.isr,
+                bound: bound as u8,
+                out3: old.out3,
+                out4: old.out4,
+            };
+        }
+    }
+}
+
+fn raise_by(image: &Image, h: &mut Heights, row: Row)
+    ensures { seen h.new ≡ raised_by image.now (seen h.old) row }
+{
+    let bound = call_height(h, row, instruction(image, row.at));
+    raise_to(h, row.routine, bound);
+}
+
+// Each row once: its routine's bound is above that of the routine that it calls.
+fn raise(image: &Image, h: &mut Heights)
+    ensures { seen h.new ≡ raised_from image.now (seen h.old) h.old.rows.items }
+{
+    for i in 0..h.rows.len() {
+        let row = h.rows[i];
+        raise_by(image, h, row);
+    }
+}
+
+/// All bounds, where none is above 8.
+#[tactic(auto, unfolding(crate::specs::Search::raised))]
+pub fn raise_all(image: &Image, h: &mut Heights)
+    ensures { seen h.new ≡ raised image.now 9 (seen h.old) }
+{
+    for round in 0..9u16 {
+        raise(image, h);
+    }
+}
