@@ -4,6 +4,8 @@
 # the definitions, and picc_show prints what the checker says. The texts: those of front_tests that the checker takes or refuses, those of
 # examples/ and of checks/cases/, and 200 changed ones from seed 1. `rules.sh COUNT [SEED]` runs so many changed ones, of the texts of all
 # crates of examples.
+# Before that the definition of a program's tokens is run (`program_tokens`, over those of c_token, c_pre and c_parse) on each text of
+# checks/cases/refusals.jsonl: it has to refuse what the case's answer says, on its line, or to give tokens where the answer is another one.
 # PICC_SHOW names a program in place of picc_show; PROCESSES says how many processes work at the same time.
 set -u
 . "$(dirname -- "$0")/lib/common.sh" || exit 1
@@ -11,6 +13,7 @@ if ! command -v python3 >/dev/null; then
     printf '%s: skipped, since python3 is not installed\n' "$script"
     exit 0
 fi
+PYTHONDONTWRITEBYTECODE=1 python3 "$top/checks/lib/tokens.py" "$top/checks/cases/refusals.jsonl" || failed=1
 . "$top/checks/lib/show.sh" || exit 1
 show=${PICC_SHOW:-$(program_of picc_show)}
 [ -x "$show" ] || {
@@ -24,4 +27,5 @@ if [ $# -eq 0 ]; then
 else
     set -- "$top"/crates/*_tests/src/*.rt
 fi
-PYTHONDONTWRITEBYTECODE=1 python3 "$top/checks/lib/rules.py" "$show" "$count" "$seed" "${PROCESSES:-2}" "$@" "$top"/examples/*.c "$top"/checks/cases/*.jsonl
+PYTHONDONTWRITEBYTECODE=1 python3 "$top/checks/lib/rules.py" "$show" "$count" "$seed" "${PROCESSES:-2}" "$@" "$top"/examples/*.c "$top"/checks/cases/*.jsonl || failed=1
+exit $failed

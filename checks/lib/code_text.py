@@ -1,6 +1,6 @@
 """Reads the text that picc_show prints, and makes of it the values that the interpreter of definitions takes: a constructor is a
 tuple with its name first, a list a tuple, a record a Record. The notation's grammar stands at the head of crates/listings."""
-from interpreter import NONE, Record, some
+from library import NONE, Record, some
 
 
 class Line:

@@ -5,9 +5,10 @@ Python when they are first asked for, with all that they use.
     outcome = step(setting, state)
 
 A number is an int, Bool is bool, a list or a pair is a tuple, a constructor is a tuple with its name first, as ('Some', 3) or ('None',), a
-record is a Record, a function a Function. `do` takes the `>>=` of its file. Names of the standard library stand in STANDARD. How many fields the constructors of the
-code's own types have, the sources in src/ say. Clauses are tried in order. Types and declarations of records are skipped; so
-are proofs, which no definition calls. REACHED tells how often each clause was taken: what was never reached was never tried.
+record is a Record, a function a Function; library.py has these, and the definitions of the standard library. `do` takes the `>>=` of its
+file. How many fields the constructors of the code's own types have, the sources in src/ say. Clauses are tried in order. Types and
+declarations of records are skipped; so are proofs, which no definition calls. REACHED tells how often each clause was taken: what was
+never reached was never tried.
 
 Two things make runs of many thousand steps possible, and change no value: the answers of the functions in KEPT are kept, and where one
 of the functions in WRITES makes a memory of another one by writing one byte, it is made as a table and not as a chain of functions.
@@ -18,6 +19,8 @@ import os
 import re
 import sys
 
+from library import CONSTANTS, Function, Memory, Record, STANDARD, applied, rest_of
+
 sys.setrecursionlimit(100000)
 CRATES = os.path.join(os.path.dirname(os.path.abspath(__file__)), '..', '..', 'crates')
 KEPT = {'label_from', 'row_of', 'register_at', 'is_register', 'object_at', 'general_at', 'handler_in', 'main_in', 'bytes_together'}
@@ -25,123 +28,6 @@ KEPT = {'label_from', 'row_of', 'register_at', 'is_register', 'object_at', 'gene
 WRITES = {('src_values', 'with_byte'): 4, ('core_code', 'with_byte'): 3, ('sym_code', 'with_byte'): 3}
 REACHED = {}
 
-
-# ---- values
-class Record:
-    """A record. It is never changed, so its hash is kept."""
-    __slots__ = ('__dict__', '_hash')
-
-    def __init__(self, **fields):
-        self.__dict__.update(fields)
-
-    def updated(self, **fields):
-        made = Record.__new__(Record)
-        made.__dict__.update(self.__dict__)
-        made.__dict__.update(fields)
-        return made
-
-    def __eq__(self, other):
-        return isinstance(other, Record) and self.__dict__ == other.__dict__
-
-    def __hash__(self):
-        try:
-            return self._hash
-        except AttributeError:
-            self._hash = hash(tuple(sorted(self.__dict__.items())))
-            return self._hash
-
-    def __repr__(self):
-        return 'record { ' + '; '.join('%s = %r' % field for field in self.__dict__.items()) + ' }'
-
-
-class Function:
-    """A function of so many arguments, of which it may have some already."""
-    __slots__ = ('count', 'body', 'given')
-
-    def __init__(self, count, body, given=()):
-        self.count, self.body, self.given = count, body, given
-
-    def __call__(self, *arguments):
-        return applied(self, *arguments)
-
-
-def applied(function, *arguments):
-    """A function applied to one argument after the other."""
-    while True:
-        have = function.given + arguments if function.given else arguments
-        count = function.count
-        if len(have) < count:
-            return Function(count, function.body, have)
-        if len(have) == count:
-            return function.body(*have)
-        function, arguments = function.body(*have[:count]), have[count:]
-
-
-class Memory(Function):
-    """A memory as a table. What isn't in the table, the first memory tells."""
-    __slots__ = ('table', 'first')
-
-    def __init__(self, count, table, first):
-        super().__init__(count, self.at if count == 1 else self.at_pair)
-        self.table, self.first = table, first
-
-    def at(self, place):
-        return self.table[place] if place in self.table else self.first(place)
-
-    def at_pair(self, thing, offset):
-        return self.table[thing, offset] if (thing, offset) in self.table else self.first(thing, offset)
-
-    def written(self, *place_and_byte):
-        place, byte = place_and_byte[:-1], place_and_byte[-1]
-        table = dict(self.table)
-        table[place if len(place) > 1 else place[0]] = byte
-        return Memory(self.count, table, self.first)
-
-
-NONE = ('None',)
-
-
-def some(value):
-    return ('Some', value)
-
-
-# ---- the standard library
-def quotient(a, b):
-    """A quotient that is rounded toward zero."""
-    return abs(a) // abs(b) if (a < 0) == (b < 0) else -(abs(a) // abs(b))
-
-
-def replaced(items, at, item):
-    return items[:at] + (item,) + items[at + 1:] if at < len(items) else items
-
-
-CONSTANTS = {'true': True, 'false': False, 'zero': 0, 'None': NONE}
-STANDARD = {
-    'nat_eq': (2, lambda a, b: a == b), 'nat_lt': (2, lambda a, b: a < b), 'nat_le': (2, lambda a, b: a <= b),
-    'eqb': (2, lambda a, b: a == b), 'ltb': (2, lambda a, b: a < b), 'leb': (2, lambda a, b: a <= b),
-    'int_eq': (2, lambda a, b: a == b), 'int_lt': (2, lambda a, b: a < b), 'int_le': (2, lambda a, b: a <= b),
-    'int_div': (2, quotient), 'int_rem': (2, lambda a, b: a - b * quotient(a, b)), 'int_rem_euclid': (2, lambda a, b: a % b),
-    'int_shr': (2, lambda a, b: a >> b), 'neg_ℤ': (1, lambda a: -a), 'unsigned_abs': (1, abs),
-    'pos': (1, lambda n: n), 'negsuc': (1, lambda n: -n - 1), 'suc': (1, lambda n: n + 1),
-    'min': (2, min), 'max': (2, max), 'sum': (1, sum), 'not': (1, lambda b: not b),
-    'bit_or': (2, lambda a, b: a | b), 'bit_and': (2, lambda a, b: a & b), 'bit_xor': (2, lambda a, b: a ^ b),
-    'length': (1, len), 'drop': (2, lambda n, xs: xs[n:]), 'take': (2, lambda n, xs: xs[:n]), 'replicate': (2, lambda n, x: (x,) * n),
-    'slice_get': (2, lambda xs, i: some(xs[i]) if i < len(xs) else NONE),
-    'slice_index': (2, lambda xs, i: xs[i] if i < len(xs) else 0),
-    'slice_index_or': (3, lambda xs, i, other: xs[i] if i < len(xs) else other),
-    'slice_set': (3, replaced), 'bytes_eq': (2, lambda xs, ys: xs == ys), 'codes': (1, lambda text: text),
-    'map': (2, lambda f, xs: tuple(applied(f, x) for x in xs)),
-    'Ok': (1, lambda value: ('Ok', value)), 'Err': (1, lambda error: ('Err', error)),
-    'fold': (3, lambda f, start, xs: functools.reduce(lambda made, x: applied(f, made, x), xs, start)),
-    'prefix_len': (2, lambda f, xs: next((i for i, x in enumerate(xs) if not applied(f, x)), len(xs))),
-    'decimal': (1, lambda n: tuple(str(n).encode())),
-    'Some': (1, some), 'is_some': (1, lambda option: option[0] == 'Some'),
-    'option_to_list': (1, lambda option: option[1:]), 'flat_map': (2, lambda f, xs: sum((applied(f, x) for x in xs), ())),
-    'position': (2, lambda f, xs: next((some(i) for i, x in enumerate(xs) if applied(f, x)), NONE)),
-    'list_any': (2, lambda f, xs: any(applied(f, x) for x in xs)), 'list_all': (2, lambda f, xs: all(applied(f, x) for x in xs)),
-    'get_or': (3, lambda xs, i, other: xs[i] if i < len(xs) else other),
-    'option_map': (2, lambda f, option: some(applied(f, option[1])) if option[0] == 'Some' else NONE),
-}
 
 # ---- tokens
 TOKEN = re.compile(r"""\s*(?:
@@ -508,7 +394,7 @@ def parts_of(text):
 
 
 # ---- translation
-SCOPE = {'applied': applied, 'Record': Record, 'Function': Function}
+SCOPE = {'applied': applied, 'Record': Record, 'Function': Function, 'rest_of': rest_of}
 COUNTS = {}     # how many patterns the clauses of a definition have, by its name in SCOPE
 
 
@@ -579,7 +465,7 @@ def with_answers_kept(function):
     answers, held = {}, []
 
     def kept(*arguments):
-        key = tuple(id(a) if isinstance(a, (Record, Function)) or (isinstance(a, tuple) and len(a) > 6) else a for a in arguments)
+        key = tuple(id(a) if isinstance(a, (Record, Function)) or (isinstance(a, (tuple, Rest)) and len(a) > 6) else a for a in arguments)
         if key not in answers:
             if len(answers) > 20000:
                 answers.clear()
@@ -632,7 +518,7 @@ def match(pattern, value, tests, names):
     elif form == 'more':
         tests.append(value)
         match(pattern[1], value + '[0]', tests, names)
-        match(pattern[2], value + '[1:]', tests, names)
+        match(pattern[2], 'rest_of(%s)' % value, tests, names)
     elif form == 'constructor' and pattern[1] == 'suc':
         tests.append('%s > 0' % value)
         match(pattern[2][0], '(%s - 1)' % value, tests, names)

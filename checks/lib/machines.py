@@ -2,7 +2,8 @@
 run a step at a time, and keeps at which step each event of its trace was made, and what had been counted by then."""
 import functools
 
-from interpreter import Function, Memory, NONE, Record, declared, definition, some, value
+from interpreter import declared, definition, value
+from library import Function, Memory, NONE, Record, some
 
 SOURCE, MEMORY, CORE, SYM, CHIP, WORLD = (
     'Rattle.%s.specs.' % crate for crate in ('src_rules', 'src_memory', 'core_code', 'sym_code', 'pic_chip', 'pic_world'))

@@ -3,7 +3,7 @@ Programs.antt), as values that the interpreter of definitions takes. It knows th
 no limits. It is written apart from the compiler's own parser."""
 import re
 
-from interpreter import NONE, Record, some
+from library import NONE, Record, some
 
 KEYWORDS = ('auto break case char const continue default do else enum for if int interrupt long register return short signed sizeof static struct '
             'switch typedef unsigned void volatile while').split()
