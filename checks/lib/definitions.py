@@ -8,11 +8,11 @@ import subprocess
 import sys
 import tempfile
 from collections import Counter
-from concurrent.futures import ProcessPoolExecutor
 
 from code_text import Shown
 from machines import FLAGS, Chip, Core, Source, Symbolic, layout_of, marked_prices, prices_by
-from interpreter import REACHED, definition
+from interpreter import definition
+from jobs import results, tell_unreached, told
 from links import unfollowed
 import programs
 from tables import texts
@@ -292,29 +292,12 @@ def jobs(show, picc, count, seed, files):
         yield show, picc, 'random program %d' % (seed + at), programs.program(random.Random(seed + at)), seed + at
 
 
-def results(processes, work):
-    """What each job gives, in order. Without processes of their own, what was never reached is told at the end."""
-    if processes > 0:
-        with ProcessPoolExecutor(processes) as pool:
-            yield from pool.map(one, work, chunksize=4)
-        return
-    yield from map(one, work)
-    for name, counts in sorted(REACHED.items()):
-        never = [str(i + 1) for i, n in enumerate(counts) if n == 0]
-        if never:
-            print('definitions: never reached: %s, clause %s of %d' % (name, ' '.join(never), len(counts)))
-
-
 def main():
     show, picc, count, seed, processes = sys.argv[1], sys.argv[2], int(sys.argv[3]), int(sys.argv[4]), int(sys.argv[5])
-    total, differ = Counter(), 0
-    for tally, difference in results(processes, jobs(show, picc, count, seed, sys.argv[6:])):
-        total.update(tally)
-        if difference is not None:
-            differ += 1
-            print('definitions: ' + difference, flush=True)
-    print('definitions: ' + ', '.join('%d %s' % (n, what) for what, n in sorted(total.items())) + ', %d differ' % differ)
-    return 1 if differ else 0
+    status = told('definitions', results(processes, one, jobs(show, picc, count, seed, sys.argv[6:]), 4))
+    if processes == 0:
+        tell_unreached('definitions')
+    return status
 
 
 if __name__ == '__main__':

@@ -19,7 +19,7 @@ import os
 import re
 import sys
 
-from library import CONSTANTS, Function, Memory, Record, STANDARD, applied, rest_of
+from library import CONSTANTS, Function, Memory, Record, Rest, STANDARD, applied, rest_of
 
 sys.setrecursionlimit(100000)
 CRATES = os.path.join(os.path.dirname(os.path.abspath(__file__)), '..', '..', 'crates')

@@ -10,12 +10,11 @@ import re
 import subprocess
 import sys
 import tempfile
-from collections import Counter
-from concurrent.futures import ProcessPoolExecutor
 
 import programs
 from code_text import lines_in, program
-from interpreter import REACHED, definition
+from interpreter import definition
+from jobs import results, tell_unreached, told
 from tables import texts
 from trees import KEYWORDS, NoTree, tokens_of, unit_of
 
@@ -175,29 +174,12 @@ def jobs(show, count, seed, files):
         yield show, 'changed text %d' % (seed + at), changed(text, rng), None
 
 
-def results(processes, work):
-    """What each job gives, in order. Without processes of their own, what was never reached is told at the end."""
-    if processes > 0:
-        with ProcessPoolExecutor(processes) as pool:
-            yield from pool.map(one, work, chunksize=8)
-        return
-    yield from map(one, work)
-    for name, counts in sorted(REACHED.items()):
-        never = [str(i + 1) for i, n in enumerate(counts) if n == 0]
-        if never and 'type_rules' in name:
-            print('rules: never reached: %s, clause %s of %d' % (name, ' '.join(never), len(counts)))
-
-
 def main():
     show, count, seed, processes = sys.argv[1], int(sys.argv[2]), int(sys.argv[3]), int(sys.argv[4])
-    total, differ = Counter(), 0
-    for tally, difference in results(processes, jobs(show, count, seed, sys.argv[5:])):
-        total.update(tally)
-        if difference is not None:
-            differ += 1
-            print('rules: ' + difference, flush=True)
-    print('rules: ' + ', '.join('%d %s' % (n, what) for what, n in sorted(total.items())) + ', %d differ' % differ)
-    return 1 if differ else 0
+    status = told('rules', results(processes, one, jobs(show, count, seed, sys.argv[5:]), 8))
+    if processes == 0:
+        tell_unreached('rules', 'type_rules')
+    return status
 
 
 if __name__ == '__main__':
