@@ -23,8 +23,8 @@ from wrong import UNDEFINED, WRONG, refused_at
 
 # A run has so many moments; fewer where the source goes on while the chip makes no event, as in a loop that waits, since the source runs
 # of a run, one for each stretch between arrivals, are to take about so many micro-steps together.
-MOMENTS, FIRST_MOMENTS = 1000, 250
-MICRO_STEPS = 25000
+MOMENTS, FIRST_MOMENTS, LEAST_MOMENTS = 1000, 250, 100
+MICRO_STEPS, STRETCHES = 25000, 8
 LONG, LONG_AT_REST, LONG_MICRO_STEPS = 8192 + 600, 2 * 8192 + 300, 60000
 BEHIND_REST = 60
 FAR = 10 ** 9
@@ -68,22 +68,22 @@ def random_arrivals(rng, most, last):
     return pairs
 
 
-def moments_for(first, runs):
-    """How many moments a run has in which the source runs so often, by what it took in the first run."""
-    steps = sum(len(source.lengths) for source in first.sources.values())
-    return max(FIRST_MOMENTS, min(MOMENTS, MICRO_STEPS * first.last // (steps * runs)))
+def moments_for(run, runs):
+    """How many moments a run has beside which the source runs so often, by what its one run took beside this one."""
+    steps = len(run.source_at(run.last).lengths)
+    return max(LEAST_MOMENTS, min(MOMENTS, MICRO_STEPS * run.last // (steps * runs)))
 
 
 def without_arrivals(built, rng, inputs, is_long, tally):
-    """The runs in which nothing arrives. The answer is the first one, and the longest of those that aren't long."""
-    first = run = checked(built, rng, inputs, [], FIRST_MOMENTS, tally)
-    steps = len(first.source_at(FIRST_MOMENTS).lengths)
-    if not first.rests:
-        run = checked(built, rng, inputs, [], moments_for(first, 1), tally)
+    """The runs in which nothing arrives. The answer is the longest of those that aren't long."""
+    run = checked(built, rng, inputs, [], FIRST_MOMENTS, tally)
+    steps, more = len(run.source_at(FIRST_MOMENTS).lengths), moments_for(run, 1)
+    if not run.rests and more > FIRST_MOMENTS:
+        run = checked(built, rng, inputs, [], more, tally)
     if run.rests or (is_long and steps * LONG // FIRST_MOMENTS < LONG_MICRO_STEPS):
         checked(built, rng, inputs, [], LONG_AT_REST if run.rests else LONG, tally)
         tally['long runs'] += 1
-    return first, run
+    return run
 
 
 def run_all(built, rng, is_long, tally):
@@ -94,9 +94,9 @@ def run_all(built, rng, is_long, tally):
             raise Fails('%s fails at %r' % (name, place))
     inputs, pairs = random_inputs(rng), []
     try:
-        first, quiet = without_arrivals(built, rng, inputs, is_long, tally)
+        quiet = without_arrivals(built, rng, inputs, is_long, tally)
+        last = moments_for(quiet, STRETCHES)
         for _ in range(1 if built.shown.handler is None else 2):
-            last = moments_for(first, rng.randrange(1, 8))
             pairs = random_arrivals(rng, quiet.busy + BEHIND_REST if quiet.rests else last, last)
             checked(built, rng, inputs, pairs, last, tally)
     except Fails as error:
