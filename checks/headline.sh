@@ -22,6 +22,6 @@ show=${PICC_SHOW:-$(program_of picc_show)}
 count=${1:-10}
 seed=${2:-1}
 # of so many programs one has a long run
-long=4
+long=8
 [ $# -eq 0 ] || long=1
 PYTHONDONTWRITEBYTECODE=1 python3 "$top/checks/lib/headline.py" "$show" "$count" "$seed" "${PROCESSES:-2}" "$long" "$top"/examples/*.c "$top"/bench/kernels/*.c

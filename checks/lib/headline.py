@@ -25,7 +25,9 @@ from wrong import UNDEFINED, WRONG, refused_at
 # of a run, one for each stretch between arrivals, are to take about so many micro-steps together.
 MOMENTS, FIRST_MOMENTS, LEAST_MOMENTS = 1000, 250, 100
 MICRO_STEPS, STRETCHES = 25000, 8
-LONG, LONG_AT_REST, LONG_MICRO_STEPS = 8192 + 600, 2 * 8192 + 300, 60000
+# Long enough for two steps behind a place in the trace, and for three where nothing goes on. A program has none beside which the source
+# would take more micro-steps than this.
+LONG, LONG_AT_REST, LONG_MICRO_STEPS = 3 * 8192 + 300, 4 * 8192 + 300, 80000
 BEHIND_REST = 60
 FAR = 10 ** 9
 
@@ -151,7 +153,7 @@ def jobs(show, count, seed, long, files):
             texts.append((os.path.basename(name), file.read()))
     texts += [('random program %d' % (seed + at), programs.program(random.Random(seed + at))) for at in range(count)]
     for at, (label, text) in enumerate(texts):
-        yield program, show, label, text, seed + at, at % long == 0
+        yield program, show, label, text, seed + at, at % long == long // 2
 
 
 def main():

@@ -17,7 +17,7 @@ UNDEFINED = 'void main(void){unsigned char x;PORTB=3;x=0;x=1/x;PORTC=x;}'
 ENTRIES, BEHIND = range(10, 240), 115
 GOTO, CALL, RETURN, SLEEP, MOVWF_PORTB, NOP = 0x2800, 0x2000, 0x0008, 0x0063, 0x0086, 0x0000
 SWAPF, MOVF, MOVWF, MOVLW = 0x0e00, 0x0800, 0x0080, 0x3000
-STATUS, FSR = 3, 4
+STATUS, FSR, PAGE_WORDS = 3, 4, 2048
 
 # What is wrong, the text, the clause that has to refuse it, what makes the wrong program of the built one, the last moment of its run, and
 # the moments one of which a flag of an interrupt has to arrive at, for runs to be refused; none: nothing arrives.
@@ -38,7 +38,12 @@ def with_line(built, kind, at, **fields):
 
 def at_main(word):
     """Another word where main begins."""
-    return lambda built: with_words(built, {built.content.main: word if word < GOTO and word != CALL else word | built.content.main % 2048})
+    return lambda built: with_words(built, {built.content.main: word})
+
+
+def to_main(jump):
+    """A jump to main, or a call of it, where main begins."""
+    return lambda built: with_words(built, {built.content.main: jump + built.content.main % PAGE_WORDS})
 
 
 def other_literal(byte):
@@ -47,9 +52,9 @@ def other_literal(byte):
 
 
 def places(built, row):
-    """Where words of this row of the instruction table stand that save and restore the handler's context."""
+    """Where words of this row of the instruction table stand in the start block, which saves and restores the handler's context."""
     row_of = definition('Rattle.pic_isa.specs.Lookup', 'row_of')
-    return [at for at, word in enumerate(built.image[:built.content.halt + 40]) if row_of(word)[1] == row]
+    return [at for at, word in enumerate(built.image[:built.content.main]) if row_of(word)[1] == row]
 
 
 def unsaved_pointer(built):
@@ -68,25 +73,26 @@ def status_first(built):
 def strange_frame(built):
     """The handler stores to main's frame where it stored to its own."""
     mains, own = (next(line for line in built.content.frames if line.root == (root,)) for root in ('Main', 'Isr'))
-    first, shown = built.shown.addresses['Copy', built.shown.handler], built.shown
-    block = range(first, first + sum(x[0] != 'Label' for x in shown.selected['Copy', shown.handler]))
-    stores = {at: MOVWF + mains.address for at in block if built.image[at] == MOVWF + own.address}
-    return with_words(built, stores)
+    block = 'Copy', built.shown.handler
+    begin, words = built.shown.addresses[block], sum(x[0] != 'Label' for x in built.shown.selected[block])
+    stores = [at for at in range(begin, begin + words) if built.image[at] == MOVWF + own.address]
+    return with_words(built, dict.fromkeys(stores, MOVWF + mains.address))
 
 
 def over_main(built):
+    """The map has a frame of the handler's root where main's stands."""
     at = next(i for i, line in enumerate(built.content.frames) if line.root == ('Isr',) and line.size)
     return with_line(built, 'frames', at, address=built.content.frames[0].address)
 
 
 WRONG = [
-    Wrong('main jumps to itself', PORT, 'pace', at_main(GOTO), 33000, ()),
+    Wrong('main jumps to itself', PORT, 'pace', to_main(GOTO), 33000, ()),
     Wrong('a literal is one more', PORT, 'prefix', other_literal(5), 100, ()),
     Wrong('FSR is not saved', SUMS, 'prefix', unsaved_pointer, BEHIND, ENTRIES),
     Wrong('STATUS is given back before W', SUMS, 'prefix', status_first, BEHIND, ENTRIES),
     Wrong('a static begins with another byte', STATIC, 'end_state', other_literal(37), 100, ()),
     Wrong('the handler stores to the frame of main', SUMS, 'frames', strange_frame, BEHIND, ENTRIES),
-    Wrong('main calls itself', PORT, 'no_overflow', at_main(CALL), 100, ()),
+    Wrong('main calls itself', PORT, 'no_overflow', to_main(CALL), 100, ()),
     Wrong('main returns', PORT, 'no_underflow', at_main(RETURN), 100, ()),
     Wrong('main is not met', PORT, 'start_up', lambda built: with_words(built, {0: GOTO}), 4096, ()),
     Wrong('a register is stored to at reset', PORT, 'no_early_access', lambda built: with_words(built, {0: MOVWF_PORTB}), 100, ()),
