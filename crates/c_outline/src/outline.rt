@@ -340,13 +340,13 @@ pub fn add_param(
     checker: &mut Checker,
     list: &mut ParamList,
     specified: Specified,
-    outline: Outline,
+    outline: &Outline,
     name: &[u8],
     line: u32,
 ) -> Result<(), CheckError>
-    ensures { Lists result (map param_of list.new.params.items) (known_of checker.new) (rule.param_rule (map param_of list.old.params.items) (specified_of specified) (outline_of outline) name.now line (known_of checker.old)) }
+    ensures { Lists result (map param_of list.new.params.items) (known_of checker.new) (rule.param_rule (map param_of list.old.params.items) (specified_of specified) (outline_of outline.now) name.now line (known_of checker.old)) }
 {
-    let ty = param_type(checker, &outline, name, line)?;
+    let ty = param_type(checker, outline, name, line)?;
     let fixed = is_register(specified.storage);
     let index = list.params.len();
     bind_param(&mut checker.scopes, name, index, ty, fixed)?;
@@ -390,12 +390,12 @@ fn member_type(
 pub fn add_field(
     types: &mut Types,
     structure: usize,
-    outline: Outline,
+    outline: &Outline,
     name: &[u8],
     line: u32,
 ) -> Result<(), CheckError>
-    ensures { (known : Known) → Learns result (types_in types.new known) (rule.member_rule structure (outline_of outline) name.now line (types_in types.old known)) }
+    ensures { (known : Known) → Learns result (types_in types.new known) (rule.member_rule structure (outline_of outline.now) name.now line (types_in types.old known)) }
 {
-    let ty = member_type(types, structure, &outline, name, line)?;
+    let ty = member_type(types, structure, outline, name, line)?;
     types.add_member(structure, name, ty)
 }

@@ -229,7 +229,7 @@ fn field(
     let outline = outline(declarator, checker, specified, false)?;
     let line = declarator_line(declarator);
     let name = &declarator.name.bytes;
-    add_field(&mut checker.types, structure, outline, name, line)
+    add_field(&mut checker.types, structure, &outline, name, line)
 }
 
 /// What a declarator makes of the type that its specifiers say. `bodies` says whether a structure may get
@@ -318,7 +318,7 @@ fn param(
             let outline = param_outlined(&mut checker.types, object, made)?;
             let line = declarator_line(declarator);
             let name = &declarator.name.bytes;
-            add_param(checker, list, specified, outline, name, line)
+            add_param(checker, list, specified, &outline, name, line)
         }
         Param::Unnamed {
             specs,
@@ -330,7 +330,7 @@ fn param(
             let made = self::suffixes(suffixes, checker, bodies)?;
             let object = object(base, specified.incomplete);
             let outline = param_outlined(&mut checker.types, object, made)?;
-            add_param(checker, list, specified, outline, &[], specified.line)
+            add_param(checker, list, specified, &outline, &[], specified.line)
         }
     }
 }
