@@ -319,15 +319,7 @@ impl<'a> Machine<'a> {
                 }
             }
             Stage::Blanks => self.go(Focus::Past),
-            Stage::Tests
-            | Stage::Begins
-            | Stage::Steps
-            | Stage::Turns
-            | Stage::Picks(_)
-            | Stage::InArm(_)
-            | Stage::Chooses
-            | Stage::Fills
-            | Stage::AtItem(_) => Outcome::Lost,
+            _ => Outcome::Lost,
         }
     }
 

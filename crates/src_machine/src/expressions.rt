@@ -145,7 +145,6 @@ impl<'a> Machine<'a> {
     }
 
     // An expression takes a place.
-    #[tactic(auto, using(crate::proofs::Places::no_places))]
     fn found_in(&mut self, expr: &'a TExpr, got: Got, spot: Spot) -> Outcome
         ensures tells { HasRoom 1 self.old → (o : Outside) (w : Worlds Bytes) → silent result self.new w ≡ rules.found_in (setting_of self.old o) (expression_of expr.now) (got_in (expression_of expr.now) got (values_on (waiting self.old))) spot (frames_behind (interrupted_in self.old) (has_values got) (waiting self.old)) self.old.copy (memory_of self.old) w }
         ensures others { self.new ≡ record self.old { stack = self.new.stack; focus = self.new.focus } }
@@ -155,14 +154,7 @@ impl<'a> Machine<'a> {
         match got {
             Got::Nothing => self.found_first(expr, spot),
             Got::At(to) => self.found_second(expr, to, spot),
-            Got::Chosen
-            | Got::One(_)
-            | Got::AtWith(_, _)
-            | Got::Stores(_, _)
-            | Got::Copies
-            | Got::Args(_)
-            | Got::Passed
-            | Got::Called => Outcome::Lost,
+            _ => Outcome::Lost,
         }
     }
 
@@ -211,7 +203,6 @@ impl<'a> Machine<'a> {
     }
 
     // A statement takes a place.
-    #[tactic(auto, using(crate::proofs::Items::no_finds))]
     fn found_for(&mut self, code: Code<'a>, stage: Stage, from: Spot) -> Outcome
         ensures tells { HasRoom 1 self.old → (o : Outside) (w : Worlds Bytes) → silent result self.new w ≡ rules.found_for (setting_of self.old o) (statement_in code.entry) (stage_in (statement_in code.entry) stage) from (stack_of self.old) self.old.copy (memory_of self.old) w }
         ensures others { self.new ≡ record self.old { stack = self.new.stack; focus = self.new.focus } }
@@ -223,16 +214,7 @@ impl<'a> Machine<'a> {
         };
         match stage {
             Stage::AtItem(at) => self.found_item(code, statement, at, from),
-            Stage::Tests
-            | Stage::Begins
-            | Stage::Steps
-            | Stage::Turns
-            | Stage::Picks(_)
-            | Stage::InArm(_)
-            | Stage::Chooses
-            | Stage::Fills
-            | Stage::Items(_)
-            | Stage::Blanks => Outcome::Lost,
+            _ => Outcome::Lost,
         }
     }
 
