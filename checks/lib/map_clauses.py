@@ -92,7 +92,7 @@ def misplaced_object(built):
     taken, line_of = set(), definition(PLACEMENT, 'object_line')
     for static, line in zip(built.program.statics, built.content.objects):
         if line != line_of(built.program, static, line.address) or line.address != place_for(taken, line.size):
-            return bytes(line.name)
+            return 'object', bytes(line.name)
         taken |= bytes_of(line)
     return None
 
@@ -103,7 +103,7 @@ def misplaced_frame(built, calls):
     for at, (copy, line) in enumerate(zip(built.copies, frames)):
         live = [bytes_of(other) for earlier, other in zip(built.copies, frames[:at]) if calls.may_be_live(earlier, copy)]
         if line != line_of(built.program, copy, line.address) or line.address != place_for(objects.union(*live), line.size):
-            return bytes(line.name)
+            return 'frame', bytes(line.name)
     return None
 
 
