@@ -89,6 +89,14 @@ fn kind_name(kind: Undef) -> &'static str {
     }
 }
 
+// What is answered for a program under arrivals, as words.
+fn answered(alloc: Global, program: &Built, arrivals: &[Arrival], n: u32) -> Result<String, Fail>
+    requires compiled { IsCompiled program.now }
+{
+    let script = script_of(alloc, arrivals)?;
+    Ok(shown(alloc, answer(alloc, program, &script, n)?)?)
+}
+
 /// Asks for the answer for a text under arrivals.
 fn check_answer(
     rt: &impl Abort,
@@ -99,10 +107,7 @@ fn check_answer(
     wanted: &str,
 ) -> Result<(), Fail> {
     let program = built(alloc, text)?;
-    let answer = shown(
-        alloc,
-        answer(alloc, &program, &script_of(alloc, arrivals)?, n)?,
-    )?;
+    let answer = answered(alloc, &program, arrivals, n)?;
     assert!(rt; answer.as_str() == wanted, "{answer} for {text}");
     Ok(())
 }
@@ -120,17 +125,23 @@ fn check_at(
     check_answer(rt, alloc, text, &[Arrival { t, flag }], n, wanted)
 }
 
+// Whether the events of the chip are those that are answered, without arrivals.
+fn all_count(alloc: Global, program: &Built, n: u32) -> Result<bool, Fail>
+    requires compiled { IsCompiled program.now }
+{
+    let script = script_of(alloc, &[])?;
+    let run = chip_run(alloc, &program.image, &program.map, &script, n, 0)?;
+    let wanted = format!(in alloc; "same {}", run.events.len())?;
+    let answer = answered(alloc, program, &[], n)?;
+    Ok(answer.as_str() == wanted.as_str())
+}
+
 #[test]
 fn without_arrivals_all_events_count(rt: HostRuntime) -> Result<(), Fail> {
     let alloc = rt.alloc();
     let program = built(alloc, WIDE)?;
-    let script = script_of(alloc, &[])?;
     for n in 0..=300u32 {
-        let run = chip_run(alloc, &program.image, &program.map, &script, n, 0)?;
-        let events = run.events.len();
-        let answer = shown(alloc, answer(alloc, &program, &script, n)?)?;
-        let wanted = format!(in alloc; "same {events}")?;
-        assert!(rt; answer.as_str() == wanted.as_str(), "{n} instructions");
+        assert!(rt; all_count(alloc, &program, n)?, "{n} instructions");
     }
     // the write to PORTB, and the end of main
     check_answer(&rt, alloc, WIDE, &[], 3_000, "same 2")
@@ -149,8 +160,7 @@ fn check_moments(
     let program = built(alloc, text)?;
     for number in 0..=100u32 {
         let t = number.saturating_mul(stride).saturating_add(first);
-        let script = script_of(alloc, &[Arrival { t, flag }])?;
-        let answer = shown(alloc, answer(alloc, &program, &script, 2_000)?)?;
+        let answer = answered(alloc, &program, &[Arrival { t, flag }], 2_000)?;
         assert!(rt; answer.as_str() == wanted, "{answer} at {t} for {text}");
     }
     Ok(())
@@ -167,9 +177,8 @@ fn an_arrival_before_any_instruction(rt: HostRuntime) -> Result<(), Fail> {
     check_moments(&rt, alloc, PERIPHERAL, Flag::Tmr1if, 0, 5, "same 11")
 }
 
-#[test]
-fn a_timer_ticks(rt: HostRuntime) -> Result<(), Fail> {
-    let alloc = rt.alloc();
+// Six flags of a timer, one before each five hundredth instruction.
+fn ticks(alloc: Global) -> Result<Vec<Arrival>, AllocError> {
     let mut arrivals = Vec::new(alloc);
     for number in 1..=6u32 {
         arrivals.push(Arrival {
@@ -177,55 +186,81 @@ fn a_timer_ticks(rt: HostRuntime) -> Result<(), Fail> {
             flag: Flag::Tmr0if,
         })?;
     }
-    let program = built(alloc, KEY)?;
-    let script = script_of(alloc, &arrivals)?;
+    Ok(arrivals)
+}
+
+// How many events the chip makes of a text under arrivals.
+fn events_of(alloc: Global, text: &str, arrivals: &[Arrival], n: u32) -> Result<usize, Fail> {
+    let program = built(alloc, text)?;
+    let script = script_of(alloc, arrivals)?;
+    let run = chip_run(alloc, &program.image, &program.map, &script, n, 0)?;
+    Ok(run.events.len())
+}
+
+#[test]
+fn a_timer_ticks(rt: HostRuntime) -> Result<(), Fail> {
+    let alloc = rt.alloc();
+    let arrivals = ticks(alloc)?;
     // the last arrival calls the handler at 3,000, so the moment before it counts
-    let run = chip_run(alloc, &program.image, &program.map, &script, 2_999, 0)?;
-    let events = run.events.len();
+    let events = events_of(alloc, KEY, &arrivals, 2_999)?;
     assert!(rt; events >= 30);
     let wanted = format!(in alloc; "same {events}")?;
     check_answer(&rt, alloc, KEY, &arrivals, 3_000, &wanted)
+}
+
+// Two flags that aren't enabled come before an instruction, and a third one every 200 of them.
+fn put_flags(arrivals: &mut Vec<Arrival>, t: u32) -> Result<(), AllocError> {
+    let always = [Flag::Rbif, Flag::Tmr0if].as_slice();
+    let at_times = [Flag::Rbif, Flag::Tmr0if, Flag::Intf].as_slice();
+    for flag in if t % 200 == 0 { at_times } else { always } {
+        arrivals.push(Arrival { t, flag: *flag })?;
+    }
+    Ok(())
+}
+
+// The arrivals before each of three thousand instructions.
+fn crowd(alloc: Global) -> Result<Vec<Arrival>, AllocError> {
+    let mut arrivals = Vec::new(alloc);
+    for t in 1_000..4_000u32 {
+        put_flags(&mut arrivals, t)?;
+    }
+    Ok(arrivals)
 }
 
 // Two flags that aren't enabled come before each instruction, and a third one calls the handler every 200 of them.
 #[test]
 fn arrivals_at_each_instruction(rt: HostRuntime) -> Result<(), Fail> {
     let alloc = rt.alloc();
-    let mut arrivals = Vec::new(alloc);
-    let mut calls: u32 = 0;
-    for t in 1_000..4_000u32 {
-        for flag in &[Flag::Rbif, Flag::Tmr0if] {
-            arrivals.push(Arrival { t, flag: *flag })?;
-        }
-        if t % 200 == 0 {
-            arrivals.push(Arrival {
-                t,
-                flag: Flag::Intf,
-            })?;
-            calls = calls.wrapping_add(1);
-        }
-    }
+    let arrivals = crowd(alloc)?;
+    // two at each instruction, and fifteen that call the handler
+    assert!(rt; arrivals.len() == 2 * 3_000 + 15);
     // the write to INTCON, and the handler's three accesses at each call
-    assert!(rt; calls == 15);
     check_answer(&rt, alloc, IDLE, &arrivals, 5_000, "same 46")
 }
 
+// Texts, the moment of the arrival, how many instructions are run, and what is answered.
+const UNDER_ONE: [(&str, u32, u32, &str); 10] = [
+    // the write to INTCON, and the handler's three accesses
+    (IDLE, 5_000, 10_000, "same 4"),
+    (IDLE, 10_001, 10_000, "same 1"),
+    (DIVIDES, 2_000, 4_000, "division 4"),
+    (DIVIDES_LATER, 200, 400, "division 3"),
+    (NO_HANDLER, 0, 2_000, "handler 3"),
+    // the arrival falls into the loop, and the chip is in the loop at the end or far behind it
+    (DIVIDES_BEHIND, 100, 5_000, "division 3"),
+    (DIVIDES_BEHIND, 100, 60_000, "division 3"),
+    // the write to INTCON alone comes before a handler that keeps control
+    (NEVER_ENDS, 1_000, 4_000, "same 1"),
+    (NEVER_CLEARS, 1_000, 4_000, "same 1"),
+    (DOES_NOTHING, 1_000, 4_000, "same 1"),
+];
+
 #[test]
 fn under_one_arrival(rt: HostRuntime) -> Result<(), Fail> {
-    let alloc = rt.alloc();
-    // the write to INTCON, and the handler's three accesses
-    check_at(&rt, alloc, IDLE, 5_000, 10_000, "same 4")?;
-    check_at(&rt, alloc, IDLE, 10_001, 10_000, "same 1")?;
-    check_at(&rt, alloc, DIVIDES, 2_000, 4_000, "division 4")?;
-    check_at(&rt, alloc, DIVIDES_LATER, 200, 400, "division 3")?;
-    check_at(&rt, alloc, NO_HANDLER, 0, 2_000, "handler 3")?;
-    // the arrival falls into the loop, and the chip is in the loop at the end or far behind it
-    check_at(&rt, alloc, DIVIDES_BEHIND, 100, 5_000, "division 3")?;
-    check_at(&rt, alloc, DIVIDES_BEHIND, 100, 60_000, "division 3")?;
-    // the write to INTCON alone comes before a handler that keeps control
-    check_at(&rt, alloc, NEVER_ENDS, 1_000, 4_000, "same 1")?;
-    check_at(&rt, alloc, NEVER_CLEARS, 1_000, 4_000, "same 1")?;
-    check_at(&rt, alloc, DOES_NOTHING, 1_000, 4_000, "same 1")
+    for (text, t, n, wanted) in UNDER_ONE {
+        check_at(&rt, rt.alloc(), text, t, n, wanted)?;
+    }
+    Ok(())
 }
 
 #[test]

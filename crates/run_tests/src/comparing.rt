@@ -61,18 +61,13 @@ fn source_run(alloc: Global, built: &Built, script: &Script) -> Result<(Vec<Even
     Ok((events, Ending::Cut))
 }
 
-// Whether one list is the front of another.
-fn begins(front: &[Event], whole: &[Event]) -> bool {
-    front.len() <= whole.len() && front.iter().zip(whole).all(|(a, b)| *a == *b)
-}
-
 /// Whether the chip's events are those of the source run: all of them where that one ends, and the front of them where it was
 /// cut off.
 fn same(chip: &[Event], source: &[Event], ending: Ending) -> bool {
     match ending {
-        Ending::Idle => chip.len() == source.len() && begins(chip, source),
-        Ending::Cut => begins(chip, source),
-        Ending::Undefined => begins(source, chip),
+        Ending::Idle => chip.len() == source.len() && source.starts_with(chip),
+        Ending::Cut => source.starts_with(chip),
+        Ending::Undefined => chip.starts_with(source),
     }
 }
 
@@ -126,31 +121,31 @@ pub fn goes_as(
     least: usize,
 ) -> Result<bool, Fail> {
     let runs = both(alloc, built, script, instructions, 0x99)?;
-    Ok(begins(&runs.chip, &runs.source) && runs.chip.len() >= least && runs.depth <= 8)
+    Ok(runs.source.starts_with(&runs.chip) && runs.chip.len() >= least && runs.depth <= 8)
 }
 
-/// A text with these input bytes, from two starts.
-pub fn check_inputs(
-    rt: &impl Abort,
+/// Whether a text with these input bytes agrees with its source, from two starts.
+pub fn agrees_twice(
     alloc: Global,
     text: &str,
     input: &[u8],
     instructions: u32,
-) -> Result<(), Fail> {
+) -> Result<bool, Fail> {
     let built = built(alloc, text)?;
     let script = Script::new(Vec::from_slice(alloc, input)?, Vec::new(alloc));
-    assert!(rt; agrees(alloc, &built, &script, instructions, 0)?, "{text}");
-    assert!(rt;
-        agrees(alloc, &built, &script, instructions, 0xA5)?,
-        "{text}"
-    );
-    Ok(())
+    let agrees_from_zeros = agrees(alloc, &built, &script, instructions, 0)?;
+    Ok(agrees_from_zeros && agrees(alloc, &built, &script, instructions, 0xA5)?)
+}
+
+// Whether a text without input and arrivals agrees with its source for 12,000 instructions.
+fn agrees_alone(alloc: Global, text: &str) -> Result<bool, Fail> {
+    let built = built(alloc, text)?;
+    let script = Script::new(Vec::new(alloc), Vec::new(alloc));
+    agrees(alloc, &built, &script, 12_000, 0x5A)
 }
 
 /// A text without input and arrivals, run for 12,000 instructions.
 pub fn check_text(rt: &impl Abort, alloc: Global, text: &str) -> Result<(), Fail> {
-    let built = built(alloc, text)?;
-    let script = Script::new(Vec::new(alloc), Vec::new(alloc));
-    assert!(rt; agrees(alloc, &built, &script, 12_000, 0x5A)?, "{text}");
+    assert!(rt; agrees_alone(alloc, text)?, "{text}");
     Ok(())
 }

@@ -2,7 +2,8 @@
 
 use crate::comparing::{agrees, built, goes_as};
 use pic_world::{Arrival, Flag, Script};
-use std::alloc::Global;
+use picc_core::Built;
+use std::alloc::{AllocError, Global};
 use std::process::Abort;
 use std::test::Fail;
 
@@ -69,6 +70,16 @@ void main(void)
 }
 ";
 
+// Whether a program agrees with its source under an arrival of INTF before this instruction.
+fn agrees_under(alloc: Global, program: &Built, t: u32, instructions: u32) -> Result<bool, Fail> {
+    let arrival = Arrival {
+        t,
+        flag: Flag::Intf,
+    };
+    let script = Script::new(Vec::new(alloc), Vec::from_slice(alloc, &[arrival])?);
+    agrees(alloc, program, &script, instructions, 0x3C)
+}
+
 /// Tries a text under one arrival of INTF before each `stride`th instruction, so many of them.
 fn check_moments(
     rt: &impl Abort,
@@ -81,27 +92,29 @@ fn check_moments(
     let program = built(alloc, text)?;
     for number in 0..tried {
         let t = number.saturating_mul(stride);
-        let arrival = Arrival {
-            t,
-            flag: Flag::Intf,
-        };
-        let script = Script::new(Vec::new(alloc), Vec::from_slice(alloc, &[arrival])?);
         assert!(rt;
-            agrees(alloc, &program, &script, instructions, 0x3C)?,
+            agrees_under(alloc, &program, t, instructions)?,
             "a flag at {t}: {text}"
         );
     }
     Ok(())
 }
 
+// Texts, before how many instructions an arrival is tried, and how many are run.
+const MOMENTS: [(&str, u32, u32); 5] = [
+    (TWO_COPIES, 1_001, 2_000),
+    (TORN, 200, 2_000),
+    (AT_ONCE, 60, 300),
+    (PENDING, 80, 400),
+    (LOST, 60, 300),
+];
+
 #[test]
 fn before_each_instruction(rt: HostRuntime) -> Result<(), Fail> {
-    let alloc = rt.alloc();
-    check_moments(&rt, alloc, TWO_COPIES, 1_001, 1, 2_000)?;
-    check_moments(&rt, alloc, TORN, 200, 1, 2_000)?;
-    check_moments(&rt, alloc, AT_ONCE, 60, 1, 300)?;
-    check_moments(&rt, alloc, PENDING, 80, 1, 400)?;
-    check_moments(&rt, alloc, LOST, 60, 1, 300)
+    for (text, tried, instructions) in MOMENTS {
+        check_moments(&rt, rt.alloc(), text, tried, 1, instructions)?;
+    }
+    Ok(())
 }
 
 #[test]
@@ -109,7 +122,17 @@ fn while_both_roots_work(rt: HostRuntime) -> Result<(), Fail> {
     check_moments(&rt, rt.alloc(), BUSY, 220, 7, 8_000)
 }
 
-// Whether a program under a flag at each multiple of a number of instructions, forty times, goes as its source.
+// A flag at each multiple of a number of instructions, forty times.
+fn ticks(alloc: Global, flag: Flag, period: u32) -> Result<Vec<Arrival>, AllocError> {
+    let mut arrivals = Vec::new(alloc);
+    for number in 1..=40u32 {
+        let t = period.saturating_mul(number);
+        arrivals.push(Arrival { t, flag })?;
+    }
+    Ok(arrivals)
+}
+
+// Whether a program under such a flag goes as its source.
 fn under_ticks(
     alloc: Global,
     text: &str,
@@ -117,15 +140,9 @@ fn under_ticks(
     period: u32,
     least: usize,
 ) -> Result<bool, Fail> {
-    let mut arrivals = Vec::new(alloc);
-    for number in 1..=40u32 {
-        arrivals.push(Arrival {
-            t: period.saturating_mul(number),
-            flag,
-        })?;
-    }
-    let script = Script::new(Vec::from_slice(alloc, &[1, 0, 0, 0, 0, 1, 1, 1])?, arrivals);
     let program = built(alloc, text)?;
+    let input = Vec::from_slice(alloc, &[1, 0, 0, 0, 0, 1, 1, 1])?;
+    let script = Script::new(input, ticks(alloc, flag, period)?);
     goes_as(alloc, &program, &script, 20_000, least)
 }
 

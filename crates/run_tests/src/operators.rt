@@ -78,19 +78,23 @@ fn shifts_by_a_variable(rt: HostRuntime) -> Result<(), Fail> {
     Ok(())
 }
 
+// Shifts at a type to both sides by a constant count.
+fn check_shift(rt: &impl Abort, alloc: Global, ty: &str, count: u32) -> Result<(), Fail> {
+    for side in ["<<", ">>"] {
+        let text = format!(in alloc;
+            "{ty} a=-23456,r;void main(void){{r=a{side}{count};a{side}={count};}}"
+        )?;
+        check_text(rt, alloc, &text)?;
+    }
+    Ok(())
+}
+
 /// Shifts at types by each constant count up to so many. The answer is how many runs there are.
 fn check_shifts(rt: &impl Abort, alloc: Global, types: &str, counts: u32) -> Result<u32, Fail> {
     let mut runs: u32 = 0;
     for ty in types.split('|') {
         for count in 0..counts {
-            let left = format!(in alloc;
-                "{ty} a=-23456,r;void main(void){{r=a<<{count};a<<={count};}}"
-            )?;
-            check_text(rt, alloc, &left)?;
-            let right = format!(in alloc;
-                "{ty} a=-23456,r;void main(void){{r=a>>{count};a>>={count};}}"
-            )?;
-            check_text(rt, alloc, &right)?;
+            check_shift(rt, alloc, ty, count)?;
             runs = runs.saturating_add(2);
         }
     }

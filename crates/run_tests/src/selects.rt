@@ -6,24 +6,27 @@ use crate::interrupts::{KEY, TWO_COPIES};
 use crate::statements::TEXTS;
 use picc_core::{compile, compile_plain};
 use std::alloc::Global;
-use std::process::Abort;
 use std::test::Fail;
 
-// The words of a text's image as it is compiled, and as compiled plainly.
-fn words_of(alloc: Global, text: &str) -> Result<(u32, u32), Fail> {
-    let Ok(lean) = compile(alloc, text.as_bytes()) else {
+// The words of a text's image as it is compiled.
+fn lean_words(alloc: Global, text: &str) -> Result<u32, Fail> {
+    let Ok(built) = compile(alloc, text.as_bytes()) else {
         return Err(Fail::new("not built"));
     };
-    let Ok(plain) = compile_plain(alloc, text.as_bytes()) else {
-        return Err(Fail::new("not built plainly"));
-    };
-    Ok((real_words(&lean.image), real_words(&plain.image)))
+    Ok(real_words(&built.image))
 }
 
-fn check_fewer(rt: &impl Abort, alloc: Global, text: &str) -> Result<(), Fail> {
-    let (lean, plain) = words_of(alloc, text)?;
-    assert!(rt; lean < plain, "{lean} and {plain}: {text}");
-    Ok(())
+// The same as compiled plainly.
+fn plain_words(alloc: Global, text: &str) -> Result<u32, Fail> {
+    let Ok(built) = compile_plain(alloc, text.as_bytes()) else {
+        return Err(Fail::new("not built plainly"));
+    };
+    Ok(real_words(&built.image))
+}
+
+// Both numbers of words.
+fn words_of(alloc: Global, text: &str) -> Result<(u32, u32), Fail> {
+    Ok((lean_words(alloc, text)?, plain_words(alloc, text)?))
 }
 
 // Two sums: of one the upper byte is used, of the other it isn't.
@@ -32,14 +35,12 @@ const SUMS: &str =
 
 #[test]
 fn firmware_has_fewer_words(rt: HostRuntime) -> Result<(), Fail> {
-    let alloc = rt.alloc();
-    check_fewer(&rt, alloc, KEY)?;
-    check_fewer(&rt, alloc, METER)?;
-    check_fewer(&rt, alloc, LOCK)?;
-    check_fewer(&rt, alloc, TWO_COPIES)?;
-    check_fewer(&rt, alloc, SUMS)?;
+    for text in [KEY, METER, LOCK, TWO_COPIES, SUMS] {
+        let (lean, plain) = words_of(rt.alloc(), text)?;
+        assert!(rt; lean < plain, "{lean} and {plain}: {text}");
+    }
     // by flow facts alone the image of the pump has a seventh fewer
-    let (lean, plain) = words_of(alloc, PUMP)?;
+    let (lean, plain) = words_of(rt.alloc(), PUMP)?;
     assert!(rt;
         lean < plain && 6 * lean as u64 <= 5 * plain as u64,
         "{lean} and {plain}"

@@ -1,6 +1,6 @@
 //! Each kind of statement, and calls.
 
-use crate::comparing::check_inputs;
+use crate::comparing::agrees_twice;
 use std::test::Fail;
 
 /// Programs, a line each.
@@ -41,17 +41,14 @@ int x;int f(void){x++;return x;}void main(void){int*p=&x;*p=3,*p+=2;x?f():x--;(v
 int x;void main(void){for(x=-2;x<7;x++)switch(x){PORTA=9;case 4:case 2:PORTB=1;if(x==4)continue;default:PORTB=2;break;case 0:PORTC=x;case 5:}}
 ";
 
+// The input of each of them.
+const INPUT: [u8; 5] = [0x01, 0x5A, 0xFF, 0x00, 0x80];
+
 #[test]
 fn of_each_kind(rt: HostRuntime) -> Result<(), Fail> {
     let mut count: u32 = 0;
     for text in TEXTS.lines() {
-        check_inputs(
-            &rt,
-            rt.alloc(),
-            text,
-            &[0x01, 0x5A, 0xFF, 0x00, 0x80],
-            20_000,
-        )?;
+        assert!(rt; agrees_twice(rt.alloc(), text, &INPUT, 20_000)?, "{text}");
         count = count.saturating_add(1);
     }
     assert!(rt; count == 34);
