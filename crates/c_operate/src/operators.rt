@@ -29,8 +29,7 @@ use c_token::Punct;
 use c_typed::{LogicalOp, Qualified, TExpr, Ty, is_pointer, is_scalar, same_type};
 use std::alloc::{AllocError, Global};
 
-// The refusals of one, two and three operands. Each place where an owned operand is let go costs some seconds of proof, so operands
-// are let go here, and elsewhere only where a call fails.
+// The refusals of one, two and three operands, which are let go here, and elsewhere only where a call fails.
 pub(crate) fn refused_one(_operand: Operand, kind: Kind, line: u32) -> Result<Term, CheckError>
     ensures { result ≡ Err (errors.Kind kind line) }
 {

@@ -25,7 +25,7 @@ use c_token::Punct;
 use c_typed::{StepOp, TExpr, TPlace, Ty, is_int, same_type};
 use std::alloc::Global;
 
-// The refusal of a write, which lets the place and the value go: each place where something owned is let go costs some seconds of proof.
+// The refusal of a write, which lets the place and the value go.
 fn refused_write(_place: TPlace, _from: Operand, kind: Kind, line: u32) -> Result<TExpr, CheckError>
     ensures { result ≡ Err (errors.Kind kind line) }
 {
