@@ -284,7 +284,6 @@ impl<'a> Machine<'a> {
     }
 
     // A statement takes the value of its expression.
-    #[tactic(auto, using(crate::proofs::Gives::no_values))]
     fn take_for(&mut self, code: Code<'a>, stage: Stage, value: Datum) -> Outcome
         ensures tells { HasRoom 1 self.old → (o : Outside) (w : Worlds Bytes) → silent result self.new w ≡ rules.take_for (setting_of self.old o) (statement_in code.entry) (stage_in (statement_in code.entry) stage) (datum_of value) (stack_of self.old) self.old.copy (memory_of self.old) w }
         ensures others { self.new ≡ record self.old { stack = self.new.stack; focus = self.new.focus } }
@@ -299,12 +298,7 @@ impl<'a> Machine<'a> {
             Stage::Begins | Stage::Steps => self.take_turn(code, statement),
             Stage::Picks(at) => self.take_arm(code, statement, at, value),
             Stage::AtItem(at) => self.take_item(code, statement, at, value),
-            Stage::Turns
-            | Stage::InArm(_)
-            | Stage::Chooses
-            | Stage::Fills
-            | Stage::Items(_)
-            | Stage::Blanks => Outcome::Lost,
+            _ => Outcome::Lost,
         }
     }
 
