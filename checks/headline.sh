@@ -4,8 +4,8 @@
 # no_underflow, no_overflow, frames, start_up, no_early_access; whether and how far a run is clean; and of the image and the map without a
 # run words, mapped, main, halt, apart and clear_of_objects. checks/lib/clauses.py and map_clauses.py have the clauses,
 # checks/lib/interpreter.py runs the definitions over what picc_show prints of the program. Images and maps that are made wrong have to be
-# refused, each by the clause that it breaks (checks/lib/wrong.py). The programs: examples/, bench/kernels/, and ten random ones from seed
-# 1. `headline.sh COUNT [SEED]` runs so many random ones, and a long run of each program, for pace.
+# refused, each by the clause that it breaks (checks/lib/wrong.py). The programs: examples/, bench/kernels/, two small ones, and ten random
+# ones from seed 1. `headline.sh COUNT [SEED]` runs so many random ones, and a long run of each program, for pace.
 # PICC_SHOW names a program in place of picc_show; PROCESSES says how many processes work at the same time.
 set -u
 . "$(dirname -- "$0")/lib/common.sh" || exit 1

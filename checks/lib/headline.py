@@ -19,7 +19,7 @@ from definitions import random_inputs, random_pairs, script_text
 from jobs import results, tell_unreached, told
 from machines import FLAGS
 from map_clauses import MAP_CLAUSES, Built
-from wrong import UNDEFINED, WRONG, refused_at
+from wrong import SUMS, UNDEFINED, WRONG, refused_at
 
 # A run has so many moments; fewer where the source goes on while the chip makes no event, as in a loop that waits, since the source runs
 # of a run, one for each stretch between arrivals, are to take about so many micro-steps together.
@@ -29,6 +29,9 @@ MICRO_STEPS, STRETCHES = 25000, 8
 # would take more micro-steps than this.
 LONG, LONG_AT_REST, LONG_MICRO_STEPS = 3 * 8192 + 300, 4 * 8192 + 300, 80000
 BEHIND_REST = 60
+# objects of several bytes, each with another initial value, and a pointer among them
+INITIAL = ('unsigned char a[3]={5,6,7};unsigned char*p=a;unsigned int w=0x1234;struct s{char c;long l;};struct s v={1,-2};'
+           'void main(void){PORTB=*p;w++;a[2]=v.c;v.l=w;}')
 FAR = 10 ** 9
 
 
@@ -102,7 +105,7 @@ def run_all(built, rng, is_long, tally):
             pairs = random_arrivals(rng, quiet.busy + BEHIND_REST if quiet.rests else last, last)
             checked(built, rng, inputs, pairs, last, tally)
     except Fails as error:
-        raise Fails('%s\n%s' % (error, script_text(inputs, pairs))) from None
+        raise Fails('%s\n%s' % (error, script_text(inputs, pairs).strip())) from None
 
 
 def program(show, label, text, seed, is_long):
@@ -114,7 +117,7 @@ def program(show, label, text, seed, is_long):
     try:
         run_all(built, random.Random(seed), is_long, tally)
     except Fails as error:
-        return tally, '%s: %s%s' % (label, error, text)
+        return tally, '%s: %s\n%s' % (label, error, text)
     return tally, None
 
 
@@ -152,6 +155,7 @@ def jobs(show, count, seed, long, files):
         with open(name, encoding='latin-1') as file:
             texts.append((os.path.basename(name), file.read()))
     texts += [('random program %d' % (seed + at), programs.program(random.Random(seed + at))) for at in range(count)]
+    texts += [('a sum with a handler', SUMS), ('initial values', INITIAL)]
     for at, (label, text) in enumerate(texts):
         yield program, show, label, text, seed + at, at % long == long // 2
 
