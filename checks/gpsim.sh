@@ -2,7 +2,8 @@
 # HEX files of picc on gpsim's model of the PIC16F877A, which nobody of this project wrote. examples/led.c: after 1,000 cycles PORTB's
 # latch holds 05h, and the program counter stands in the loop at the halt address of the map: at most two selects of the page, and a
 # jump back. Then each of examples/: the bytes that it writes to PORTB and PORTC, one behind the other, are those that `picc sim` prints
-# of the same file without input bytes and arrivals, as far as gpsim runs.
+# of the same file without input bytes and arrivals, as far as gpsim runs. At last the commands of docs/tools.md, which shows what gpsim
+# 0.31.0 prints.
 set -u
 if ! command -v gpsim >/dev/null; then
     echo 'gpsim: skipped, since gpsim is not installed'
@@ -61,4 +62,9 @@ writes pump 100 || failed=1
 writes meter 1 || failed=1
 writes lock 1 || failed=1
 writes lights 71 || failed=1
+if ! gpsim --version 2>&1 | grep -q '^gpsim-0\.31\.0 ' || ! command -v python3 >/dev/null || ! make --version 2>/dev/null | grep -q '^GNU Make'; then
+    echo 'gpsim: docs/tools.md skipped, since gpsim 0.31.0, python3 or GNU make is not installed'
+    exit $failed
+fi
+PYTHONDONTWRITEBYTECODE=1 python3 "$top/checks/lib/sessions.py" "$top" "$picc" gpsim docs/tools.md || failed=1
 exit $failed
