@@ -1,16 +1,16 @@
 #!/bin/sh
-# The cases of checks/cases/refusals.jsonl through `picc build`: one JSON object a line, with the text of a program and the answer
-# that was worked out by hand, a refusal or `ok`.
+# The cases of checks/cases/refusals.jsonl, and of narrower.jsonl beside it, through `picc build`: one JSON object a line, with the text of a
+# program and the answer that was worked out by hand, a refusal or `ok`. Those of narrower.jsonl are what docs/language.md lists as narrower
+# and wider than C90, and what to write instead.
 # What a case says beside `ok` of lines of the map and of bytes of a frame is compared with the map. Words of a block and depths
 # aren't printed, so such a case is skipped once its program was accepted.
 set -u
 . "$(dirname -- "$0")/lib/common.sh" || exit 1
 . "$top/checks/lib/cases.sh" || exit 1
-have_cases refusals.jsonl || exit $failed
-enter_folder
-first_build
 
-run_cases <<'PY'
+# Builds the text of each case of the file that have_cases found.
+build_cases() {
+    run_cases <<'PY'
 import os
 import sys
 from cases import judged, ran
@@ -58,3 +58,11 @@ def judge(number, case):
 
 sys.exit(judged(judge, ('passed', 'skipped', 'differs')))
 PY
+}
+
+(enter_folder && first_build) || exit 1
+for file in refusals.jsonl narrower.jsonl; do
+    have_cases "$file" || continue
+    (enter_folder && build_cases) || failed=1
+done
+exit $failed
