@@ -19,3 +19,4 @@ pub mod Quiet
 pub mod Showing
 pub mod Through
 pub mod Bounds
+pub mod Ordering

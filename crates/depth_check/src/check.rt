@@ -9,6 +9,7 @@ ghost use Rattle.depth_check.specs.Certificate.{Certificate, seen};
 ghost use Rattle.depth_check.specs.Facts.{at_reset, at_interrupt, bits};
 ghost use Rattle.depth_check.specs.Depth.{StaysWithin};
 ghost use Rattle.depth_check.specs.Marks.{IsRound, Covers};
+ghost use Rattle.depth_check.specs.Ordered.{is_row_before as is_row_before_of, rows_before as rows_before_of, row_if as row_if_of};
 ghost use Rattle.depth_check.specs.Valid.{routine as routine_of, routine_in as routine_in_of, row_at as row_of_rows, has_row as has_row_of, instruction as instruction_of, next as next_of, next_but_one as next_but_one_of, is_return as is_return_of, returns as returns_of, returns_in as returns_in_of, greater as greater_of, is_plain_allowed as is_plain_allowed_of, goes_straight as goes_straight_of, is_root as is_root_of, spares_gie as spares_gie_of, is_allowed as is_allowed_of, leads as leads_of, comes_back as comes_back_of, is_callee as is_callee_of, calls as calls_of, leaves as leaves_of, goes_on as goes_on_of, instruction_holds as instruction_holds_of, is_bare as is_bare_of, row_holds as row_holds_of, height_at as height_at_of, call_height as call_height_of, height as height_of_rows, is_row_of as is_row_of_routine, routine_holds as routine_holds_of, routines_hold as routines_hold_of, lets_in as lets_in_of, total_of, is_rising as is_rising_of, is_entry as is_entry_of, is_place as is_place_of, call_returns as call_returns_of, asks as asks_of, is_met, all_met as all_met_of, roots_hold as roots_hold_of, writes_intcon as writes_intcon_of, is_valid};
 
 use crate::known::{INDF, INTCON, PCL, after, fits, known_in, may_skip, target, writes};
@@ -33,20 +34,59 @@ fn routine(routines: &[Routine], n: u16) -> Routine
     }
 }
 
-// The row at an address.
-fn row_at(rows: &[Row], at: u16) -> Option<Row>
-    ensures { result ≡ row_of_rows rows.now at }
+fn row(rows: &[Row], i: usize) -> Option<Row>
+    ensures { result ≡ slice_get rows.now i }
 {
-    for row in rows {
-        if row.at == at {
-            return Some(*row);
+    if i < rows.len() { Some(rows[i]) } else { None }
+}
+
+fn is_row_before(at: u16, row: Option<Row>) -> bool
+    ensures { result ≡ is_row_before_of at row }
+{
+    match row {
+        None => false,
+        Some(row) => row.at < at,
+    }
+}
+
+// How many rows stand before the first that isn't below the address.
+fn rows_before(rows: &[Row], at: u16) -> usize
+    requires rising { is_rising_of 0 rows.now ≡ true }
+    ensures { result ≡ rows_before_of rows.now at }
+{
+    let mut low = 0;
+    let mut high = rows.len();
+    while low < high {
+        let middle = low + (high - low) / 2;
+        if is_row_before(at, row(rows, middle)) {
+            low = middle + 1;
+        } else {
+            high = middle;
         }
     }
-    None
+    low
+}
+
+fn row_if(at: u16, row: Option<Row>) -> Option<Row>
+    ensures { result ≡ row_if_of at row }
+{
+    match row {
+        None => None,
+        Some(row) => if row.at == at { Some(row) } else { None },
+    }
+}
+
+// The row at an address.
+fn row_at(rows: &[Row], at: u16) -> Option<Row>
+    requires rising { is_rising_of 0 rows.now ≡ true }
+    ensures { result ≡ row_of_rows rows.now at }
+{
+    row_if(at, row(rows, rows_before(rows, at)))
 }
 
 // Whether the row at an address is of this routine, and the facts fit it.
 fn has_row(h: &Heights, at: u16, n: u16, x: Facts) -> bool
+    requires rising { is_rising_of 0 h.now.rows.items ≡ true }
     ensures { result ≡ has_row_of (seen h.now) at n x }
 {
     match row_at(&h.rows, at) {
@@ -139,6 +179,7 @@ fn is_allowed(h: &Heights, n: u16, i: Ins) -> bool
 }
 
 fn leads(h: &Heights, row: Row, at: Option<u16>) -> bool
+    requires rising { is_rising_of 0 h.now.rows.items ≡ true }
     ensures { result ≡ leads_of (seen h.now) row at }
 {
     match at {
@@ -161,6 +202,7 @@ pub fn two_bits(p3: Option<bool>, p4: Option<bool>, saved: bool) -> Facts
 
 // Where the callee has a RETURN or RETLW, the caller goes on behind the call.
 fn comes_back(image: &Image, h: &Heights, row: Row, n: u16) -> bool
+    requires rising { is_rising_of 0 h.now.rows.items ≡ true }
     ensures { result ≡ comes_back_of image.now (seen h.now) row n }
 {
     let callee = routine(&h.routines, n);
@@ -174,6 +216,7 @@ fn comes_back(image: &Image, h: &Heights, row: Row, n: u16) -> bool
 }
 
 fn is_callee(image: &Image, h: &Heights, row: Row, at: u16, entry: Option<Row>) -> bool
+    requires rising { is_rising_of 0 h.now.rows.items ≡ true }
     ensures { result ≡ is_callee_of image.now (seen h.now) row at entry }
 {
     match entry {
@@ -190,6 +233,7 @@ fn is_callee(image: &Image, h: &Heights, row: Row, at: u16, entry: Option<Row>) 
 }
 
 fn calls(image: &Image, h: &Heights, row: Row, at: Option<u16>) -> bool
+    requires rising { is_rising_of 0 h.now.rows.items ≡ true }
     ensures { result ≡ calls_of image.now (seen h.now) row at }
 {
     match at {
@@ -205,6 +249,7 @@ fn leaves(q: Routine, x: Facts) -> bool
 }
 
 fn goes_straight(h: &Heights, row: Row, i: Ins) -> bool
+    requires rising { is_rising_of 0 h.now.rows.items ≡ true }
     ensures { result ≡ goes_straight_of (seen h.now) row i }
 {
     let x = after(h.cell, i, row.facts);
@@ -214,7 +259,8 @@ fn goes_straight(h: &Heights, row: Row, i: Ins) -> bool
 
 // Whether what the instruction asks for is there.
 fn goes_on(image: &Image, h: &Heights, row: Row, i: Ins) -> bool
-    requires { IsWellFormed i }
+    requires rising { is_rising_of 0 h.now.rows.items ≡ true }
+    requires formed { IsWellFormed i }
     ensures { result ≡ goes_on_of image.now (seen h.now) row i }
 {
     match i {
@@ -234,6 +280,7 @@ fn is_bare(x: Facts) -> bool
 }
 
 fn row_holds(image: &Image, h: &Heights, row: Row) -> bool
+    requires rising { is_rising_of 0 h.now.rows.items ≡ true }
     ensures { result ≡ row_holds_of image.now (seen h.now) row }
 {
     (row.routine as usize) < h.routines.len()
@@ -245,6 +292,7 @@ fn row_holds(image: &Image, h: &Heights, row: Row) -> bool
 }
 
 fn rows_hold(image: &Image, h: &Heights, rows: &[Row]) -> bool
+    requires rising { is_rising_of 0 h.now.rows.items ≡ true }
     ensures { result ≡ list_all (row_holds_of image.now (seen h.now)) rows.now }
 {
     for row in rows {
@@ -257,6 +305,7 @@ fn rows_hold(image: &Image, h: &Heights, rows: &[Row]) -> bool
 
 // ---- bounds
 fn height_at(h: &Heights, at: Option<u16>) -> u16
+    requires rising { is_rising_of 0 h.now.rows.items ≡ true }
     ensures { result ≡ height_at_of (seen h.now) at }
 {
     match at {
@@ -269,7 +318,8 @@ fn height_at(h: &Heights, at: Option<u16>) -> u16
 }
 
 pub fn call_height(h: &Heights, row: Row, i: Option<Ins>) -> u16
-    requires { IfSome i IsWellFormed }
+    requires rising { is_rising_of 0 h.now.rows.items ≡ true }
+    requires formed { IfSome i IsWellFormed }
     ensures { result ≡ call_height_of (seen h.now) row i }
 {
     match i {
@@ -286,6 +336,7 @@ fn greater(a: u16, b: u16) -> u16
 
 // 1 more than the greatest bound of a routine that this one calls, or 0.
 fn height(image: &Image, h: &Heights, n: usize, rows: &[Row]) -> u16
+    requires rising { is_rising_of 0 h.now.rows.items ≡ true }
     ensures { result ≡ height_of_rows image.now (seen h.now) n 0 rows.now }
 {
     let mut best = 0;
@@ -310,6 +361,7 @@ fn is_row_of(n: usize, row: Option<Row>) -> bool
 }
 
 fn routine_holds(image: &Image, h: &Heights, n: usize, q: Routine) -> bool
+    requires rising { is_rising_of 0 h.now.rows.items ≡ true }
     ensures { result ≡ routine_holds_of image.now (seen h.now) n q }
 {
     is_row_of(n, row_at(&h.rows, q.entry))
@@ -319,6 +371,7 @@ fn routine_holds(image: &Image, h: &Heights, n: usize, q: Routine) -> bool
 }
 
 fn routines_hold(image: &Image, h: &Heights, routines: &[Routine]) -> bool
+    requires rising { is_rising_of 0 h.now.rows.items ≡ true }
     ensures { result ≡ routines_hold_of image.now (seen h.now) 0 routines.now }
 {
     for n in 0..routines.len() {
@@ -386,6 +439,7 @@ pub const AT_INTERRUPT: Facts = Facts {
 };
 
 fn roots_hold(h: &Heights) -> bool
+    requires rising { is_rising_of 0 h.now.rows.items ≡ true }
     ensures { result ≡ roots_hold_of (seen h.now) }
 {
     is_entry(false, 0, &h.routines, 0)
@@ -423,6 +477,7 @@ fn mark(marks: &mut [bool; 8192], at: Option<u16>) -> bool
 }
 
 fn call_returns(image: &Image, h: &Heights, at: Option<u16>) -> bool
+    requires rising { is_rising_of 0 h.now.rows.items ≡ true }
     ensures { result ≡ call_returns_of image.now (seen h.now) at }
 {
     match at {
@@ -436,7 +491,8 @@ fn call_returns(image: &Image, h: &Heights, at: Option<u16>) -> bool
 
 // The addresses that a row asks for.
 fn asked(image: &Image, h: &Heights, row: Row, i: Option<Ins>) -> (Option<u16>, Option<u16>)
-    requires { IfSome i IsWellFormed }
+    requires rising { is_rising_of 0 h.now.rows.items ≡ true }
+    requires formed { IfSome i IsWellFormed }
     ensures { (at : ℕ) → asks_of image.now (seen h.now) row i at ≡ (is_place_of at result.0 || is_place_of at result.1) }
 {
     match i {
@@ -476,6 +532,7 @@ fn spread_row(
     row: Row,
     marks: &mut [bool; 8192],
 ) -> bool
+    requires rising { is_rising_of 0 h.now.rows.items ≡ true }
     ensures marks { (at : ℕ) → at < 8192 → slice_index_or marks.new at false ≡ (slice_index_or marks.old at false || (slice_index_or before.now row.at false && not (slice_index_or older.now row.at false) && asks_of image.now (seen h.now) row (instruction_of image.now row) at)) }
     ensures same { result ≡ false → marks.new ≡ marks.old }
 {
@@ -574,7 +631,7 @@ fn holds(image: &Image, h: &Heights) -> bool
         && all_met(image, h)
 }
 
-/// Whether the certificate is valid for the image.
+/// Whether the certificate is valid for the image. It takes no memory.
 pub fn verify(image: &Image, h: &Heights) -> bool
     ensures exact { result ≡ is_valid image.now (seen h.now) }
     ensures depth { result ≡ true → StaysWithin image.now (total_of (seen h.now)) }

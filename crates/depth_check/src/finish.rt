@@ -1,8 +1,9 @@
 //! From what a search has found to a certificate with its bounds.
 
-ghost use Rattle.std.specs.Prelude.{◌≡◌, ◌≤◌, ◌+◌, length, IfOk, IfSome};
+ghost use Rattle.std.specs.Prelude.{◌≡◌, true, ◌≤◌, ◌+◌, length, IfOk, IfSome};
 ghost use Rattle.pic_isa.specs.Table.{IsWellFormed};
 ghost use Rattle.depth_check.specs.Certificate.{seen};
+ghost use Rattle.depth_check.specs.Valid.{is_rising};
 ghost use Rattle.depth_check.specs.Search.{tables, spot_at as spot_at_of, is_first as is_first_of, position as position_of, with_entry as with_entry_of, entries_of, row_for as row_for_of, rows_from, routine_for as routine_for_of, routines_for, certificate_of, raised_to, raised_by, raised_from, raised};
 
 use crate::check::{call_height, instruction};
@@ -119,7 +120,8 @@ fn routines(alloc: Global, s: &Search, entries: &[u16]) -> Result<Vec<Routine>, 
 /// What was found as a certificate, with all bounds 0.
 pub fn certificate(alloc: Global, s: &Search) -> Result<Heights, AllocError>
     requires spots { length s.now.spots.items ≡ 8192 }
-    ensures { IfOk result (λ h. seen h ≡ certificate_of (tables s.now)) }
+    ensures same { IfOk result (λ h. seen h ≡ certificate_of (tables s.now)) }
+    ensures rising { IfOk result (λ h. is_rising 0 h.rows.items ≡ true) }
 {
     let entries = entries(alloc, s)?;
     let rows = rows(alloc, s, &entries)?;
@@ -151,6 +153,7 @@ fn raise_to(h: &mut Heights, n: u16, bound: u16)
 }
 
 fn raise_by(image: &Image, h: &mut Heights, row: Row)
+    requires rising { is_rising 0 h.old.rows.items ≡ true }
     ensures { seen h.new ≡ raised_by image.now (seen h.old) row }
 {
     let bound = call_height(h, row, instruction(image, row.at));
@@ -159,7 +162,9 @@ fn raise_by(image: &Image, h: &mut Heights, row: Row)
 
 // Each row once: its routine's bound is above that of the routine that it calls.
 fn raise(image: &Image, h: &mut Heights)
-    ensures { seen h.new ≡ raised_from image.now (seen h.old) h.old.rows.items }
+    requires rising { is_rising 0 h.old.rows.items ≡ true }
+    ensures all { seen h.new ≡ raised_from image.now (seen h.old) h.old.rows.items }
+    ensures rows { h.new.rows.items ≡ h.old.rows.items }
 {
     for i in 0..h.rows.len() {
         let row = h.rows[i];
@@ -170,6 +175,7 @@ fn raise(image: &Image, h: &mut Heights)
 /// All bounds, where none is above 8.
 #[tactic(auto, unfolding(crate::specs::Search::raised))]
 pub fn raise_all(image: &Image, h: &mut Heights)
+    requires rising { is_rising 0 h.old.rows.items ≡ true }
     ensures { seen h.new ≡ raised image.now 9 (seen h.old) }
 {
     for round in 0..9u16 {

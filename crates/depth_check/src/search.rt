@@ -107,7 +107,7 @@ fn tried(
     }
 }
 
-/// A valid certificate of the image, or `None` exactly where no certificate is valid for it.
+/// A valid certificate of the image, or `None` exactly where no certificate is valid for it. It fails where memory runs out.
 pub fn certify(alloc: Global, image: &Image) -> Result<Option<Heights>, AllocError>
     ensures some { IfOk result (λ answer. IfSome answer (λ h. is_valid image.now (seen h) ≡ true)) }
     ensures none { IfOk result (λ answer. IfNone answer ((c : Certificate) → is_valid image.now c ≡ true → ⊥)) }
