@@ -35,6 +35,23 @@ went image t u v at p e = subst (λ z. IsPassed image t z (at + 1)) (sym e) (
   same : (k at : ℕ) → at ≤ k → k < at + 1 → at ≡ k
   same k at a b = omega arith
 
+-- what else was found between two rows
+pub went_on : (image : List ℕ) (t u v : Tables) (at : ℕ) → IsPassed image t u at → Goes image u v → IsPassed image t v at
+went_on image t u v at p g = (
+  goes_then image t u v p.0 g,
+  λ q.
+      let b = g.moves.quiet q in
+      let s = p.1 b.0 in
+      record {
+        roots = subst (λ z. (with_roots z).changed ≡ false) (sym b.1) s.roots;
+        rows = λ k lt. subst (λ z. (step image z k).changed ≡ false) (sym b.1) (s.rows k lt);
+      },
+)
+
+-- ---- a chase
+pub chased : (image : List ℕ) (t u v : Tables) (at : ℕ) → Goes image t u → v ≡ step image u at → Goes image t v
+chased image t u v at g e = goes_then image t u v g (subst (Goes image u) (sym e) (step_goes image u at))
+
 -- ---- passes until nothing changes
 -- what is left to do falls with each pass
 pub fewer : (image : List ℕ) (t u : Tables) → t.changed ≡ true → Goes image (unchanged t) u → size u + flag_size u.changed < size t + flag_size t.changed

@@ -12,6 +12,7 @@ ghost use Rattle.depth_check.specs.Certificate.{Certificate};
 ghost use Rattle.depth_check.specs.Valid.{is_valid, total_of};
 ghost use Rattle.depth_check.specs.Depth.{StaysWithin};
 
+mod agenda;
 mod check;
 mod finish;
 mod known;

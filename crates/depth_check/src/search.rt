@@ -9,6 +9,7 @@ ghost use Rattle.depth_check.specs.declared.tables.Spot.{Spot as AnySpot};
 ghost use Rattle.depth_check.specs.declared.tables.Out.{Out as AnyOut};
 
 use crate::Heights;
+use crate::agenda::Agenda;
 use crate::check::verify;
 use crate::finish::{certificate, raise_all};
 use crate::tables::{Out, Search, Spot};
@@ -37,13 +38,29 @@ fn blank_outs(alloc: Global) -> Result<Vec<Option<Out>>, AllocError>
     Ok(outs)
 }
 
-// Each row once, in order of address.
+// More turns than a search takes: what is known of a row is taken away five times at most, and of where a routine is left twice.
+const TURNS: u32 = 100_000;
+
+// What waits is looked at, until nothing does.
+fn chase(image: &Image, s: &mut Search)
+    ensures { Goes image.now (tables s.old) (tables s.new) }
+{
+    for _turn in 0..TURNS {
+        match s.agenda.take() {
+            None => return,
+            Some(at) => s.step(image, at),
+        }
+    }
+}
+
+// What the roots lead to, and then each row once, in order of address.
 fn pass(image: &Image, s: &mut Search)
     ensures goes { Goes image.now (unchanged (tables s.old)) (tables s.new) }
     ensures over { IsOver image.now (tables s.new) }
 {
     s.changed = false;
     s.with_roots();
+    chase(image, s);
     for at in 0..8192u16 {
         s.step(image, at);
     }
@@ -60,6 +77,7 @@ fn blank(alloc: Global, interrupts: bool, cell: u8) -> Result<Search, AllocError
         spots: blank_spots(alloc)?,
         outs: blank_outs(alloc)?,
         changed: true,
+        agenda: Agenda::new(alloc)?,
     })
 }
 

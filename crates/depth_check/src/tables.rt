@@ -6,6 +6,7 @@ ghost use Rattle.depth_check.specs.Facts.{at_reset, at_interrupt};
 ghost use Rattle.depth_check.specs.Search.{tables, common as common_of, meet as meet_of, spot_at as spot_at_of, out_at as out_at_of, put as put_of, with_spot as with_spot_of, placed as placed_of, beside as beside_of, with_out as with_out_of, knows as knows_of, leave as leave_of, gone as gone_of, come_back as come_back_of, with_callee as with_callee_of, called as called_of, skipped as skipped_of, passed as passed_of, done as done_of, step as step_of, with_handler as with_handler_of, with_roots as with_roots_of};
 
 use crate::Facts;
+use crate::agenda::Agenda;
 use crate::check::{AT_INTERRUPT, AT_RESET, instruction, next, next_but_one, two_bits};
 use crate::known::{after, fits, known_in, may_skip, target};
 use pic_chip::Image;
@@ -37,6 +38,8 @@ pub struct Search {
     pub outs: Vec<Option<Out>>,
     /// Whether something was found since this was last set to false.
     pub changed: bool,
+    /// Where what was found is still to be looked at.
+    pub agenda: Agenda,
 }
 
 // What is known both here and there.
@@ -111,11 +114,13 @@ impl Search {
                 None => {
                     self.spots[at as usize] = Some(s);
                     self.changed = true;
+                    self.agenda.add(at);
                 }
                 Some(old) => {
                     if !fits(s.facts, old.facts) {
                         self.spots[at as usize] = Some(beside(old, meet(old.facts, s.facts)));
                         self.changed = true;
+                        self.agenda.add(at);
                     }
                 }
             }
@@ -131,6 +136,7 @@ impl Search {
                 None => {
                     self.outs[entry as usize] = Some(Out { p3: x.p3, p4: x.p4 });
                     self.changed = true;
+                    self.agenda.left(entry);
                 }
                 Some(o) => {
                     if !knows(x, o) {
@@ -139,6 +145,7 @@ impl Search {
                             p4: common(o.p4, x.p4),
                         });
                         self.changed = true;
+                        self.agenda.left(entry);
                     }
                 }
             }
@@ -170,6 +177,7 @@ impl Search {
         match entry {
             None => {}
             Some(entry) => {
+                self.agenda.called(at, entry);
                 self.put(
                     entry,
                     Spot {
