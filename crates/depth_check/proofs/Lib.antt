@@ -5,6 +5,8 @@ pub mod Holding
 pub mod Threads
 pub mod Whole
 pub mod Rounds
+pub mod Trail
+pub mod Counts
 pub mod Below
 pub mod Transfer
 pub mod Closed

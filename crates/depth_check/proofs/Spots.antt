@@ -1,5 +1,5 @@
 -- The tables of a search by address, and how much is left to find.
-use Rattle.std.proofs.Common.{◌≡◌, ℕ, zero, suc, ◌+◌, ◌<◌, ◌≤◌, Bool, true, false, List, [], ◌∷◌, length, Option, Some, None, inl, inr, refl, sym, ap, ◌∙◌, subst, arith}
+use Rattle.std.proofs.Common.{◌≡◌, ℕ, zero, suc, ◌+◌, ◌<◌, ◌≤◌, Bool, true, false, List, [], ◌∷◌, length, Option, Some, None, inl, inr, refl, sym, ap, ◌∙◌, subst, replicate, arith}
 use Rattle.std.specs.Prelude.{if◌then◌else◌, not, ◌&&◌, ◌||◌, nat_eq, nat_lt, slice_index_or, slice_set}
 use Rattle.std.proofs.lemmas.Bool.{and_parts, and_from, eqb-true, eqb-false, ltb-true, ltb-false, both_ways}
 use Rattle.depth_check.specs.declared.Facts.{Facts}
@@ -10,27 +10,41 @@ use Rattle.depth_check.specs.Search.{common, meet, knows}
 use Rattle.depth_check.specs.Found.{known_size, flag_size, facts_size, spot_size, out_size, spots_size, outs_size}
 
 -- ---- a table at an address
-pub set_same : {X : Type 0} (xs : List (Option X)) (k : ℕ) (v : Option X) → k < length xs → slice_index_or (slice_set xs k v) k None ≡ v
-set_same [] k v lt = absurd (omega arith)
-set_same (x ∷ xs) zero v lt = refl
-set_same (x ∷ xs) (suc k) v lt = set_same xs k v (omega arith)
+pub index_same : {X : Type 0} (d : X) (xs : List X) (k : ℕ) (v : X) → k < length xs → slice_index_or (slice_set xs k v) k d ≡ v
+index_same d [] k v lt = absurd (omega arith)
+index_same d (x ∷ xs) zero v lt = refl
+index_same d (x ∷ xs) (suc k) v lt = index_same d xs k v (omega arith)
 
-pub set_other : {X : Type 0} (xs : List (Option X)) (k j : ℕ) (v : Option X) → nat_eq k j ≡ false → slice_index_or (slice_set xs k v) j None ≡ slice_index_or xs j None
-set_other [] k j v e = refl
-set_other (x ∷ xs) zero zero v e = absurd (cc)
-set_other (x ∷ xs) zero (suc j) v e = refl
-set_other (x ∷ xs) (suc k) zero v e = refl
-set_other (x ∷ xs) (suc k) (suc j) v e = set_other xs k j v (eq_pred k j e) where
+pub index_other : {X : Type 0} (d : X) (xs : List X) (k j : ℕ) (v : X) → nat_eq k j ≡ false → slice_index_or (slice_set xs k v) j d ≡ slice_index_or xs j d
+index_other d [] k j v e = refl
+index_other d (x ∷ xs) zero zero v e = absurd (cc)
+index_other d (x ∷ xs) zero (suc j) v e = refl
+index_other d (x ∷ xs) (suc k) zero v e = refl
+index_other d (x ∷ xs) (suc k) (suc j) v e = index_other d xs k j v (eq_pred k j e) where
   eq_pred : (k j : ℕ) → nat_eq (suc k) (suc j) ≡ false → nat_eq k j ≡ false
   eq_pred k j e = by (nat_eq k j) refl where
     by : (b : Bool) → nat_eq k j ≡ b → b ≡ false
     by true h = absurd (eqb-false (suc k) (suc j) e (ap suc (eqb-true k j h)))
     by false h = refl
 
+pub index_length : {X : Type 0} (xs : List X) (k : ℕ) (v : X) → length (slice_set xs k v) ≡ length xs
+index_length [] k v = refl
+index_length (x ∷ xs) zero v = refl
+index_length (x ∷ xs) (suc k) v = ap suc (index_length xs k v)
+
+pub index_none : {X : Type 0} (d : X) (k n : ℕ) → slice_index_or (replicate k d) n d ≡ d
+index_none d zero n = refl
+index_none d (suc k) zero = refl
+index_none d (suc k) (suc n) = index_none d k n
+
+pub set_same : {X : Type 0} (xs : List (Option X)) (k : ℕ) (v : Option X) → k < length xs → slice_index_or (slice_set xs k v) k None ≡ v
+set_same xs k v lt = index_same None xs k v lt
+
+pub set_other : {X : Type 0} (xs : List (Option X)) (k j : ℕ) (v : Option X) → nat_eq k j ≡ false → slice_index_or (slice_set xs k v) j None ≡ slice_index_or xs j None
+set_other xs k j v e = index_other None xs k j v e
+
 pub set_length : {X : Type 0} (xs : List (Option X)) (k : ℕ) (v : Option X) → length (slice_set xs k v) ≡ length xs
-set_length [] k v = refl
-set_length (x ∷ xs) zero v = refl
-set_length (x ∷ xs) (suc k) v = ap suc (set_length xs k v)
+set_length xs k v = index_length xs k v
 
 pub within : {X : Type 0} (xs : List (Option X)) (k : ℕ) (v : X) → slice_index_or xs k None ≡ Some v → k < length xs
 within [] k v e = absurd (cc)

@@ -1,7 +1,7 @@
 -- What a valid certificate has, in the form in which a search meets it.
 use Rattle.std.proofs.Common.{◌≡◌, ℕ, zero, suc, ◌+◌, ◌<◌, ◌≤◌, Bool, true, false, List, [], ◌∷◌, length, Option, Some, None, inl, inr, refl, sym, ap, ◌∙◌, subst, ⊎_elim, arith}
 use Rattle.std.specs.Prelude.{not, ◌&&◌, ◌||◌, nat_eq, nat_lt, nat_le, slice_index}
-use Rattle.std.proofs.lemmas.Bool.{and_parts, and_from, or_cases, eqb-true, eq-eqb, ltb-true, both_ways}
+use Rattle.std.proofs.lemmas.Bool.{and_parts, and_from, or_cases, eqb-true, eq-eqb, ltb-true, le-leb, both_ways}
 use Rattle.pic_isa.specs.declared.Ins.{Ins}
 use Rattle.pic_isa.specs.declared.Ins.TheVariants.{Call}
 use Rattle.pic_isa.specs.Lookup.{row_of}
@@ -9,9 +9,9 @@ use Rattle.depth_check.specs.declared.Facts.{Facts}
 use Rattle.depth_check.specs.declared.Row.{Row}
 use Rattle.depth_check.specs.Certificate.{Certificate}
 use Rattle.depth_check.specs.Facts.{fits, target}
-use Rattle.depth_check.specs.Valid.{routine, row_at, has_row, stands, instruction, instruction_holds, is_none, is_row_of, is_bare, returns, row_holds, routine_holds, height, call_height, height_at, height_of, is_rising, is_valid}
+use Rattle.depth_check.specs.Valid.{routine, row_at, has_row, stands, instruction, instruction_holds, is_none, is_row_of, is_bare, returns, row_holds, routine_holds, height, call_height, height_at, height_of, is_rising, total_of, is_valid}
 use Rattle.depth_check.specs.Found.{number, routine_or_none}
-use Rattle.depth_check.proofs.Threads.{In, in_height, all_hold, routines_fine, routine_at, rises}
+use Rattle.depth_check.proofs.Threads.{In, in_height, small_total, all_hold, routines_fine, routine_at, rises}
 use Rattle.depth_check.proofs.Complete.{all_in, own, found_in, stands_row}
 
 module _ (image : List ℕ) (c : Certificate) (valid : is_valid image c ≡ true) where
@@ -90,3 +90,14 @@ module _ (image : List ℕ) (c : Certificate) (valid : is_valid image c ≡ true
         let a = and_parts _ (is_rising (x.at + 1) rows) h in
         let b = and_parts (nat_le low x.at) (nat_lt x.at 8192) a.0 in
         ⊎_elim (λ e. subst (λ (z : Row). z.at < 8192) e (ltb-true x.at 8192 b.1)) (λ l. under (x.at + 1) t rows a.1 l) o
+
+-- a total above 8 is in no valid certificate
+pub too_deep : (image : List ℕ) (c : Certificate) → not (nat_le (total_of c) 8) ≡ true → false ≡ is_valid image c
+too_deep image c h = by (is_valid image c) refl where
+  clash : (b : Bool) → b ≡ true → not b ≡ true → ⊥
+  clash true e f = cc
+  clash false e f = cc
+
+  by : (b : Bool) → is_valid image c ≡ b → false ≡ b
+  by false v = refl
+  by true v = absurd (clash (nat_le (total_of c) 8) (le-leb (total_of c) 8 (small_total image c v)) h)

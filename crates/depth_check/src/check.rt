@@ -1,6 +1,6 @@
 //! Whether a certificate is valid.
 
-ghost use Rattle.std.specs.Prelude.{◌≡◌, ◌<◌, ◌≤◌, ◌+◌, ◌%◌, ◌&&◌, ◌||◌, nat_eq, not, Bool, true, ℕ, List, Option, Some, None, length, slice_index, slice_index_or, IfSome, false};
+ghost use Rattle.std.specs.Prelude.{◌≡◌, ◌<◌, ◌≤◌, ◌+◌, ◌%◌, ◌&&◌, ◌||◌, nat_eq, nat_le, not, Bool, true, ℕ, List, Option, Some, None, length, slice_index, slice_index_or, IfSome, false};
 ghost use Rattle.std.specs.List.{list_any, list_all, slice_get};
 ghost use Rattle.pic_isa.specs.declared.Ins.{Ins as AnyIns};
 ghost use Rattle.pic_isa.specs.Table.{IsWellFormed};
@@ -8,11 +8,13 @@ ghost use Rattle.pic_isa.specs.Lookup.{row_of};
 ghost use Rattle.depth_check.specs.Certificate.{Certificate, seen};
 ghost use Rattle.depth_check.specs.Facts.{at_reset, at_interrupt, bits};
 ghost use Rattle.depth_check.specs.Depth.{StaysWithin};
-ghost use Rattle.depth_check.specs.Marks.{IsRound, Covers};
+ghost use Rattle.depth_check.specs.Marks.{TellsReturns, TellsHeights};
 ghost use Rattle.depth_check.specs.Ordered.{is_row_before as is_row_before_of, rows_before as rows_before_of, row_if as row_if_of};
 ghost use Rattle.depth_check.specs.Valid.{routine as routine_of, routine_in as routine_in_of, row_at as row_of_rows, has_row as has_row_of, instruction as instruction_of, next as next_of, next_but_one as next_but_one_of, is_return as is_return_of, returns as returns_of, returns_in as returns_in_of, greater as greater_of, is_plain_allowed as is_plain_allowed_of, goes_straight as goes_straight_of, is_root as is_root_of, spares_gie as spares_gie_of, is_allowed as is_allowed_of, leads as leads_of, comes_back as comes_back_of, is_callee as is_callee_of, calls as calls_of, leaves as leaves_of, goes_on as goes_on_of, instruction_holds as instruction_holds_of, is_bare as is_bare_of, row_holds as row_holds_of, height_at as height_at_of, call_height as call_height_of, height as height_of_rows, is_row_of as is_row_of_routine, routine_holds as routine_holds_of, routines_hold as routines_hold_of, lets_in as lets_in_of, total_of, is_rising as is_rising_of, is_entry as is_entry_of, is_place as is_place_of, call_returns as call_returns_of, asks as asks_of, is_met, all_met as all_met_of, roots_hold as roots_hold_of, writes_intcon as writes_intcon_of, is_valid};
 
 use crate::known::{INDF, INTCON, PCL, after, fits, known_in, may_skip, target, writes};
+use crate::met::all_met;
+use crate::tally::{height, heights, returns, ways_out};
 use crate::{Facts, Heights, Routine, Row};
 use pic_chip::Image;
 use pic_isa::{Ins, decode};
@@ -77,7 +79,7 @@ fn row_if(at: u16, row: Option<Row>) -> Option<Row>
 }
 
 // The row at an address.
-fn row_at(rows: &[Row], at: u16) -> Option<Row>
+pub fn row_at(rows: &[Row], at: u16) -> Option<Row>
     requires rising { is_rising_of 0 rows.now ≡ true }
     ensures { result ≡ row_of_rows rows.now at }
 {
@@ -120,7 +122,7 @@ pub fn next_but_one(at: u16) -> u16
     (at % 8192 + 2) % 8192
 }
 
-fn is_return(i: Option<Ins>) -> bool
+pub fn is_return(i: Option<Ins>) -> bool
     ensures { result ≡ is_return_of i }
 {
     match i {
@@ -128,18 +130,6 @@ fn is_return(i: Option<Ins>) -> bool
         Some(Ins::Return) => true,
         _ => false,
     }
-}
-
-// Whether some row of the routine is RETURN or RETLW.
-fn returns(image: &Image, rows: &[Row], n: usize) -> bool
-    ensures { result ≡ returns_in_of image.now rows.now n }
-{
-    for row in rows {
-        if row.routine as usize == n && is_return(instruction(image, row.at)) {
-            return true;
-        }
-    }
-    false
 }
 
 fn is_root(h: &Heights, n: u16) -> bool
@@ -201,12 +191,13 @@ pub fn two_bits(p3: Option<bool>, p4: Option<bool>, saved: bool) -> Facts
 }
 
 // Where the callee has a RETURN or RETLW, the caller goes on behind the call.
-fn comes_back(image: &Image, h: &Heights, row: Row, n: u16) -> bool
+fn comes_back(image: &Image, h: &Heights, ways_out: &[bool; 8192], row: Row, n: u16) -> bool
     requires rising { is_rising_of 0 h.now.rows.items ≡ true }
+    requires tells { TellsReturns image.now h.now.rows.items ways_out.now }
     ensures { result ≡ comes_back_of image.now (seen h.now) row n }
 {
     let callee = routine(&h.routines, n);
-    !returns(image, &h.rows, n as usize)
+    !returns(image, &h.rows, ways_out, n as usize)
         || has_row(
             h,
             next(row.at),
@@ -215,8 +206,16 @@ fn comes_back(image: &Image, h: &Heights, row: Row, n: u16) -> bool
         )
 }
 
-fn is_callee(image: &Image, h: &Heights, row: Row, at: u16, entry: Option<Row>) -> bool
+fn is_callee(
+    image: &Image,
+    h: &Heights,
+    ways_out: &[bool; 8192],
+    row: Row,
+    at: u16,
+    entry: Option<Row>,
+) -> bool
     requires rising { is_rising_of 0 h.now.rows.items ≡ true }
+    requires tells { TellsReturns image.now h.now.rows.items ways_out.now }
     ensures { result ≡ is_callee_of image.now (seen h.now) row at entry }
 {
     match entry {
@@ -227,18 +226,19 @@ fn is_callee(image: &Image, h: &Heights, row: Row, at: u16, entry: Option<Row>) 
                 && fits(two_bits(row.facts.p3, row.facts.p4, false), e.facts)
                 && !is_root(h, e.routine)
                 && callee.isr == routine(&h.routines, row.routine).isr
-                && comes_back(image, h, row, e.routine)
+                && comes_back(image, h, ways_out, row, e.routine)
         }
     }
 }
 
-fn calls(image: &Image, h: &Heights, row: Row, at: Option<u16>) -> bool
+fn calls(image: &Image, h: &Heights, ways_out: &[bool; 8192], row: Row, at: Option<u16>) -> bool
     requires rising { is_rising_of 0 h.now.rows.items ≡ true }
+    requires tells { TellsReturns image.now h.now.rows.items ways_out.now }
     ensures { result ≡ calls_of image.now (seen h.now) row at }
 {
     match at {
         None => false,
-        Some(at) => is_callee(image, h, row, at, row_at(&h.rows, at)),
+        Some(at) => is_callee(image, h, ways_out, row, at, row_at(&h.rows, at)),
     }
 }
 
@@ -258,14 +258,21 @@ fn goes_straight(h: &Heights, row: Row, i: Ins) -> bool
 }
 
 // Whether what the instruction asks for is there.
-fn goes_on(image: &Image, h: &Heights, row: Row, i: Ins) -> bool
+fn goes_on(image: &Image, h: &Heights, ways_out: &[bool; 8192], row: Row, i: Ins) -> bool
     requires rising { is_rising_of 0 h.now.rows.items ≡ true }
+    requires tells { TellsReturns image.now h.now.rows.items ways_out.now }
     requires formed { IsWellFormed i }
     ensures { result ≡ goes_on_of image.now (seen h.now) row i }
 {
     match i {
         Ins::Goto { k } => leads(h, row, target(row.facts.p3, row.facts.p4, k)),
-        Ins::Call { k } => calls(image, h, row, target(row.facts.p3, row.facts.p4, k)),
+        Ins::Call { k } => calls(
+            image,
+            h,
+            ways_out,
+            row,
+            target(row.facts.p3, row.facts.p4, k),
+        ),
         Ins::Return | Ins::Retlw { k: _ } => leaves(routine(&h.routines, row.routine), row.facts),
         Ins::Retfie => row.facts.orig,
         Ins::Sleep => true,
@@ -279,24 +286,26 @@ fn is_bare(x: Facts) -> bool
     !x.orig && !x.w_orig && !x.saved
 }
 
-fn row_holds(image: &Image, h: &Heights, row: Row) -> bool
+fn row_holds(image: &Image, h: &Heights, ways_out: &[bool; 8192], row: Row) -> bool
     requires rising { is_rising_of 0 h.now.rows.items ≡ true }
+    requires tells { TellsReturns image.now h.now.rows.items ways_out.now }
     ensures { result ≡ row_holds_of image.now (seen h.now) row }
 {
     (row.routine as usize) < h.routines.len()
         && (row.routine == 1 || is_bare(row.facts))
         && match instruction(image, row.at) {
             None => true,
-            Some(i) => is_allowed(h, row.routine, i) && goes_on(image, h, row, i),
+            Some(i) => is_allowed(h, row.routine, i) && goes_on(image, h, ways_out, row, i),
         }
 }
 
-fn rows_hold(image: &Image, h: &Heights, rows: &[Row]) -> bool
+fn rows_hold(image: &Image, h: &Heights, ways_out: &[bool; 8192], rows: &[Row]) -> bool
     requires rising { is_rising_of 0 h.now.rows.items ≡ true }
+    requires tells { TellsReturns image.now h.now.rows.items ways_out.now }
     ensures { result ≡ list_all (row_holds_of image.now (seen h.now)) rows.now }
 {
     for row in rows {
-        if !row_holds(image, h, *row) {
+        if !row_holds(image, h, ways_out, *row) {
             return false;
         }
     }
@@ -328,27 +337,10 @@ pub fn call_height(h: &Heights, row: Row, i: Option<Ins>) -> u16
     }
 }
 
-fn greater(a: u16, b: u16) -> u16
+pub fn greater(a: u16, b: u16) -> u16
     ensures { result ≡ greater_of a b }
 {
     if a < b { b } else { a }
-}
-
-// 1 more than the greatest bound of a routine that this one calls, or 0.
-fn height(image: &Image, h: &Heights, n: usize, rows: &[Row]) -> u16
-    requires rising { is_rising_of 0 h.now.rows.items ≡ true }
-    ensures { result ≡ height_of_rows image.now (seen h.now) n 0 rows.now }
-{
-    let mut best = 0;
-    for row in rows {
-        let own = if row.routine as usize == n {
-            call_height(h, *row, instruction(image, row.at))
-        } else {
-            0
-        };
-        best = greater(best, own);
-    }
-    best
 }
 
 fn is_row_of(n: usize, row: Option<Row>) -> bool
@@ -360,22 +352,33 @@ fn is_row_of(n: usize, row: Option<Row>) -> bool
     }
 }
 
-fn routine_holds(image: &Image, h: &Heights, n: usize, q: Routine) -> bool
+fn routine_holds(
+    image: &Image,
+    h: &Heights,
+    ways_out: &[bool; 8192],
+    heights: &[u16; 8192],
+    n: usize,
+    q: Routine,
+) -> bool
     requires rising { is_rising_of 0 h.now.rows.items ≡ true }
+    requires tells { TellsReturns image.now h.now.rows.items ways_out.now }
+    requires heights { TellsHeights image.now (seen h.now) heights.now }
     ensures { result ≡ routine_holds_of image.now (seen h.now) n q }
 {
     is_row_of(n, row_at(&h.rows, q.entry))
         && (h.interrupts || !q.isr)
-        && (returns(image, &h.rows, n) || q.out3.is_none() && q.out4.is_none())
-        && q.bound as u16 == height(image, h, n, &h.rows)
+        && (returns(image, &h.rows, ways_out, n) || q.out3.is_none() && q.out4.is_none())
+        && q.bound as u16 == height(image, h, heights, n)
 }
 
-fn routines_hold(image: &Image, h: &Heights, routines: &[Routine]) -> bool
+fn routines_hold(image: &Image, h: &Heights, ways_out: &[bool; 8192], routines: &[Routine]) -> bool
     requires rising { is_rising_of 0 h.now.rows.items ≡ true }
+    requires tells { TellsReturns image.now h.now.rows.items ways_out.now }
     ensures { result ≡ routines_hold_of image.now (seen h.now) 0 routines.now }
 {
+    let heights = heights(image, h);
     for n in 0..routines.len() {
-        if !routine_holds(image, h, n, routines[n]) {
+        if !routine_holds(image, h, ways_out, &heights, n, routines[n]) {
             return false;
         }
     }
@@ -459,176 +462,35 @@ fn sum(h: &Heights) -> u64
         }
 }
 
-// ---- which rows are met
-// Marks an address, and tells whether it wasn't marked before.
-fn mark(marks: &mut [bool; 8192], at: Option<u16>) -> bool
-    ensures marks { (k : ℕ) → k < 8192 → slice_index_or marks.new k false ≡ (slice_index_or marks.old k false || is_place_of k at) }
-    ensures same { result ≡ false → marks.new ≡ marks.old }
+fn is_too_deep(h: &Heights) -> bool
+    ensures { result ≡ not (nat_le (total_of (seen h.now)) 8) }
 {
-    match at {
-        None => false,
-        Some(at) => if (at as usize) < 8192 && !marks[at as usize] {
-            marks[at as usize] = true;
-            true
-        } else {
-            false
-        },
-    }
+    sum(h) > 8
 }
 
-fn call_returns(image: &Image, h: &Heights, at: Option<u16>) -> bool
-    requires rising { is_rising_of 0 h.now.rows.items ≡ true }
-    ensures { result ≡ call_returns_of image.now (seen h.now) at }
-{
-    match at {
-        None => false,
-        Some(at) => match row_at(&h.rows, at) {
-            None => false,
-            Some(e) => returns(image, &h.rows, e.routine as usize),
-        },
-    }
-}
-
-// The addresses that a row asks for.
-fn asked(image: &Image, h: &Heights, row: Row, i: Option<Ins>) -> (Option<u16>, Option<u16>)
-    requires rising { is_rising_of 0 h.now.rows.items ≡ true }
-    requires formed { IfSome i IsWellFormed }
-    ensures { (at : ℕ) → asks_of image.now (seen h.now) row i at ≡ (is_place_of at result.0 || is_place_of at result.1) }
-{
-    match i {
-        None => (None, None),
-        Some(Ins::Goto { k }) => (target(row.facts.p3, row.facts.p4, k), None),
-        Some(Ins::Call { k }) => {
-            let entry = target(row.facts.p3, row.facts.p4, k);
-            if call_returns(image, h, entry) {
-                (entry, Some(next(row.at)))
-            } else {
-                (entry, None)
-            }
-        }
-        Some(Ins::Return) | Some(Ins::Retlw { k: _ }) | Some(Ins::Retfie) | Some(Ins::Sleep) => (
-            None, None,
-        ),
-        Some(i) => if may_skip(i) {
-            (Some(next(row.at)), Some(next_but_one(row.at)))
-        } else {
-            (Some(next(row.at)), None)
-        },
-    }
-}
-
-fn is_marked(marks: &[bool; 8192], at: u16) -> bool
-    ensures { result ≡ slice_index_or marks.now at false }
-{
-    (at as usize) < 8192 && marks[at as usize]
-}
-
-// Marks what a row asks for, if it was marked in the last round.
-fn spread_row(
-    image: &Image,
-    h: &Heights,
-    older: &[bool; 8192],
-    before: &[bool; 8192],
-    row: Row,
-    marks: &mut [bool; 8192],
-) -> bool
-    requires rising { is_rising_of 0 h.now.rows.items ≡ true }
-    ensures marks { (at : ℕ) → at < 8192 → slice_index_or marks.new at false ≡ (slice_index_or marks.old at false || (slice_index_or before.now row.at false && not (slice_index_or older.now row.at false) && asks_of image.now (seen h.now) row (instruction_of image.now row) at)) }
-    ensures same { result ≡ false → marks.new ≡ marks.old }
-{
-    if is_marked(before, row.at) && !is_marked(older, row.at) {
-        let (first, second) = asked(image, h, row, instruction(image, row.at));
-        let one = mark(marks, first);
-        let other = mark(marks, second);
-        one || other
-    } else {
-        false
-    }
-}
-
-// Marks what the rows that were marked last ask for, and tells whether that is something new.
-fn spread(
-    image: &Image,
-    h: &Heights,
-    older: &[bool; 8192],
-    before: &[bool; 8192],
-    marks: &mut [bool; 8192],
-) -> bool
-    requires rows { is_rising_of 0 h.now.rows.items ≡ true }
-    requires from { marks.old ≡ before.now }
-    requires covered { Covers image.now (seen h.now) older.now before.now }
-    ensures round { (n : ℕ) → IsRound image.now (seen h.now) n before.now → IsRound image.now (seen h.now) (n + 1) marks.new }
-    ensures covered { Covers image.now (seen h.now) before.now marks.new }
-    ensures same { result ≡ false → marks.new ≡ before.now }
-{
-    let mut changed = false;
-    for row in &h.rows {
-        let new = spread_row(image, h, older, before, *row, marks);
-        changed = changed || new;
-    }
-    changed
-}
-
-// Marks every row that is met. Each row is looked at in the round after the one in which it was marked.
-fn reach(image: &Image, h: &Heights, marks: &mut [bool; 8192])
-    requires rows { is_rising_of 0 h.now.rows.items ≡ true }
-    requires from { IsRound image.now (seen h.now) 0 marks.old }
-    ensures { IsRound image.now (seen h.now) 8192 marks.new }
-{
-    let mut older = [false; 8192];
-    for round in 0..8192usize {
-        let before = *marks;
-        if !spread(image, h, &older, &before, marks) {
-            return;
-        }
-        older = before;
-    }
-}
-
-fn all_marked(rows: &[Row], marks: &[bool; 8192]) -> bool
-    ensures { result ≡ list_all (λ r. slice_index_or marks.now r.at false) rows.now }
-{
-    for row in rows {
-        if !is_marked(marks, row.at) {
-            return false;
-        }
-    }
-    true
-}
-
-// The marks before the first round.
-fn at_first(h: &Heights) -> [bool; 8192]
-    ensures { (image : List ℕ) → IsRound image (seen h.now) 0 result }
-{
-    let mut marks = [false; 8192];
-    let _ = mark(&mut marks, Some(0));
-    if h.interrupts {
-        let _ = mark(&mut marks, Some(4));
-    }
-    marks
-}
-
-fn all_met(image: &Image, h: &Heights) -> bool
-    requires rows { is_rising_of 0 h.now.rows.items ≡ true }
-    ensures { result ≡ all_met_of image.now (seen h.now) }
-{
-    let mut marks = at_first(h);
-    reach(image, h, &mut marks);
-    all_marked(&h.rows, &marks)
-}
-
-fn holds(image: &Image, h: &Heights) -> bool
+fn all_holds(image: &Image, h: &Heights) -> bool
     ensures { result ≡ is_valid image.now (seen h.now) }
 {
+    let ways_out = ways_out(image, &h.rows);
     is_rising(&h.rows)
         && h.cell >= 0x70
         && h.cell < 0x80
         && roots_hold(h)
-        && rows_hold(image, h, &h.rows)
-        && routines_hold(image, h, &h.routines)
+        && rows_hold(image, h, &ways_out, &h.rows)
+        && routines_hold(image, h, &ways_out, &h.routines)
         && (!h.interrupts || lets_in(image, h, &h.rows))
         && sum(h) <= 8
-        && all_met(image, h)
+        && all_met(image, h, &ways_out)
+}
+
+// Most images without a certificate go too deep, and this is soon seen.
+fn holds(image: &Image, h: &Heights) -> bool
+    ensures { result ≡ is_valid image.now (seen h.now) }
+{
+    if is_too_deep(h) {
+        return false;
+    }
+    all_holds(image, h)
 }
 
 /// Whether the certificate is valid for the image. It takes no memory.

@@ -16,8 +16,10 @@ mod agenda;
 mod check;
 mod finish;
 mod known;
+mod met;
 mod search;
 mod tables;
+mod tally;
 
 pub use check::{total, verify};
 pub use search::certify;
