@@ -1,12 +1,14 @@
 -- The entries of the routines that were found, and the rows: a certificate has each where the tables have it.
-use Rattle.std.proofs.Common.{◌≡◌, ℕ, zero, suc, ◌+◌, ◌<◌, ◌≤◌, Bool, true, false, List, [], ◌∷◌, ◌++◌, length, Option, Some, None, inl, inr, refl, sym, ap, ◌∙◌, subst, ⊎_elim, arith}
-use Rattle.std.specs.Prelude.{if◌then◌else◌, nat_eq, nat_lt, nat_le, slice_index_or, slice_get, ◌⊎◌}
+use Rattle.std.proofs.Common.{◌≡◌, ℕ, zero, suc, ◌+◌, ◌<◌, ◌≤◌, Bool, true, false, List, [], ◌∷◌, ◌++◌, length, Option, Some, None, inl, inr, refl, sym, ap, ◌∙◌, subst, ⊎_elim, replicate, arith}
+use Rattle.std.specs.Prelude.{if◌then◌else◌, nat_eq, nat_lt, nat_le, slice_index_or, slice_set, slice_get, ◌⊎◌}
 use Rattle.std.proofs.lemmas.Bool.{and_from, and_parts, eqb-true, eqb-false, eq-eqb, ne_eqb, ltb-true, ltb-false, lt-ltb, leb-true, le-leb, both_ways, cases_lt}
+use Rattle.std.proofs.lemmas.List.{length-replicate}
 use Rattle.depth_check.specs.declared.Row.{Row}
 use Rattle.depth_check.specs.declared.Routine.{Routine}
 use Rattle.depth_check.specs.declared.tables.Spot.{Spot}
 use Rattle.depth_check.specs.Valid.{row_at, routine_in, is_rising}
-use Rattle.depth_check.specs.Search.{Tables, position, holds_number, is_first, with_entry, entries_from, row_for, rows_from, routine_for, routines_for}
+use Rattle.depth_check.specs.Search.{Tables, position, holds_number, number_in, IsNumbered, is_first, with_entry, entries_from, row_for, rows_from, routine_for, routines_for}
+use Rattle.depth_check.proofs.Spots.{index_none, index_same, index_other, index_length}
 
 -- ---- places in a list of numbers
 pub position_most : (n : ℕ) (xs : List ℕ) → position n xs ≤ length xs
@@ -96,6 +98,87 @@ module _ (xs : List ℕ) (x : ℕ) where
       (cases_lt n (length xs))) where
         last : (n m : ℕ) → m ≤ n → n < m + 1 → n ≡ m
         last n m a b = omega arith
+
+-- ---- the table of places
+absent : (xs : List ℕ) (x n : ℕ) → nat_eq x n ≡ false → length xs ≤ position n xs → length xs + 1 ≤ position n (xs ++ x ∷ [])
+absent [] x n e le = subst (λ b. 1 ≤ (if b then 0 else 1 + 0)) (sym e) (omega arith)
+absent (y ∷ xs) x n e le = by (nat_eq y n) le (λ l. absent xs x n e l) where
+  by : (b : Bool) → suc (length xs) ≤ (if b then 0 else 1 + position n xs) → (length xs ≤ position n xs → length xs + 1 ≤ position n (xs ++ x ∷ [])) → suc (length xs) + 1 ≤ (if b then 0 else 1 + position n (xs ++ x ∷ []))
+  by true l more = absurd (omega arith)
+  by false l more = let h = more (omega arith) in omega arith
+
+held_number : (xs : List ℕ) (n : ℕ) → position n xs < length xs → number_in xs n ≡ Some (position n xs)
+held_number xs n lt = ap (λ b. if b then Some (position n xs) else None) (lt-ltb (position n xs) (length xs) lt)
+
+no_number : (xs : List ℕ) (n : ℕ) → length xs ≤ position n xs → number_in xs n ≡ None
+no_number xs n le = by (holds_number n xs) refl where
+  by : (b : Bool) → holds_number n xs ≡ b → (if b then Some (position n xs) else None) ≡ None
+  by true e = absurd (let h = ltb-true (position n xs) (length xs) e in omega (arith, h, le))
+  by false e = refl
+
+-- the number of an address that the table has, or none
+pub number_place : (xs : List ℕ) (n k : ℕ) → number_in xs n ≡ Some k → k ≡ position n xs
+number_place xs n k e = by (holds_number n xs) e where
+  by : (b : Bool) → (if b then Some (position n xs) else None) ≡ Some k → k ≡ position n xs
+  by true e = cc
+  by false e = absurd (cc)
+
+pub number_held : (xs : List ℕ) (n k : ℕ) → number_in xs n ≡ Some k → with_entry xs n ≡ xs
+number_held xs n k e = by (holds_number n xs) e where
+  by : (b : Bool) → (if b then Some (position n xs) else None) ≡ Some k → (if b then xs else xs ++ n ∷ []) ≡ xs
+  by true e = refl
+  by false e = absurd (cc)
+
+pub number_new : (xs : List ℕ) (n : ℕ) → number_in xs n ≡ None → (with_entry xs n ≡ xs ++ n ∷ []) × (length xs ≤ position n xs)
+number_new xs n e = by (holds_number n xs) refl e where
+  by : (b : Bool) → holds_number n xs ≡ b → (if b then Some (position n xs) else None) ≡ None → ((if b then xs else xs ++ n ∷ []) ≡ xs ++ n ∷ []) × (length xs ≤ position n xs)
+  by true h e = absurd (cc)
+  by false h e = (refl, ltb-false (position n xs) (length xs) h)
+
+pub numbered_more : (xs : List ℕ) (numbers : List (Option ℕ)) (at : ℕ) → IsNumbered numbers xs → at < 8192 → length xs ≤ position at xs → IsNumbered (slice_set numbers at (Some (length xs))) (xs ++ at ∷ [])
+numbered_more xs numbers at t lt le = (index_length numbers at (Some (length xs)) ∙ t.0, λ n l. by (nat_eq at n) n l refl) where
+  here : position at (xs ++ at ∷ []) ≡ length xs
+  here = new_position at xs le
+
+  same : slice_index_or (slice_set numbers at (Some (length xs))) at None ≡ number_in (xs ++ at ∷ []) at
+  same = index_same None numbers at (Some (length xs)) (let l = t.0 in omega (arith, l, lt)) ∙ ap Some (sym here)
+      ∙ sym (held_number (xs ++ at ∷ []) at (let m = length_more xs at in let h = here in omega (arith, m, h)))
+
+  other : (n : ℕ) → nat_eq at n ≡ false → number_in (xs ++ at ∷ []) n ≡ number_in xs n
+  other n e = ⊎_elim
+      (λ l. held_number (xs ++ at ∷ []) n (let p = old_position n at xs l in let m = length_more xs at in omega (arith, p, m, l)) ∙ ap Some (old_position n at xs l) ∙ sym (held_number xs n l))
+      (λ l. no_number (xs ++ at ∷ []) n (let a = absent xs at n e l in let m = length_more xs at in omega (arith, a, m)) ∙ sym (no_number xs n l))
+      (lt_or_le (position n xs) (length xs)) where
+        lt_or_le : (a b : ℕ) → (a < b) ⊎ (b ≤ a)
+        lt_or_le a b = by_test (nat_lt a b) refl where
+          by_test : (c : Bool) → nat_lt a b ≡ c → (a < b) ⊎ (b ≤ a)
+          by_test true e = inl (ltb-true a b e)
+          by_test false e = inr (ltb-false a b e)
+
+  by : (b : Bool) (n : ℕ) → n < 8192 → nat_eq at n ≡ b → slice_index_or (slice_set numbers at (Some (length xs))) n None ≡ number_in (xs ++ at ∷ []) n
+  by true n l e = subst (λ k. slice_index_or (slice_set numbers at (Some (length xs))) k None ≡ number_in (xs ++ at ∷ []) k) (eqb-true at n e) same
+  by false n l e = index_other None numbers at n (Some (length xs)) e ∙ t.1 n l ∙ sym (other n e)
+
+-- an address that has no number gets the next one, and one that has keeps it
+pub appended : (xs ys : List ℕ) (numbers more : List (Option ℕ)) (at : ℕ) → IsNumbered numbers xs → at < 8192 → slice_index_or numbers at None ≡ None → ys ≡ xs ++ at ∷ [] → more ≡ slice_set numbers at (Some (length xs))
+    → (ys ≡ with_entry xs at) × (length ys ≤ length xs + 1) × IsNumbered more ys
+appended xs ys numbers more at t lt e f g =
+    let n = number_new xs at (sym (t.1 at lt) ∙ e) in (
+      f ∙ sym n.0,
+      (let l = length_more xs at in let k : length ys ≡ length (xs ++ at ∷ []) = ap length f in omega (arith, l, k)),
+      subst (λ z. IsNumbered z ys) (sym g) (subst (λ z. IsNumbered (slice_set numbers at (Some (length xs))) z) (sym f) (numbered_more xs numbers at t lt n.1)),
+    )
+
+pub kept : (xs : List ℕ) (numbers : List (Option ℕ)) (at k : ℕ) → IsNumbered numbers xs → at < 8192 → slice_index_or numbers at None ≡ Some k → xs ≡ with_entry xs at
+kept xs numbers at k t lt e = sym (number_held xs at k (sym (t.1 at lt) ∙ e))
+
+pub its_place : (xs : List ℕ) (numbers : List (Option ℕ)) (at k : ℕ) → IsNumbered numbers xs → at < 8192 → slice_index_or numbers at None ≡ Some k → k ≡ position at xs
+its_place xs numbers at k t lt e = number_place xs at k (sym (t.1 at lt) ∙ e)
+
+pub nothing_numbered : IsNumbered (replicate 8192 None) []
+nothing_numbered = (length-replicate {A = Option ℕ} 8192 None, none) where
+  none : (n : ℕ) → n < 8192 → slice_index_or (replicate 8192 None) n None ≡ number_in [] n
+  none n lt = index_none {X = Option ℕ} None 8192 n
 
 -- with a row's entry or without
 either_way : (P : List ℕ → Type 0) (at : ℕ) (o : Option Spot) (xs : List ℕ) → P xs → P (with_entry xs at) → P (if is_first at o then with_entry xs at else xs)

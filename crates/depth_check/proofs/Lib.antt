@@ -18,7 +18,9 @@ pub mod Stepping
 pub mod Settling
 pub mod Entries
 pub mod Quiet
+pub mod Shown
 pub mod Showing
+pub mod Cells
 pub mod Through
 pub mod Bounds
 pub mod Ordering

@@ -29,24 +29,8 @@ use Rattle.depth_check.proofs.Stepping.{p, goto_fits, callee_fits, back_fits, be
 use Rattle.depth_check.proofs.Spots.{within}
 use Rattle.depth_check.proofs.Through.{each_met}
 use Rattle.depth_check.proofs.Entries.{routine_there, routines_length, get_there, Distinct, Holds, at_position, all_distinct, all_old, all_held, all_each, row_of_spot, row_there, rows_rise}
+use Rattle.depth_check.proofs.Shown.{Shows, FromSpot, plus, held, entry_at, distinct, main_place, handler_place, owns_first, same_entry, shows_one, bound_same, bound_most, bound_grows, first_routine, start_shows}
 use Rattle.depth_check.proofs.Quiet.{WasThere, put_quiet, WasLeft, leave_quiet}
-
--- routines, rows, cell and interrupts are those that were found; bounds may be any
-pub record Shows (t : Tables) (d : Certificate) : Type 0 where
-  pub interrupts : d.interrupts ≡ t.interrupts
-  pub cell : d.cell ≡ t.cell
-  pub rows : d.rows ≡ rows_from (entries_of t) 0 t.spots
-  pub count : length d.routines ≡ length (entries_of t)
-  pub entry : (n : ℕ) → n < length (entries_of t) → (routine d n).entry ≡ slice_index_or (entries_of t) n 0
-  pub isr : (n : ℕ) → n < length (entries_of t) → (routine d n).isr ≡ isr_of (spot_at t (slice_index_or (entries_of t) n 0))
-  pub out3 : (n : ℕ) → n < length (entries_of t) → (routine d n).out3 ≡ p3_of (out_at t (slice_index_or (entries_of t) n 0))
-  pub out4 : (n : ℕ) → n < length (entries_of t) → (routine d n).out4 ≡ p4_of (out_at t (slice_index_or (entries_of t) n 0))
-
--- a row for what was found at this address
-pub record FromSpot (t : Tables) (at : ℕ) (r : Row) : Type 0 where
-  pub spot : Spot
-  pub is : spot_at t at ≡ Some spot
-  pub same : r ≡ row_for (entries_of t) at spot
 
 module _ (image : List ℕ) (c : Certificate) (valid : is_valid image c ≡ true) (t : Tables) (cell : c.cell ≡ t.cell) (interrupts : c.interrupts ≡ t.interrupts)
     (spots : length t.spots ≡ 8192) (outs : length t.outs ≡ 8192) (u : IsUnder image c t) (settled : IsSettled image t 8192) where
@@ -90,52 +74,11 @@ module _ (image : List ℕ) (c : Certificate) (valid : is_valid image c ≡ true
       root_fits image c valid t 4 1 true at_interrupt h.1 (handler_entry image c valid i) h.0 (or_left (c.interrupts && nat_eq 4 4) false (ap (λ z. z && nat_eq 4 4) i))
 
   -- ---- entries
-  first_of : (e : ℕ) (y : Spot) → spot_at t e ≡ Some y → y.entry ≡ e → is_first e (spot_at t e) ≡ true
-  first_of e y is same = subst (λ o. is_first e o ≡ true) (sym is) (eq-eqb y.entry e same)
-
-  plus : (k : ℕ) → 0 + k ≡ k
-  plus k = omega arith
-
-  held_first : (e : ℕ) → is_first e (spot_at t e) ≡ true → Holds (entries_of t) e
-  held_first e h = subst (Holds (entries_of t)) (plus e) (all_held 0 t.spots (first_entries t.interrupts) e (subst (λ k. is_first k (spot_at t e) ≡ true) (sym (plus e)) h))
-
-  pub held : (e : ℕ) → Owns t e → Holds (entries_of t) e
-  held e o = held_first e (first_of e o.spot o.is o.same)
-
-  pub entry_at : (e : ℕ) → Owns t e → slice_index_or (entries_of t) (position e (entries_of t)) 0 ≡ e
-  entry_at e o = at_position e (entries_of t) (held e o)
-
-  start_distinct : (b : Bool) → Distinct (first_entries b)
-  start_distinct false zero lt = refl
-  start_distinct false (suc n) lt = absurd (omega arith)
-  start_distinct true zero lt = refl
-  start_distinct true (suc zero) lt = refl
-  start_distinct true (suc (suc n)) lt = absurd (omega arith)
-
-  pub distinct : Distinct (entries_of t)
-  distinct = all_distinct 0 t.spots (first_entries t.interrupts) (start_distinct t.interrupts)
-
-  start_main : (b : Bool) → (position 0 (first_entries b) ≡ 0) × Holds (first_entries b) 0
-  start_main false = (refl, omega arith)
-  start_main true = (refl, omega arith)
-
-  pub main_place : position 0 (entries_of t) ≡ 0
-  main_place = let s = start_main t.interrupts in (all_old 0 t.spots (first_entries t.interrupts) 0 s.1).0 ∙ s.0
-
-  pub handler_place : t.interrupts ≡ true → position 4 (entries_of t) ≡ 1
-  handler_place e =
-      let h : Holds (first_entries t.interrupts) 4 = subst (λ b. Holds (first_entries b) 4) (sym e) (omega arith) in
-      (all_old 0 t.spots (first_entries t.interrupts) 4 h).0 ∙ ap (λ b. position 4 (first_entries b)) e
-
   owns_main : Owns t 0
   owns_main = let w = main_there in record { spot = w.spot; is = w.is; same = same_spot c 0 w.spot (entering 0 false at_reset) (u.placed 0 w.spot w.is) main_fits.placed }
 
   owns_handler : t.interrupts ≡ true → Owns t 4
   owns_handler e = let w = handler_there e in record { spot = w.spot; is = w.is; same = same_spot c 4 w.spot (entering 4 true at_interrupt) (u.placed 4 w.spot w.is) (handler_fits e).placed }
-
-  owns_first : (e : ℕ) (o : Option Spot) → spot_at t e ≡ o → is_first e o ≡ true → Owns t e
-  owns_first e None is h = absurd (cc)
-  owns_first e (Some y) is h = record { spot = y; is = is; same = eqb-true y.entry e h }
 
   start_owned : (b : Bool) → t.interrupts ≡ b → (n : ℕ) → n < length (first_entries b) → Owns t (slice_index_or (first_entries b) n 0)
   start_owned false e zero lt = owns_main
@@ -147,11 +90,8 @@ module _ (image : List ℕ) (c : Certificate) (valid : is_valid image c ≡ true
   -- each number of the list is the entry of a routine that was found
   pub entries_owned : (n : ℕ) → n < length (entries_of t) → Owns t (slice_index_or (entries_of t) n 0)
   entries_owned = all_each (Owns t) 0 t.spots (first_entries t.interrupts)
-      (λ k h. subst (Owns t) (sym (plus k)) (owns_first k (spot_at t k) refl (subst (λ j. is_first j (spot_at t k) ≡ true) (plus k) h)))
+      (λ k h. subst (Owns t) (sym (plus t k)) (owns_first t k (spot_at t k) refl (subst (λ j. is_first j (spot_at t k) ≡ true) (plus t k) h)))
       (start_owned t.interrupts refl)
-
-  same_entry : (a b : ℕ) → Owns t a → Owns t b → position a (entries_of t) ≡ position b (entries_of t) → a ≡ b
-  same_entry a b x y e = sym (entry_at a x) ∙ ap (λ k. slice_index_or (entries_of t) k 0) e ∙ entry_at b y
 
   -- ---- routines of the one and of the other
   -- the routine of c with an entry that was found
@@ -167,19 +107,19 @@ module _ (image : List ℕ) (c : Certificate) (valid : is_valid image c ≡ true
 
   module _ (d : Certificate) (w : Shows t d) where
     d_isr : (e : ℕ) (o : Owns t e) → (routine d (position e (entries_of t))).isr ≡ o.spot.isr
-    d_isr e o = w.isr (position e (entries_of t)) (held e o) ∙ ap (λ k. isr_of (spot_at t k)) (entry_at e o) ∙ ap isr_of o.is
+    d_isr e o = w.isr (position e (entries_of t)) (held t e o) ∙ ap (λ k. isr_of (spot_at t k)) (entry_at t e o) ∙ ap isr_of o.is
 
     pub isr_alike : (e : ℕ) → Owns t e → (routine d (position e (entries_of t))).isr ≡ (routine c (number c e)).isr
     isr_alike e o = let p = u.placed e o.spot o.is in d_isr e o ∙ sym p.isr_is ∙ ap (λ k. (routine c k).isr) (sym (ap routine_or_none p.is))
 
     pub d_entry : (e : ℕ) → Owns t e → (routine d (position e (entries_of t))).entry ≡ e
-    d_entry e o = w.entry (position e (entries_of t)) (held e o) ∙ entry_at e o
+    d_entry e o = w.entry (position e (entries_of t)) (held t e o) ∙ entry_at t e o
 
     pub d_out3 : (e : ℕ) → Owns t e → (routine d (position e (entries_of t))).out3 ≡ p3_of (out_at t e)
-    d_out3 e o = w.out3 (position e (entries_of t)) (held e o) ∙ ap (λ k. p3_of (out_at t k)) (entry_at e o)
+    d_out3 e o = w.out3 (position e (entries_of t)) (held t e o) ∙ ap (λ k. p3_of (out_at t k)) (entry_at t e o)
 
     pub d_out4 : (e : ℕ) → Owns t e → (routine d (position e (entries_of t))).out4 ≡ p4_of (out_at t e)
-    d_out4 e o = w.out4 (position e (entries_of t)) (held e o) ∙ ap (λ k. p4_of (out_at t k)) (entry_at e o)
+    d_out4 e o = w.out4 (position e (entries_of t)) (held t e o) ∙ ap (λ k. p4_of (out_at t k)) (entry_at t e o)
 
     both_false : (a b : Bool) → (a ≡ true → b ≡ true) → (b ≡ true → a ≡ true) → a ≡ b
     both_false true b f g = sym (f refl)
@@ -189,7 +129,7 @@ module _ (image : List ℕ) (c : Certificate) (valid : is_valid image c ≡ true
     -- the root with the number n is the one with the entry r
     one_root : (e r n : ℕ) → Owns t e → Owns t r → position r (entries_of t) ≡ n → number c r ≡ n → nat_eq (position e (entries_of t)) n ≡ nat_eq (number c e) n
     one_root e r n o q at_d at_c = both_false (nat_eq (position e (entries_of t)) n) (nat_eq (number c e) n)
-        (λ h. eq-eqb (number c e) n (ap (number c) (same_entry e r o q (eqb-true (position e (entries_of t)) n h ∙ sym at_d)) ∙ at_c))
+        (λ h. eq-eqb (number c e) n (ap (number c) (same_entry t e r o q (eqb-true (position e (entries_of t)) n h ∙ sym at_d)) ∙ at_c))
         (λ h. eq-eqb (position e (entries_of t)) n (ap (λ k. position k (entries_of t)) (sym (routine_c e o).3 ∙ ap (λ k. (routine c k).entry) (eqb-true (number c e) n h ∙ sym at_c) ∙ (routine_c r q).3) ∙ at_d))
 
     number_main : number c 0 ≡ 0
@@ -199,10 +139,10 @@ module _ (image : List ℕ) (c : Certificate) (valid : is_valid image c ≡ true
     number_handler e = let s = stands_at image c valid 4 1 at_interrupt (handler image c valid e).1 in ap routine_or_none s.is ∙ s.same
 
     main_alike : (e : ℕ) → Owns t e → nat_eq (position e (entries_of t)) 0 ≡ nat_eq (number c e) 0
-    main_alike e o = one_root e 0 0 o owns_main main_place number_main
+    main_alike e o = one_root e 0 0 o owns_main (main_place t) number_main
 
     handler_alike : (e : ℕ) → Owns t e → c.interrupts ≡ true → nat_eq (position e (entries_of t)) 1 ≡ nat_eq (number c e) 1
-    handler_alike e o i = let j = sym interrupts ∙ i in one_root e 4 1 o (owns_handler j) (handler_place j) (number_handler i)
+    handler_alike e o i = let j = sym interrupts ∙ i in one_root e 4 1 o (owns_handler j) (handler_place t j) (number_handler i)
 
     root_alike : (e : ℕ) → Owns t e → is_root d (position e (entries_of t)) ≡ is_root c (number c e)
     root_alike e o = by c.interrupts refl where
@@ -223,7 +163,7 @@ module _ (image : List ℕ) (c : Certificate) (valid : is_valid image c ≡ true
 
     -- ---- rows
     pub row_d : (at : ℕ) → row_at d.rows at ≡ row_of_spot (entries_of t) at (spot_at t at)
-    row_d at = ap (λ rows. row_at rows at) w.rows ∙ subst (λ k. row_at (rows_from (entries_of t) 0 t.spots) k ≡ row_of_spot (entries_of t) k (spot_at t at)) (plus at) (row_there (entries_of t) 0 t.spots at)
+    row_d at = ap (λ rows. row_at rows at) w.rows ∙ subst (λ k. row_at (rows_from (entries_of t) 0 t.spots) k ≡ row_of_spot (entries_of t) k (spot_at t at)) (plus t at) (row_there (entries_of t) 0 t.spots at)
 
     pub rises_d : is_rising 0 d.rows ≡ true
     rises_d = ap (is_rising 0) w.rows ∙ rows_rise (entries_of t) 0 t.spots (omega (arith, spots))
@@ -285,7 +225,7 @@ module _ (image : List ℕ) (c : Certificate) (valid : is_valid image c ≡ true
         let a = any_in (λ v. nat_eq v.routine (position to (entries_of t)) && is_return (instruction image v)) d.rows h in
         let p = and_parts (nat_eq a.0.routine (position to (entries_of t))) (is_return (instruction image a.0)) a.2 in
         let m = member_spot a.0 a.1 in
-        let e : m.spot.entry ≡ to = same_entry m.spot.entry to (u.owned a.0.at m.spot m.is) o (sym (ap (λ (v : Row). v.routine) m.same) ∙ eqb-true _ _ p.0) in
+        let e : m.spot.entry ≡ to = same_entry t m.spot.entry to (u.owned a.0.at m.spot m.is) o (sym (ap (λ (v : Row). v.routine) m.same) ∙ eqb-true _ _ p.0) in
         let l = left_known a.0.at m.spot m.is p.1 in
         record { out = l.out; is = subst (λ k. out_at t k ≡ Some l.out) e l.is }
 
@@ -476,39 +416,6 @@ module _ (image : List ℕ) (c : Certificate) (valid : is_valid image c ≡ true
           omega (arith, a, b, z)
       by (Some i) e = nothing 0
 
-  -- ---- one bound is raised
-  module _ (d : Certificate) (w : Shows t d) (n b : ℕ) (lt : n < length (entries_of t)) where
-    abbrev v : Certificate
-    v = with_bound d n b
-
-    changed_one : (m : ℕ) (P : Routine → Type 0) → (n ≡ m → P (record (routine d n) { bound = b })) → (nat_eq n m ≡ false → P (routine d m)) → P (routine v m)
-    changed_one m P f g = by (nat_eq n m) refl where
-      by : (z : Bool) → nat_eq n m ≡ z → P (routine v m)
-      by true e = let q = eqb-true n m e in
-          subst (λ k. P (routine v k)) q (subst P (sym (set_routine d.routines n (record (routine d n) { bound = b }) (subst (λ k. n < k) (sym w.count) lt))) (f q))
-      by false e = subst P (sym (other_routine d.routines n m (record (routine d n) { bound = b }) e)) (g e)
-
-    shows_one : Shows t v
-    shows_one = record {
-      interrupts = w.interrupts;
-      cell = w.cell;
-      rows = w.rows;
-      count = set_count d.routines n (record (routine d n) { bound = b }) ∙ w.count;
-      entry = λ m l. changed_one m (λ q. q.entry ≡ slice_index_or (entries_of t) m 0) (λ e. ap (λ k. (routine d k).entry) e ∙ w.entry m l) (λ e. w.entry m l);
-      isr = λ m l. changed_one m (λ q. q.isr ≡ isr_of (spot_at t (slice_index_or (entries_of t) m 0))) (λ e. ap (λ k. (routine d k).isr) e ∙ w.isr m l) (λ e. w.isr m l);
-      out3 = λ m l. changed_one m (λ q. q.out3 ≡ p3_of (out_at t (slice_index_or (entries_of t) m 0))) (λ e. ap (λ k. (routine d k).out3) e ∙ w.out3 m l) (λ e. w.out3 m l);
-      out4 = λ m l. changed_one m (λ q. q.out4 ≡ p4_of (out_at t (slice_index_or (entries_of t) m 0))) (λ e. ap (λ k. (routine d k).out4) e ∙ w.out4 m l) (λ e. w.out4 m l);
-    }
-
-    bound_same : (routine v n).bound ≡ b
-    bound_same = changed_one n (λ q. q.bound ≡ b) (λ e. refl) (λ e. absurd (both_ways (nat_eq n n) e (eq-eqb n n refl)))
-
-    bound_most : (m k : ℕ) → (n ≡ m → b ≤ k) → (routine d m).bound ≤ k → (routine v m).bound ≤ k
-    bound_most m k f h = changed_one m (λ q. q.bound ≤ k) f (λ e. h)
-
-    bound_grows : (m : ℕ) → (routine d n).bound ≤ b → (routine d m).bound ≤ (routine v m).bound
-    bound_grows m h = changed_one m (λ q. (routine d m).bound ≤ q.bound) (λ e. subst (λ k. (routine d k).bound ≤ b) e h) (λ e. omega arith)
-
   -- one row, or several, after another
   record Raised (d v : Certificate) : Type 0 where
     pub shows : Shows t v
@@ -525,16 +432,16 @@ module _ (image : List ℕ) (c : Certificate) (valid : is_valid image c ≡ true
     n = position e (entries_of t)
 
     rest : (nat_lt b 100 && nat_lt n (length d.routines)) ≡ true
-    rest = and_from (nat_lt b 100) (nat_lt n (length d.routines)) (lt-ltb b 100 (omega (arith, le, small))) (lt-ltb n (length d.routines) (subst (λ k. n < k) (sym w.count) (held e o)))
+    rest = and_from (nat_lt b 100) (nat_lt n (length d.routines)) (lt-ltb b 100 (omega (arith, le, small))) (lt-ltb n (length d.routines) (subst (λ k. n < k) (sym w.count) (held t e o)))
 
     up : (routine d n).bound < b → Raised d (with_bound d n b) × (b ≤ (routine (with_bound d n b) n).bound)
     up lt = (
       record {
-        shows = shows_one d w n b (held e o);
-        grows = λ f q. bound_grows d w n b (held e o) (position f (entries_of t)) (omega (arith, lt));
-        most = λ f q. bound_most d w n b (held e o) (position f (entries_of t)) (routine c (number c f)).bound (λ z. subst (λ k. b ≤ (routine c (number c k)).bound) (same_entry e f o q z) le) (m f q);
+        shows = shows_one t d w n b (held t e o);
+        grows = λ f q. bound_grows t d w n b (held t e o) (position f (entries_of t)) (omega (arith, lt));
+        most = λ f q. bound_most t d w n b (held t e o) (position f (entries_of t)) (routine c (number c f)).bound (λ z. subst (λ k. b ≤ (routine c (number c k)).bound) (same_entry t e f o q z) le) (m f q);
       },
-      (let z = bound_same d w n b (held e o) in omega (arith, z)),
+      (let z = bound_same t d w n b (held t e o) in omega (arith, z)),
     )
 
     by : (z : Bool) → nat_lt (routine d n).bound b ≡ z → Raised d (if nat_lt (routine d n).bound b && nat_lt b 100 && nat_lt n (length d.routines) then with_bound d n b else d)
@@ -679,27 +586,11 @@ module _ (image : List ℕ) (c : Certificate) (valid : is_valid image c ≡ true
             omega (arith, a, b, y)));
       }
 
-  -- at first
-  first_routine : (n : ℕ) → n < length (entries_of t) → routine (certificate_of t) n ≡ routine_for t (slice_index_or (entries_of t) n 0)
-  first_routine n lt = routine_there t (entries_of t) n lt
-
-  start_shows : Shows t (certificate_of t)
-  start_shows = record {
-    interrupts = refl;
-    cell = refl;
-    rows = refl;
-    count = routines_length t (entries_of t);
-    entry = λ n lt. ap (λ (q : Routine). q.entry) (first_routine n lt);
-    isr = λ n lt. ap (λ (q : Routine). q.isr) (first_routine n lt);
-    out3 = λ n lt. ap (λ (q : Routine). q.out3) (first_routine n lt);
-    out4 = λ n lt. ap (λ (q : Routine). q.out4) (first_routine n lt);
-  }
-
   rounds : (k : ℕ) → Round k (raised image k (certificate_of t))
   unfolding raised
   rounds zero = record {
-    shows = start_shows;
-    most = λ e o. subst (λ (q : Routine). q.bound ≤ (routine c (number c e)).bound) (sym (first_routine (position e (entries_of t)) (held e o))) (nothing (routine c (number c e)).bound);
+    shows = (start_shows t);
+    most = λ e o. subst (λ (q : Routine). q.bound ≤ (routine c (number c e)).bound) (sym (first_routine t (position e (entries_of t)) (held t e o))) (nothing (routine c (number c e)).bound);
     upto = λ e o lt. absurd (omega (arith, lt));
   }
   rounds (suc k) = next_round k (raised image k (certificate_of t)) (rounds k)
@@ -724,7 +615,7 @@ module _ (image : List ℕ) (c : Certificate) (valid : is_valid image c ≡ true
       most = height_least image d (position e (entries_of t)) 0 (routine c (number c e)).bound d.rows (nothing (routine c (number c e)).bound)
           (λ r i h.
           let m = member_spot d w r i in
-          let k = same_entry m.spot.entry e (u.owned r.at m.spot m.is) o (sym (ap (λ (z : Row). z.routine) m.same) ∙ eqb-true r.routine (position e (entries_of t)) h) in
+          let k = same_entry t m.spot.entry e (u.owned r.at m.spot m.is) o (sym (ap (λ (z : Row). z.routine) m.same) ∙ eqb-true r.routine (position e (entries_of t)) h) in
           subst (λ j. call_height d r (instruction image r) ≤ (routine c (number c j)).bound) k
           (subst (λ (z : Row). call_height d z (instruction image z) ≤ (routine c (number c m.spot.entry)).bound) (sym m.same) (most_here r.at m.spot m.is d w q.most)))
 
@@ -774,14 +665,14 @@ module _ (image : List ℕ) (c : Certificate) (valid : is_valid image c ≡ true
       bare_d : (nat_eq (position s.entry (entries_of t)) 1 || is_bare s.facts) ≡ true
       bare_d = ⊎_elim
           (λ h. let z = and_parts c.interrupts (nat_eq s.entry 4) h in
-          or_left (nat_eq (position s.entry (entries_of t)) 1) (is_bare s.facts) (eq-eqb (position s.entry (entries_of t)) 1 (ap (λ k. position k (entries_of t)) (eqb-true s.entry 4 z.1) ∙ handler_place (sym interrupts ∙ z.0))))
+          or_left (nat_eq (position s.entry (entries_of t)) 1) (is_bare s.facts) (eq-eqb (position s.entry (entries_of t)) 1 (ap (λ k. position k (entries_of t)) (eqb-true s.entry 4 z.1) ∙ handler_place t (sym interrupts ∙ z.0))))
           (λ h. or_right (nat_eq (position s.entry (entries_of t)) 1) (is_bare s.facts) h)
           (or_cases (c.interrupts && nat_eq s.entry 4) (is_bare s.facts) (u.bare at s is))
 
       good_row : row_holds image d mine_d ≡ true
       good_row = and_from _ (instruction_holds image d mine_d (instruction image mine_d))
           (and_from (nat_lt (position s.entry (entries_of t)) (length d.routines)) (nat_eq (position s.entry (entries_of t)) 1 || is_bare s.facts)
-          (lt-ltb (position s.entry (entries_of t)) (length d.routines) (subst (λ k. position s.entry (entries_of t) < k) (sym w.count) (held s.entry (u.owned at s is)))) bare_d)
+          (lt-ltb (position s.entry (entries_of t)) (length d.routines) (subst (λ k. position s.entry (entries_of t) < k) (sym w.count) (held t s.entry (u.owned at s is)))) bare_d)
           good_instruction
 
     all_rows : (rows : List Row) → ((r : Row) → In r rows → In r d.rows) → list_all (row_holds image d) rows ≡ true
@@ -820,8 +711,8 @@ module _ (image : List ℕ) (c : Certificate) (valid : is_valid image c ≡ true
     good_routines = all_routines image d 0 d.routines (λ n lt.
         let l = subst (λ k. n < k) w.count lt in
         let o = entries_owned n l in
-        subst (λ k. routine_holds image d k (routine d n) ≡ true) (sym (plus n))
-        (subst (λ k. routine_holds image d k (routine d k) ≡ true) (distinct n l) (good_routine (slice_index_or (entries_of t) n 0) o)))
+        subst (λ k. routine_holds image d k (routine d n) ≡ true) (sym (plus t n))
+        (subst (λ k. routine_holds image d k (routine d k) ≡ true) (distinct t n l) (good_routine (slice_index_or (entries_of t) n 0) o)))
 
     -- the roots
     agreed : (a b : Bool) → a ≡ b → agree a b ≡ true
@@ -830,19 +721,19 @@ module _ (image : List ℕ) (c : Certificate) (valid : is_valid image c ≡ true
 
     entry_d : (e n : ℕ) (b : Bool) → Owns t e → position e (entries_of t) ≡ n → (routine c (number c e)).isr ≡ b → is_entry b e (slice_get d.routines n) ≡ true
     entry_d e n b o p f = subst (λ k. is_entry b e (slice_get d.routines k) ≡ true) p
-        (subst (λ z. is_entry b e z ≡ true) (sym (get_there d.routines (position e (entries_of t)) (subst (λ k. position e (entries_of t) < k) (sym w.count) (held e o))))
+        (subst (λ z. is_entry b e z ≡ true) (sym (get_there d.routines (position e (entries_of t)) (subst (λ k. position e (entries_of t) < k) (sym w.count) (held t e o))))
         (and_from (nat_eq (routine d (position e (entries_of t))).entry e) (agree (routine d (position e (entries_of t))).isr b) (eq-eqb _ _ (d_entry d w e o)) (agreed (routine d (position e (entries_of t))).isr b (isr_alike d w e o ∙ f))))
 
     main_good : (is_entry false 0 (slice_get d.routines 0) && has_row d 0 0 at_reset) ≡ true
     main_good = and_from (is_entry false 0 (slice_get d.routines 0)) (has_row d 0 0 at_reset)
-        (entry_d 0 0 false owns_main main_place (ap (λ k. (routine c k).isr) (number_main d w) ∙ main_isr image c valid))
-        (subst (λ k. has_row d 0 k at_reset ≡ true) main_place (asked d w 0 (entering 0 false at_reset) main_fits main_still))
+        (entry_d 0 0 false owns_main (main_place t) (ap (λ k. (routine c k).isr) (number_main d w) ∙ main_isr image c valid))
+        (subst (λ k. has_row d 0 k at_reset ≡ true) (main_place t) (asked d w 0 (entering 0 false at_reset) main_fits main_still))
 
     handler_good : t.interrupts ≡ true → (is_entry true 4 (slice_get d.routines 1) && has_row d 4 1 at_interrupt) ≡ true
     handler_good e = let i = interrupts ∙ e in
         and_from (is_entry true 4 (slice_get d.routines 1)) (has_row d 4 1 at_interrupt)
-        (entry_d 4 1 true (owns_handler e) (handler_place e) (ap (λ k. (routine c k).isr) (number_handler d w i) ∙ (handler image c valid i).0))
-        (subst (λ k. has_row d 4 k at_interrupt ≡ true) (handler_place e) (asked d w 4 (entering 4 true at_interrupt) (handler_fits e) (handler_still e)))
+        (entry_d 4 1 true (owns_handler e) (handler_place t e) (ap (λ k. (routine c k).isr) (number_handler d w i) ∙ (handler image c valid i).0))
+        (subst (λ k. has_row d 4 k at_interrupt ≡ true) (handler_place t e) (asked d w 4 (entering 4 true at_interrupt) (handler_fits e) (handler_still e)))
 
     where_on : (k p : Bool) → (k ≡ true → p ≡ true) → (not k || p) ≡ true
     where_on true p f = f refl
@@ -871,11 +762,11 @@ module _ (image : List ℕ) (c : Certificate) (valid : is_valid image c ≡ true
     total_is : total_of d ≡ total_of c
     total_is = by t.interrupts refl where
       zero_is : (routine d 0).bound ≡ (routine c 0).bound
-      zero_is = ap (λ k. (routine d k).bound) (sym main_place) ∙ bound_is 0 owns_main ∙ ap (λ k. (routine c k).bound) (number_main d w)
+      zero_is = ap (λ k. (routine d k).bound) (sym (main_place t)) ∙ bound_is 0 owns_main ∙ ap (λ k. (routine c k).bound) (number_main d w)
 
       by : (b : Bool) → t.interrupts ≡ b → (routine d 0).bound + (if d.interrupts then 1 + (routine d 1).bound else 0) ≡ (routine c 0).bound + (if c.interrupts then 1 + (routine c 1).bound else 0)
       by true e =
-          let one : (routine d 1).bound ≡ (routine c 1).bound = ap (λ k. (routine d k).bound) (sym (handler_place e)) ∙ bound_is 4 (owns_handler e) ∙ ap (λ k. (routine c k).bound) (number_handler d w (interrupts ∙ e)) in
+          let one : (routine d 1).bound ≡ (routine c 1).bound = ap (λ k. (routine d k).bound) (sym (handler_place t e)) ∙ bound_is 4 (owns_handler e) ∙ ap (λ k. (routine c k).bound) (number_handler d w (interrupts ∙ e)) in
           ap (λ z. (routine d 0).bound + (if z then 1 + (routine d 1).bound else 0)) (w.interrupts ∙ e) ∙ ap (λ z. z + (1 + (routine d 1).bound)) zero_is ∙ ap (λ z. (routine c 0).bound + (1 + z)) one
           ∙ sym (ap (λ z. (routine c 0).bound + (if z then 1 + (routine c 1).bound else 0)) (interrupts ∙ e))
       by false e =
@@ -897,25 +788,3 @@ best image interrupts cell t s z c v k i =
     let a = k ∙ sym s.cell_is in
     let b = i ∙ sym s.interrupts_is in
     valid_d image c v t a b s.spots s.outs (s.under c v k i) z (raised image 9 (certificate_of t)) (rounds image c v t a b s.spots s.outs (s.under c v k i) z 9)
-
--- ---- no certificate for one cell after another
-abbrev pub NoneBelow : List ℕ → ℕ → Type 0
-NoneBelow image cell = (c : Certificate) → is_valid image c ≡ true → c.cell < cell → ⊥
-
-abbrev pub NoneAt : List ℕ → Bool → ℕ → Type 0
-NoneAt image interrupts cell = (c : Certificate) → is_valid image c ≡ true → c.cell ≡ cell → c.interrupts ≡ interrupts → ⊥
-
-pub none_first : (image : List ℕ) (cell : ℕ) → cell ≡ 0x70 → NoneBelow image cell
-none_first image cell e c v lt = let l = lo image c v in omega (arith, l, e, lt)
-
-pub none_next : (image : List ℕ) (cell : ℕ) → NoneBelow image cell → NoneAt image false cell → NoneAt image true cell → NoneBelow image (cell + 1)
-none_next image cell n a b c v lt = ⊎_elim (λ l. n c v l) (λ l. by c.interrupts refl (same c.cell cell l lt)) (cases_lt c.cell cell) where
-  same : (x y : ℕ) → y ≤ x → x < y + 1 → x ≡ y
-  same x y l k = omega arith
-
-  by : (i : Bool) → c.interrupts ≡ i → c.cell ≡ cell → ⊥
-  by false e k = a c v k e
-  by true e k = b c v k e
-
-pub none_last : (image : List ℕ) (cell : ℕ) → 0x80 ≤ cell → NoneBelow image cell → (c : Certificate) → is_valid image c ≡ true → ⊥
-none_last image cell le n c v = let h = hi image c v in n c v (omega (arith, h, le))

@@ -1,5 +1,5 @@
 -- The search for a certificate: what was found so far, and what a row that was found makes of it.
-use Rattle.std.specs.Prelude.{ℕ, zero, suc, ◌+◌, ◌*◌, Bool, true, false, not, ◌&&◌, nat_eq, nat_lt, if◌then◌else◌, Option, Some, None, List, [], ◌∷◌, ◌++◌, length, slice_index, slice_index_or, slice_set, replicate}
+use Rattle.std.specs.Prelude.{ℕ, zero, suc, ◌+◌, ◌*◌, ◌≡◌, ◌<◌, Bool, true, false, not, ◌&&◌, nat_eq, nat_lt, if◌then◌else◌, Option, Some, None, List, [], ◌∷◌, ◌++◌, length, slice_index, slice_index_or, slice_set, replicate}
 use Rattle.pic_isa.specs.declared.Ins.{Ins}
 use Rattle.pic_isa.specs.declared.Ins.TheVariants.{Call, Goto, Retfie, Retlw, Return, Sleep}
 use Rattle.pic_isa.specs.Lookup.{row_of}
@@ -139,6 +139,14 @@ position n (x ∷ xs) = if nat_eq x n then 0 else 1 + position n xs
 
 abbrev pub holds_number : ℕ → List ℕ → Bool
 holds_number n xs = nat_lt (position n xs) (length xs)
+
+-- the place of a number in a list, if it is there
+abbrev pub number_in : List ℕ → ℕ → Option ℕ
+number_in xs n = if holds_number n xs then Some (position n xs) else None
+
+-- a table has the places of all numbers below 8192
+abbrev pub IsNumbered : List (Option ℕ) → List ℕ → Type 0
+IsNumbered numbers xs = (length numbers ≡ 8192) × ((n : ℕ) → n < 8192 → slice_index_or numbers n None ≡ number_in xs n)
 
 -- the row is the first of its routine
 abbrev pub is_first : ℕ → Option Spot → Bool

@@ -1,10 +1,10 @@
 //! From what a search has found to a certificate with its bounds.
 
-ghost use Rattle.std.specs.Prelude.{◌≡◌, true, ◌≤◌, ◌+◌, length, IfOk, IfSome};
+ghost use Rattle.std.specs.Prelude.{◌≡◌, true, ◌<◌, ◌≤◌, ◌+◌, ◌++◌, [], ◌∷◌, length, slice_index_or, slice_set, IfOk, IfSome, Option, Some, None};
 ghost use Rattle.pic_isa.specs.Table.{IsWellFormed};
 ghost use Rattle.depth_check.specs.Certificate.{seen};
 ghost use Rattle.depth_check.specs.Valid.{is_rising};
-ghost use Rattle.depth_check.specs.Search.{tables, spot_at as spot_at_of, is_first as is_first_of, position as position_of, with_entry as with_entry_of, entries_of, row_for as row_for_of, rows_from, routine_for as routine_for_of, routines_for, certificate_of, raised_to, raised_by, raised_from, raised};
+ghost use Rattle.depth_check.specs.Search.{tables, IsNumbered, first_entries as first_entries_of, spot_at as spot_at_of, is_first as is_first_of, position as position_of, with_entry as with_entry_of, entries_of, row_for as row_for_of, rows_from, routine_for as routine_for_of, routines_for, certificate_of, raised_to, raised_by, raised_from, raised};
 
 use crate::check::{call_height, instruction};
 use crate::tables::{Search, Spot};
@@ -25,13 +25,68 @@ fn position(n: u16, numbers: &[u16]) -> usize
     numbers.len()
 }
 
-fn with_entry(entries: &mut Vec<u16>, at: u16) -> Result<(), AllocError>
-    ensures { IfOk result (λ nothing. entries.new.items ≡ with_entry_of entries.old.items at) }
-{
-    if position(at, entries) >= entries.len() {
-        entries.push(at)?;
+// The entries of the routines that were found.
+#[derive(Drop)]
+struct Numbering {
+    // By the number of a routine.
+    list: Vec<u16>,
+    // The numbers, by address.
+    numbers: [Option<u16>; 8192],
+}
+
+impl Numbering {
+    // The number of the routine that begins at an address, if one does.
+    fn number(&self, at: u16) -> Option<u16>
+        ensures number { result ≡ slice_index_or self.now.numbers at None }
+        ensures below { IfSome result (λ number. at < 8192) }
+    {
+        if (at as usize) < 8192 {
+            self.numbers[at as usize]
+        } else {
+            None
+        }
     }
-    Ok(())
+
+    // The number of the routine with this entry.
+    fn place(&self, entry: u16) -> u16
+        requires few { length self.now.list.items ≤ 8194 }
+        requires numbered { IsNumbered self.now.numbers self.now.list.items }
+        ensures { result ≡ position_of entry self.now.list.items }
+    {
+        match self.number(entry) {
+            None => position(entry, &self.list) as u16,
+            Some(number) => number,
+        }
+    }
+
+    fn append(&mut self, at: u16) -> Result<(), AllocError>
+        requires few { length self.old.list.items ≤ 8193 }
+        requires below { at < 8192 }
+        ensures list { IfOk result (λ nothing. self.new.list.items ≡ self.old.list.items ++ at ∷ []) }
+        ensures numbers { IfOk result (λ nothing. self.new.numbers ≡ slice_set self.old.numbers at (Some (length self.old.list.items))) }
+    {
+        let number = self.list.len() as u16;
+        self.list.push(at)?;
+        self.numbers[at as usize] = Some(number);
+        Ok(())
+    }
+
+    fn add(&mut self, at: u16) -> Result<(), AllocError>
+        requires few { length self.old.list.items ≤ 8193 }
+        requires below { at < 8192 }
+        requires numbered { IsNumbered self.old.numbers self.old.list.items }
+        ensures list { IfOk result (λ nothing. self.new.list.items ≡ with_entry_of self.old.list.items at) }
+        ensures few { IfOk result (λ nothing. length self.new.list.items ≤ length self.old.list.items + 1) }
+        ensures numbered { IfOk result (λ nothing. IsNumbered self.new.numbers self.new.list.items) }
+    {
+        match self.number(at) {
+            None => {
+                self.append(at)?;
+                Ok(())
+            }
+            Some(_) => Ok(()),
+        }
+    }
 }
 
 fn is_first(s: &Search, at: u16) -> bool
@@ -43,40 +98,55 @@ fn is_first(s: &Search, at: u16) -> bool
     }
 }
 
-// The entries of all routines: main's, the handler's where interrupts come, and the others in order of address.
-fn entries(alloc: Global, s: &Search) -> Result<Vec<u16>, AllocError>
-    requires spots { length s.now.spots.items ≡ 8192 }
-    ensures all { IfOk result (λ found. found.items ≡ entries_of (tables s.now)) }
-    ensures few { IfOk result (λ found. length found.items ≤ 8194) }
+// Main's entry, and the handler's where interrupts come.
+fn first_entries(alloc: Global, interrupts: bool) -> Result<Numbering, AllocError>
+    ensures list { IfOk result (λ found. found.list.items ≡ first_entries_of interrupts) }
+    ensures numbered { IfOk result (λ found. IsNumbered found.numbers found.list.items) }
 {
-    let mut found = Vec::new(alloc);
-    found.push(0)?;
-    if s.interrupts {
-        found.push(4)?;
+    let mut found = Numbering {
+        list: Vec::new(alloc),
+        numbers: [None; 8192],
+    };
+    found.add(0)?;
+    if interrupts {
+        found.add(4)?;
     }
+    Ok(found)
+}
+
+// The entries of all routines: main's, the handler's where interrupts come, and the others in order of address.
+fn entries(alloc: Global, s: &Search) -> Result<Numbering, AllocError>
+    requires spots { length s.now.spots.items ≡ 8192 }
+    ensures all { IfOk result (λ found. found.list.items ≡ entries_of (tables s.now)) }
+    ensures few { IfOk result (λ found. length found.list.items ≤ 8194) }
+    ensures numbered { IfOk result (λ found. IsNumbered found.numbers found.list.items) }
+{
+    let mut found = first_entries(alloc, s.interrupts)?;
     for at in 0..8192u16 {
         if is_first(s, at) {
-            with_entry(&mut found, at)?;
+            found.add(at)?;
         }
     }
     Ok(found)
 }
 
-fn row_for(entries: &[u16], at: u16, spot: Spot) -> Row
-    requires few { length entries.now ≤ 8194 }
-    ensures { result ≡ row_for_of entries.now at spot }
+fn row_for(entries: &Numbering, at: u16, spot: Spot) -> Row
+    requires few { length entries.now.list.items ≤ 8194 }
+    requires numbered { IsNumbered entries.now.numbers entries.now.list.items }
+    ensures { result ≡ row_for_of entries.now.list.items at spot }
 {
     Row {
         at,
-        routine: position(spot.entry, entries) as u16,
+        routine: entries.place(spot.entry),
         facts: spot.facts,
     }
 }
 
-fn rows(alloc: Global, s: &Search, entries: &[u16]) -> Result<Vec<Row>, AllocError>
+fn rows(alloc: Global, s: &Search, entries: &Numbering) -> Result<Vec<Row>, AllocError>
     requires spots { length s.now.spots.items ≡ 8192 }
-    requires few { length entries.now ≤ 8194 }
-    ensures { IfOk result (λ rows. rows.items ≡ rows_from entries.now 0 s.now.spots.items) }
+    requires few { length entries.now.list.items ≤ 8194 }
+    requires numbered { IsNumbered entries.now.numbers entries.now.list.items }
+    ensures { IfOk result (λ rows. rows.items ≡ rows_from entries.now.list.items 0 s.now.spots.items) }
 {
     let mut rows = Vec::new(alloc);
     for at in 0..8192u16 {
@@ -125,7 +195,7 @@ pub fn certificate(alloc: Global, s: &Search) -> Result<Heights, AllocError>
 {
     let entries = entries(alloc, s)?;
     let rows = rows(alloc, s, &entries)?;
-    let routines = routines(alloc, s, &entries)?;
+    let routines = routines(alloc, s, &entries.list)?;
     Ok(Heights {
         interrupts: s.interrupts,
         cell: s.cell,

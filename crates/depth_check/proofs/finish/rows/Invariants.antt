@@ -3,4 +3,4 @@ use Rattle.depth_check.specs.Search.{rows_from}
 use Rattle.depth_check.proofs.finish.rows.Given as goal
 
 abbrev pub invariant-loop-at : goal.invariant-loop-at
-invariant-loop-at l = l.rows.items ++ rows_from l.entries l.at (drop l.at l.s.spots.items) ≡ rows_from l.entries 0 l.s.spots.items
+invariant-loop-at l = l.rows.items ++ rows_from l.entries.list.items l.at (drop l.at l.s.spots.items) ≡ rows_from l.entries.list.items 0 l.s.spots.items

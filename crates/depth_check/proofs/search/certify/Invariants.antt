@@ -1,4 +1,4 @@
-use Rattle.depth_check.proofs.Showing.{NoneBelow}
+use Rattle.depth_check.proofs.Cells.{NoneBelow}
 use Rattle.depth_check.proofs.search.certify.Given as goal
 
 -- no certificate with a cell that was tried is valid
