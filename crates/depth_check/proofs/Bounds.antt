@@ -1,12 +1,11 @@
 -- Bounds of a certificate's routines.
-use Rattle.std.proofs.Common.{◌≡◌, ℕ, zero, suc, ◌+◌, ◌<◌, ◌≤◌, Bool, true, false, List, [], ◌∷◌, length, Option, Some, None, inl, inr, refl, sym, ap, ◌∙◌, subst, ⊎_elim, arith}
-use Rattle.std.specs.Prelude.{if◌then◌else◌, ◌&&◌, nat_eq, nat_lt, slice_set}
-use Rattle.std.proofs.lemmas.Bool.{and_parts, and_from, eqb-true, eqb-false, ltb-true, ltb-false, cond_both, both_ways}
+use Rattle.std.proofs.Common.{◌≡◌, ℕ, zero, suc, ◌+◌, ◌<◌, ◌≤◌, Bool, true, false, List, [], ◌∷◌, length, inl, inr, refl, ap, subst, arith}
+use Rattle.std.specs.Prelude.{nat_eq, nat_lt, slice_set}
+use Rattle.std.proofs.lemmas.Bool.{and_from, eqb-true, eqb-false, cond_both}
 use Rattle.depth_check.specs.declared.Row.{Row}
 use Rattle.depth_check.specs.declared.Routine.{Routine}
 use Rattle.depth_check.specs.Certificate.{Certificate}
-use Rattle.depth_check.specs.Valid.{routine, routine_in, instruction, call_height, greater, height_in, height, routine_holds, routines_hold}
-use Rattle.depth_check.specs.Search.{with_bound}
+use Rattle.depth_check.specs.Valid.{routine_in, instruction, call_height, greater, height_in, height, routine_holds, routines_hold}
 use Rattle.depth_check.proofs.Threads.{In}
 
 pub greater_least : (a b m : ℕ) → a ≤ m → b ≤ m → greater a b ≤ m

@@ -1,17 +1,17 @@
 -- Every row of a valid certificate is among the rows of a closed one that tells at least as much.
-use Rattle.std.proofs.Common.{◌≡◌, ℕ, zero, suc, ◌+◌, ◌<◌, ◌≤◌, Bool, true, false, List, [], ◌∷◌, length, Option, Some, None, inl, inr, refl, sym, ap, ◌∙◌, subst, ⊎_elim, arith}
-use Rattle.std.specs.Prelude.{if◌then◌else◌, not, ◌&&◌, ◌||◌, nat_eq, nat_lt, nat_le, ◌⊎◌}
+use Rattle.std.proofs.Common.{◌≡◌, ℕ, zero, suc, ◌+◌, ◌<◌, ◌≤◌, Bool, true, false, List, [], ◌∷◌, Option, Some, None, inl, inr, refl, sym, ap, ◌∙◌, subst, ⊎_elim, arith}
+use Rattle.std.specs.Prelude.{if◌then◌else◌, not, ◌&&◌, ◌||◌, nat_eq, nat_lt, nat_le}
 use Rattle.std.specs.List.{list_any, list_all}
-use Rattle.std.proofs.lemmas.Bool.{and_parts, and_from, or_cases, or_left, or_right, eqb-true, eq-eqb, ne_eqb, both_ways, leb-true, ltb-true}
+use Rattle.std.proofs.lemmas.Bool.{and_parts, and_from, or_cases, or_left, or_right, eqb-true, eq-eqb, ne_eqb, leb-true}
 use Rattle.pic_isa.specs.declared.Ins.{Ins}
-use Rattle.pic_isa.specs.declared.Ins.TheVariants.{Addwf, Andwf, Clrf, Clrw, Comf, Decf, Decfsz, Incf, Incfsz, Iorwf, Movf, Movwf, Nop, Rlf, Rrf, Subwf, Swapf, Xorwf, Bcf, Bsf, Btfsc, Btfss, Addlw, Andlw, Call, Clrwdt, Goto, Iorlw, Movlw, Retfie, Retlw, Return, Sleep, Sublw, Xorlw}
+use Rattle.pic_isa.specs.declared.Ins.TheVariants.{Call, Goto, Retfie, Retlw, Return, Sleep}
 use Rattle.depth_check.specs.declared.Facts.{Facts}
 use Rattle.depth_check.specs.declared.Row.{Row}
 use Rattle.depth_check.specs.Certificate.{Certificate}
 use Rattle.depth_check.specs.Facts.{may_skip, after, fits, bits, target}
-use Rattle.depth_check.specs.Valid.{routine, row_at, stands, has_row, instruction, next, next_but_one, is_return, returns, comes_back, goes_straight, row_holds, is_place, returns_from, call_returns, asks, is_met, all_met, is_rising, height, call_height, height_at, height_of, routine_holds}
-use Rattle.depth_check.proofs.Threads.{In, in_any, in_height, find_row, Found, straight_goes}
-use Rattle.depth_check.proofs.Transfer.{IsCalled, jump, call, straight_on}
+use Rattle.depth_check.specs.Valid.{routine, row_at, stands, has_row, instruction, next, next_but_one, is_return, returns, comes_back, goes_straight, row_holds, is_place, returns_from, call_returns, asks, is_met, all_met, is_rising}
+use Rattle.depth_check.proofs.Threads.{In, in_any}
+use Rattle.depth_check.proofs.Transfer.{jump, call, straight_on}
 use Rattle.depth_check.proofs.Below.{Less, less_of, less_same, fits_of, known_same, same_target}
 use Rattle.depth_check.proofs.Step.{is_straight}
 use Rattle.depth_check.proofs.Closed.{closed_to, closed_at, closed_call, is_closed}

@@ -1,10 +1,10 @@
 -- What all routines come to in one pass over the rows.
-use Rattle.std.proofs.Common.{◌≡◌, ℕ, zero, suc, ◌+◌, ◌<◌, ◌≤◌, Bool, true, false, List, [], ◌∷◌, length, drop, replicate, refl, sym, ap, ◌∙◌, arith}
+use Rattle.std.proofs.Common.{◌≡◌, ℕ, ◌<◌, ◌≤◌, Bool, true, false, List, length, drop, replicate, refl, sym, ap, ◌∙◌}
 use Rattle.std.specs.Prelude.{◌||◌, slice_index_or}
 use Rattle.std.proofs.lemmas.List.{drop_all}
 use Rattle.depth_check.specs.declared.Row.{Row}
 use Rattle.depth_check.specs.Certificate.{Certificate}
-use Rattle.depth_check.specs.Valid.{returns_in, greater, height}
+use Rattle.depth_check.specs.Valid.{returns_in, height}
 use Rattle.depth_check.specs.Marks.{TellsReturns, TellsHeights}
 use Rattle.depth_check.proofs.Spots.{index_none}
 

@@ -1,20 +1,17 @@
 -- A step of a search finds what each valid certificate has, and leaves less to be found.
-use Rattle.std.proofs.Common.{◌≡◌, ℕ, zero, suc, ◌+◌, ◌<◌, ◌≤◌, Bool, true, false, List, [], ◌∷◌, length, Option, Some, None, inl, inr, refl, sym, ap, ◌∙◌, subst, ⊎_elim, arith}
-use Rattle.std.specs.Prelude.{if◌then◌else◌, not, ◌&&◌, ◌||◌, nat_eq, nat_lt, slice_index, slice_index_or, slice_set, ◌⊎◌}
-use Rattle.std.proofs.lemmas.Bool.{and_parts, and_from, or_cases, or_left, or_right, eqb-true, eq-eqb, ltb-true, both_ways}
-use Rattle.pic_isa.specs.declared.Ins.{Ins}
-use Rattle.pic_isa.specs.declared.Ins.TheVariants.{Call, Goto, Retfie, Retlw, Return, Sleep}
-use Rattle.pic_isa.specs.Lookup.{row_of}
+use Rattle.std.proofs.Common.{◌≡◌, ℕ, ◌<◌, Bool, true, false, List, [], length, Option, Some, None, inl, inr, refl, sym, ap, ◌∙◌, subst, ⊎_elim, arith}
+use Rattle.std.specs.Prelude.{if◌then◌else◌, not, ◌&&◌, nat_eq, nat_lt, ◌⊎◌}
+use Rattle.std.proofs.lemmas.Bool.{or_cases, or_left, or_right, eqb-true, ltb-true}
 use Rattle.depth_check.specs.declared.Facts.{Facts}
 use Rattle.depth_check.specs.declared.Row.{Row}
 use Rattle.depth_check.specs.declared.tables.Spot.{Spot}
 use Rattle.depth_check.specs.declared.tables.Out.{Out}
 use Rattle.depth_check.specs.Certificate.{Certificate}
-use Rattle.depth_check.specs.Facts.{known_in, fits, target}
-use Rattle.depth_check.specs.Valid.{routine, row_at, has_row, instruction, is_return, is_bare, is_valid}
-use Rattle.depth_check.specs.Search.{Tables, spot_at, out_at, common, meet, with_spot, placed, put, beside, with_out, knows, left, leave}
-use Rattle.depth_check.specs.Found.{spot_size, out_size, facts_size, size, number, IsPlaced, Owns, IsLeft, is_bare_spot, IsUnder, Moves, Goes}
-use Rattle.depth_check.proofs.Below.{Less, less_of, fits_of, meet_above, common_above}
+use Rattle.depth_check.specs.Facts.{fits}
+use Rattle.depth_check.specs.Valid.{routine, row_at, is_bare}
+use Rattle.depth_check.specs.Search.{Tables, spot_at, out_at, common, meet, with_spot, placed, put, with_out, knows, left, leave}
+use Rattle.depth_check.specs.Found.{spot_size, out_size, facts_size, number, IsPlaced, Owns, IsLeft, is_bare_spot, IsUnder, Moves, Goes}
+use Rattle.depth_check.proofs.Below.{less_of, fits_of, meet_above, common_above}
 use Rattle.depth_check.proofs.Complete.{same_row}
 use Rattle.depth_check.proofs.Spots.{set_same, set_other, set_length, set_spots_size, set_outs_size, facts_most, two_most, meet_less, out_less}
 

@@ -1,22 +1,21 @@
 -- What facts say of a state, and that they hold behind an instruction.
-use Rattle.std.proofs.Common.{◌≡◌, ℕ, zero, suc, ◌+◌, ◌-◌, ◌*◌, ◌/◌, ◌%◌, ◌^◌, ◌<◌, ◌≤◌, Bool, true, false, List, [], ◌∷◌, ◌++◌, length, Option, Some, None, refl, sym, ap, ◌∙◌, subst, ⊎_elim, arith}
-use Rattle.std.specs.Prelude.{if◌then◌else◌, not, ◌&&◌, ◌||◌, nat_eq, slice_index, slice_set, ◌⊎◌}
-use Rattle.std.proofs.lemmas.Bool.{cond_both, and_parts, or_cases, eqb-true, not-true, both_ways}
+use Rattle.std.proofs.Common.{◌≡◌, ℕ, ◌-◌, ◌%◌, ◌<◌, ◌≤◌, Bool, true, false, List, [], ◌∷◌, ◌++◌, Option, Some, None, refl, sym, ap, ◌∙◌, subst, ⊎_elim, arith}
+use Rattle.std.specs.Prelude.{if◌then◌else◌, not, ◌&&◌, ◌||◌, nat_eq, slice_index, slice_set}
+use Rattle.std.proofs.lemmas.Bool.{cond_both, and_parts, or_cases, eqb-true, not-true}
 use Rattle.pic_isa.specs.declared.Ins.{Ins}
-use Rattle.pic_isa.specs.declared.Ins.TheVariants.{Addwf, Andwf, Clrf, Clrw, Comf, Decf, Decfsz, Incf, Incfsz, Iorwf, Movf, Movwf, Nop, Rlf, Rrf, Subwf, Swapf, Xorwf, Bcf, Bsf, Btfsc, Btfss, Addlw, Andlw, Call, Clrwdt, Goto, Iorlw, Movlw, Retfie, Retlw, Return, Sleep, Sublw, Xorlw}
+use Rattle.pic_isa.specs.declared.Ins.TheVariants.{Clrf, Movf, Movwf, Bcf, Bsf}
 use Rattle.pic_world.specs.Bits.{bit, set_bit, clear_bit, truth}
 use Rattle.pic_chip.proofs.BitCases.{at_each}
 use Rattle.pic_chip.specs.State.{State, AtPc, AtW}
 use Rattle.pic_chip.specs.Act.{Act, Do, perform}
-use Rattle.pic_chip.specs.Address.{Place, operand}
 use Rattle.pic_chip.specs.Instructions.{row, contents, after_read, result_to, following, to, part, z_of, note, write_note, store}
 use Rattle.depth_check.specs.declared.Facts.{Facts}
-use Rattle.depth_check.specs.Facts.{written, is_at, writes, writes_w, is_movwf, bit_written, loads, after, is_known, known_in, implies, fits}
+use Rattle.depth_check.specs.Facts.{writes, writes_w, is_movwf, bit_written, loads, after, is_known, known_in, implies, fits}
 use Rattle.depth_check.specs.Valid.{spares_gie}
 use Rattle.pic_chip.proofs.Ranges.{IsRanged, IsSmall}
 use Rattle.depth_check.proofs.Parts.{set_here}
 use Rattle.depth_check.proofs.Places.{cell_place}
-use Rattle.depth_check.proofs.Step.{Moved, is_straight}
+use Rattle.depth_check.proofs.Step.{Moved}
 
 -- ---- what is known of a bit
 abbrev pub Knows : Option Bool → ℕ → Type 0

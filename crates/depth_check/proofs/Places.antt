@@ -1,12 +1,11 @@
 -- Which places an operand doesn't lead to.
-use Rattle.std.proofs.Common.{◌≡◌, ℕ, zero, suc, ◌+◌, ◌-◌, ◌*◌, ◌/◌, ◌%◌, ◌<◌, ◌≤◌, Bool, true, false, refl, sym, ap, ◌∙◌, arith}
+use Rattle.std.proofs.Common.{◌≡◌, ℕ, ◌+◌, ◌-◌, ◌*◌, ◌%◌, ◌<◌, ◌≤◌, Bool, true, false, refl, arith}
 use Rattle.std.specs.Prelude.{if◌then◌else◌, nat_eq, nat_lt, nat_le, ◌&&◌}
-use Rattle.std.proofs.lemmas.Bool.{cond_both, ne_eqb, eqb-true, leb-true, le-leb, leb-false, ltb-true, ltb-false, both_ways}
-use Rattle.pic_world.specs.Registers.{is_register, lowest}
-use Rattle.pic_chip.specs.State.{State, Part, AtW, AtPc, AtPclath, AtIntcon, AtPushes, AtPops, Ram, Level}
-use Rattle.pic_chip.specs.Address.{Place, Pcl, Status, Fsr, Pclath, Intcon, Pir1, Pie1, General, Device, Nothing, place, indirect, in_every_bank, operand}
+use Rattle.std.proofs.lemmas.Bool.{cond_both, ne_eqb, leb-true, le-leb, leb-false, ltb-true, ltb-false, both_ways}
+use Rattle.pic_world.specs.Registers.{is_register}
+use Rattle.pic_chip.specs.State.{State, AtW, AtPc, AtPclath, AtIntcon, AtPushes, AtPops, Ram, Level}
+use Rattle.pic_chip.specs.Address.{Place, Pcl, Status, Fsr, Pclath, Intcon, Pir1, Pie1, General, Device, Nothing, place, in_every_bank, operand}
 use Rattle.pic_chip.specs.Act.{Act, effect}
-use Rattle.pic_chip.proofs.Ranges.{Leads, leads}
 use Rattle.depth_check.proofs.Parts.{meets}
 
 -- what a place can be, and what is then known of the low seven bits

@@ -1,13 +1,12 @@
 -- A pass in which nothing changes asks for nothing new.
-use Rattle.std.proofs.Common.{◌≡◌, ℕ, suc, ◌+◌, ◌<◌, ◌≤◌, Bool, true, false, List, [], ◌∷◌, ◌++◌, length, Option, Some, None, inl, inr, refl, sym, ap, ◌∙◌, subst, ⊎_elim, replicate, zero, arith}
-use Rattle.std.specs.Prelude.{◌⊎◌, slice_index_or}
+use Rattle.std.proofs.Common.{◌≡◌, ℕ, suc, ◌+◌, ◌<◌, ◌≤◌, Bool, true, false, List, [], ◌∷◌, ◌++◌, length, Option, Some, None, refl, sym, ap, ◌∙◌, subst, ⊎_elim, replicate, zero, arith}
+use Rattle.std.specs.Prelude.{slice_index_or}
 use Rattle.std.proofs.lemmas.List.{length-replicate}
 use Rattle.std.proofs.lemmas.Bool.{both_ways, cases_lt}
 use Rattle.depth_check.specs.declared.tables.Spot.{Spot}
 use Rattle.depth_check.specs.declared.tables.Out.{Out}
-use Rattle.depth_check.specs.Certificate.{Certificate}
 use Rattle.depth_check.specs.Search.{Tables, unchanged, step, with_roots}
-use Rattle.depth_check.specs.Found.{flag_size, size, IsUnder, Moves, Goes, IsSettled, IsSearch, IsOver}
+use Rattle.depth_check.specs.Found.{flag_size, size, Goes, IsSettled, IsSearch, IsOver}
 use Rattle.depth_check.proofs.Growing.{goes_then}
 use Rattle.depth_check.proofs.Stepping.{step_goes, roots_go}
 

@@ -1,10 +1,10 @@
 -- A certificate that shows what a settled search has found, beside a valid one with the same cell and interrupts.
 use Rattle.std.proofs.Common.{◌≡◌, ℕ, zero, suc, ◌+◌, ◌<◌, ◌≤◌, Bool, true, false, List, [], ◌∷◌, length, Option, Some, None, inl, inr, refl, sym, ap, ◌∙◌, subst, ⊎_elim, arith}
-use Rattle.std.specs.Prelude.{if◌then◌else◌, not, ◌&&◌, ◌||◌, nat_eq, nat_lt, nat_le, slice_index, slice_index_or, slice_get, ◌⊎◌}
+use Rattle.std.specs.Prelude.{if◌then◌else◌, not, ◌&&◌, ◌||◌, nat_eq, nat_lt, nat_le, slice_index, slice_index_or, slice_get}
 use Rattle.std.specs.List.{list_all}
-use Rattle.std.proofs.lemmas.Bool.{and_parts, and_from, or_cases, or_left, or_right, eqb-true, eq-eqb, ne_eqb, eqb-false, lt-ltb, le-leb, ltb-true, ltb-false, both_ways, cases_lt}
+use Rattle.std.proofs.lemmas.Bool.{and_parts, and_from, or_cases, or_left, or_right, eqb-true, eq-eqb, lt-ltb, le-leb, ltb-true, ltb-false}
 use Rattle.pic_isa.specs.declared.Ins.{Ins}
-use Rattle.pic_isa.specs.declared.Ins.TheVariants.{Addwf, Andwf, Clrf, Clrw, Comf, Decf, Decfsz, Incf, Incfsz, Iorwf, Movf, Movwf, Nop, Rlf, Rrf, Subwf, Swapf, Xorwf, Bcf, Bsf, Btfsc, Btfss, Addlw, Andlw, Call, Clrwdt, Goto, Iorlw, Movlw, Retfie, Retlw, Return, Sleep, Sublw, Xorlw}
+use Rattle.pic_isa.specs.declared.Ins.TheVariants.{Call, Goto, Retfie, Retlw, Return, Sleep}
 use Rattle.pic_isa.specs.Lookup.{row_of}
 use Rattle.depth_check.specs.declared.Facts.{Facts}
 use Rattle.depth_check.specs.declared.Row.{Row}
@@ -14,21 +14,21 @@ use Rattle.depth_check.specs.declared.tables.Out.{Out}
 use Rattle.depth_check.specs.Certificate.{Certificate}
 use Rattle.depth_check.specs.Facts.{known_in, fits, bits, target, after, may_skip, at_reset, at_interrupt}
 use Rattle.depth_check.specs.Valid.{routine, row_at, stands, has_row, instruction, is_return, returns, comes_back, leaves, goes_straight, next, next_but_one, is_root, is_bare, is_rising, is_met, all_met, call_height, height_at, height_of, height, agree, is_none, is_row_of, is_entry, roots_hold, instruction_holds, row_holds, routine_holds, routines_hold, lets_in, writes_intcon, total_of, is_valid}
-use Rattle.depth_check.specs.Search.{Tables, spot_at, out_at, put, beside, entering, leave, gone, come_back, with_callee, called, skipped, passed, done, done_by, step_from, step, with_handler, with_roots, position, is_first, first_entries, entries_from, entries_of, row_for, rows_from, isr_of, p3_of, p4_of, routine_for, knows, certificate_of, with_bound, raised_to, raised_by, raised_from, raised}
-use Rattle.depth_check.specs.Found.{number, routine_or_none, IsPlaced, Owns, IsLeft, is_bare_spot, IsUnder, IsSettled, IsSearch, IsBest}
+use Rattle.depth_check.specs.Search.{Tables, spot_at, out_at, put, beside, entering, leave, gone, come_back, with_callee, called, skipped, passed, done, done_by, step_from, step, with_handler, with_roots, position, is_first, first_entries, entries_of, row_for, rows_from, isr_of, p3_of, p4_of, certificate_of, with_bound, raised_to, raised_by, raised_from, raised}
+use Rattle.depth_check.specs.Found.{number, routine_or_none, IsPlaced, Owns, IsUnder, IsSettled, IsSearch, IsBest}
 use Rattle.depth_check.proofs.Threads.{In, in_any, main_row, main_isr, main_entry, handler, handler_entry, rises, all_hold, every_met, let_in, small_total, in_height, lo, hi}
 use Rattle.depth_check.proofs.Complete.{any_in, all_in, own, found_in, same_row, every_row, all_there}
 use Rattle.depth_check.proofs.Closed.{closed_to, closed_at, closed_call, is_closed, Alike, instruction_good}
 use Rattle.depth_check.proofs.Below.{less_of, less_same, fits_of, same_target}
 use Rattle.depth_check.proofs.Transfer.{call}
-use Rattle.depth_check.proofs.Bounds.{height_least, set_routine, other_routine, set_count, all_routines}
+use Rattle.depth_check.proofs.Bounds.{height_least, all_routines}
 use Rattle.depth_check.proofs.Sure.{Fact, fact, falls, stands_at, below}
 use Rattle.depth_check.proofs.Growing.{Fits, put_moves, same_spot, inside}
 use Rattle.depth_check.proofs.Step.{is_straight}
 use Rattle.depth_check.proofs.Stepping.{p, goto_fits, callee_fits, back_fits, beside_fits, straight, root_fits, bare_behind}
 use Rattle.depth_check.proofs.Spots.{within}
 use Rattle.depth_check.proofs.Through.{each_met}
-use Rattle.depth_check.proofs.Entries.{routine_there, routines_length, get_there, Distinct, Holds, at_position, all_distinct, all_old, all_held, all_each, row_of_spot, row_there, rows_rise}
+use Rattle.depth_check.proofs.Entries.{get_there, all_each, row_of_spot, row_there, rows_rise}
 use Rattle.depth_check.proofs.Shown.{Shows, FromSpot, plus, held, entry_at, distinct, main_place, handler_place, owns_first, same_entry, shows_one, bound_same, bound_most, bound_grows, first_routine, start_shows}
 use Rattle.depth_check.proofs.Quiet.{WasThere, put_quiet, WasLeft, leave_quiet}
 

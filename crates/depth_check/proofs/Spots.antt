@@ -1,11 +1,11 @@
 -- The tables of a search by address, and how much is left to find.
-use Rattle.std.proofs.Common.{◌≡◌, ℕ, zero, suc, ◌+◌, ◌<◌, ◌≤◌, Bool, true, false, List, [], ◌∷◌, length, Option, Some, None, inl, inr, refl, sym, ap, ◌∙◌, subst, replicate, arith}
-use Rattle.std.specs.Prelude.{if◌then◌else◌, not, ◌&&◌, ◌||◌, nat_eq, nat_lt, slice_index_or, slice_set}
-use Rattle.std.proofs.lemmas.Bool.{and_parts, and_from, eqb-true, eqb-false, ltb-true, ltb-false, both_ways}
+use Rattle.std.proofs.Common.{◌≡◌, ℕ, zero, suc, ◌+◌, ◌<◌, ◌≤◌, Bool, true, false, List, [], ◌∷◌, length, Option, Some, None, refl, ap, replicate, arith}
+use Rattle.std.specs.Prelude.{◌&&◌, nat_eq, slice_index_or, slice_set}
+use Rattle.std.proofs.lemmas.Bool.{eqb-true, eqb-false}
 use Rattle.depth_check.specs.declared.Facts.{Facts}
 use Rattle.depth_check.specs.declared.tables.Spot.{Spot}
 use Rattle.depth_check.specs.declared.tables.Out.{Out}
-use Rattle.depth_check.specs.Facts.{is_known, known_in, implies, fits}
+use Rattle.depth_check.specs.Facts.{known_in, implies, fits}
 use Rattle.depth_check.specs.Search.{common, meet, knows}
 use Rattle.depth_check.specs.Found.{known_size, flag_size, facts_size, spot_size, out_size, spots_size, outs_size}
 

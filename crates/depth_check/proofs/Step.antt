@@ -1,18 +1,18 @@
 -- What an instruction that is no jump leaves of what facts speak of.
-use Rattle.std.proofs.Common.{inl, inr, ◌≡◌, ℕ, zero, suc, ◌+◌, ◌-◌, ◌*◌, ◌/◌, ◌%◌, ◌<◌, ◌≤◌, Bool, true, false, List, [], ◌∷◌, ◌++◌, Option, Some, None, refl, sym, ap, ◌∙◌, subst, arith}
-use Rattle.std.specs.Prelude.{if◌then◌else◌, not, ◌&&◌, ◌||◌, nat_eq, slice_index, slice_set, ◌⊎◌, bit_and, bit_or, bit_xor}
-use Rattle.std.proofs.lemmas.Bool.{or_from, eqb-true, eqb-false, both_ways}
+use Rattle.std.proofs.Common.{inl, inr, ◌≡◌, ℕ, ◌+◌, ◌-◌, ◌*◌, ◌/◌, ◌%◌, ◌<◌, ◌≤◌, Bool, true, false, List, [], ◌∷◌, ◌++◌, Some, None, refl, sym, ap, ◌∙◌, subst}
+use Rattle.std.specs.Prelude.{if◌then◌else◌, not, nat_eq, slice_index, ◌⊎◌, bit_and, bit_or, bit_xor}
+use Rattle.std.proofs.lemmas.Bool.{or_from, eqb-false, both_ways}
 use Rattle.pic_isa.specs.declared.Ins.{Ins}
 use Rattle.pic_isa.specs.declared.Ins.TheVariants.{Addwf, Andwf, Clrf, Clrw, Comf, Decf, Decfsz, Incf, Incfsz, Iorwf, Movf, Movwf, Nop, Rlf, Rrf, Subwf, Swapf, Xorwf, Bcf, Bsf, Btfsc, Btfss, Addlw, Andlw, Call, Clrwdt, Goto, Iorlw, Movlw, Retfie, Retlw, Return, Sleep, Sublw, Xorlw}
 use Rattle.pic_world.specs.Bits.{bit, set_bit, clear_bit}
-use Rattle.pic_chip.specs.State.{State, Part, AtW, AtPc, AtZ, AtDc, AtC, AtPclath, AtIntcon, AtPushes, AtPops, AtTaken, Ram, Level, get, put, same}
-use Rattle.pic_chip.specs.Act.{Derived, Write, Note, Effect, Act, Do, value_in, apply, effect, perform}
-use Rattle.pic_chip.specs.Address.{Place, place, operand}
-use Rattle.pic_chip.specs.Instructions.{contents, after_read, store, result_to, byte_row, bit_row, test_row, write_row, plain_row, is_empty, to, number, part, of, with_part, note, write_note, skipping, following, row, sum, sum_flags, difference, difference_flags, complement, increment, decrement, swap, z_of, is_zero}
+use Rattle.pic_chip.specs.State.{State, Part, AtW, AtPc, AtZ, AtC, AtPclath, AtIntcon, AtPushes, AtPops, AtTaken, Ram, Level, get, put, same}
+use Rattle.pic_chip.specs.Act.{Derived, Write, Effect, Do, value_in, apply, perform}
+use Rattle.pic_chip.specs.Address.{Place, place}
+use Rattle.pic_chip.specs.Instructions.{contents, after_read, store, result_to, byte_row, test_row, write_row, is_empty, to, number, part, of, with_part, note, write_note, skipping, following, row, sum, sum_flags, difference, difference_flags, complement, increment, decrement, swap, z_of, is_zero}
 use Rattle.depth_check.specs.Facts.{written, is_at, writes, writes_w, may_skip}
-use Rattle.pic_chip.proofs.Ranges.{Leads, leads}
+use Rattle.pic_chip.proofs.Ranges.{leads}
 use Rattle.depth_check.proofs.Parts.{Stays, stays_w, stays_pc, stays_pclath, stays_intcon, stays_pushes, stays_pops, stays_ram, stays_level, touches, keeps, touches_both, is_flag, OnlyFlags, flags_apart, read_apart, meets, store_apart}
-use Rattle.depth_check.proofs.Places.{no_w, no_pushes, no_pops, no_level, not_pc, not_pclath, not_intcon, not_cell, Direct, direct}
+use Rattle.depth_check.proofs.Places.{no_w, no_pushes, no_pops, no_level, not_pc, not_pclath, not_intcon, not_cell, direct}
 
 -- the next instruction, or the one behind it where the instruction may skip
 abbrev pub GoesTo : Bool → ℕ → ℕ → Type 0

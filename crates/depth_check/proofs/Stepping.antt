@@ -1,21 +1,20 @@
 -- What a row that was found asks for is in each valid certificate.
-use Rattle.std.proofs.Common.{◌≡◌, ℕ, zero, suc, ◌+◌, ◌<◌, ◌≤◌, Bool, true, false, List, [], ◌∷◌, length, Option, Some, None, inl, inr, refl, sym, ap, ◌∙◌, subst, ⊎_elim, arith}
-use Rattle.std.specs.Prelude.{if◌then◌else◌, not, ◌&&◌, ◌||◌, nat_eq, nat_lt, slice_index, slice_index_or, ◌⊎◌}
-use Rattle.std.proofs.lemmas.Bool.{and_parts, and_from, or_cases, or_left, or_right, eqb-true, eq-eqb, not-true, not_from_false, both_ways}
+use Rattle.std.proofs.Common.{◌≡◌, ℕ, Bool, true, false, List, Option, Some, None, inl, inr, refl, sym, ap, ◌∙◌, subst, ⊎_elim}
+use Rattle.std.specs.Prelude.{not, ◌&&◌, nat_eq, slice_index}
+use Rattle.std.proofs.lemmas.Bool.{and_parts, and_from, or_cases, or_left, or_right, eq-eqb, not-true, not_from_false}
 use Rattle.pic_isa.specs.declared.Ins.{Ins}
 use Rattle.pic_isa.specs.declared.Ins.TheVariants.{Call, Goto, Retfie, Retlw, Return, Sleep}
 use Rattle.pic_isa.specs.Lookup.{row_of}
 use Rattle.depth_check.specs.declared.Facts.{Facts}
-use Rattle.depth_check.specs.declared.Row.{Row}
 use Rattle.depth_check.specs.declared.tables.Spot.{Spot}
 use Rattle.depth_check.specs.declared.tables.Out.{Out}
 use Rattle.depth_check.specs.Certificate.{Certificate}
-use Rattle.depth_check.specs.Facts.{known_in, fits, bits, target, after, may_skip, at_reset, at_interrupt}
-use Rattle.depth_check.specs.Valid.{routine, row_at, has_row, instruction, is_return, is_bare, returns, agree, next, next_but_one, row_holds, is_valid}
+use Rattle.depth_check.specs.Facts.{known_in, bits, target, after, may_skip, at_reset, at_interrupt}
+use Rattle.depth_check.specs.Valid.{routine, row_at, has_row, instruction, is_return, is_bare, returns, agree, next, next_but_one, is_valid}
 use Rattle.depth_check.specs.Search.{Tables, spot_at, out_at, put, beside, entering, leave, gone, come_back, with_callee, called, skipped, passed, done, done_by, step_from, step, with_handler, with_roots}
 use Rattle.depth_check.specs.Found.{number, routine_or_none, IsPlaced, Owns, IsLeft, is_bare_spot, IsUnder, Moves, Goes}
 use Rattle.depth_check.proofs.Step.{is_straight}
-use Rattle.depth_check.proofs.Threads.{In, in_any, bare_after, main_row, main_isr, main_entry, handler, handler_entry}
+use Rattle.depth_check.proofs.Threads.{in_any, bare_after, main_row, main_isr, main_entry, handler, handler_entry}
 use Rattle.depth_check.proofs.Transfer.{IsCalled, jump, call, straight_on, left, left_with}
 use Rattle.depth_check.proofs.Sure.{Fact, fact, stands_at}
 use Rattle.depth_check.proofs.Growing.{Fits, moves_same, moves_then, goes_same, put_moves, put_keeps, owns_put, leave_moves, leave_keeps}

@@ -1,10 +1,8 @@
 -- What a valid certificate has, in the form in which a search meets it.
-use Rattle.std.proofs.Common.{◌≡◌, ℕ, zero, suc, ◌+◌, ◌<◌, ◌≤◌, Bool, true, false, List, [], ◌∷◌, length, Option, Some, None, inl, inr, refl, sym, ap, ◌∙◌, subst, ⊎_elim, arith}
-use Rattle.std.specs.Prelude.{not, ◌&&◌, ◌||◌, nat_eq, nat_lt, nat_le, slice_index}
-use Rattle.std.proofs.lemmas.Bool.{and_parts, and_from, or_cases, eqb-true, eq-eqb, ltb-true, le-leb, both_ways}
-use Rattle.pic_isa.specs.declared.Ins.{Ins}
+use Rattle.std.proofs.Common.{◌≡◌, ℕ, ◌+◌, ◌<◌, Bool, true, false, List, [], ◌∷◌, length, Option, Some, None, refl, ap, ◌∙◌, subst, ⊎_elim, arith}
+use Rattle.std.specs.Prelude.{not, ◌&&◌, ◌||◌, nat_eq, nat_lt, nat_le}
+use Rattle.std.proofs.lemmas.Bool.{and_parts, eqb-true, eq-eqb, ltb-true, le-leb}
 use Rattle.pic_isa.specs.declared.Ins.TheVariants.{Call}
-use Rattle.pic_isa.specs.Lookup.{row_of}
 use Rattle.depth_check.specs.declared.Facts.{Facts}
 use Rattle.depth_check.specs.declared.Row.{Row}
 use Rattle.depth_check.specs.Certificate.{Certificate}
@@ -12,7 +10,7 @@ use Rattle.depth_check.specs.Facts.{fits, target}
 use Rattle.depth_check.specs.Valid.{routine, row_at, has_row, stands, instruction, instruction_holds, is_none, is_row_of, is_bare, returns, row_holds, routine_holds, height, call_height, height_at, height_of, is_rising, total_of, is_valid}
 use Rattle.depth_check.specs.Found.{number, routine_or_none}
 use Rattle.depth_check.proofs.Threads.{In, in_height, small_total, all_hold, routines_fine, routine_at, rises}
-use Rattle.depth_check.proofs.Complete.{all_in, own, found_in, stands_row}
+use Rattle.depth_check.proofs.Complete.{all_in, own, found_in}
 
 module _ (image : List ℕ) (c : Certificate) (valid : is_valid image c ≡ true) where
   pub record Fact (at : ℕ) (r : Row) : Type 0 where

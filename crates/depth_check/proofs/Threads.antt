@@ -1,15 +1,15 @@
 -- Where a run stands: a row of the certificate, and the calls that are under way.
-use Rattle.std.proofs.Common.{◌≡◌, ℕ, zero, suc, ◌+◌, ◌-◌, ◌*◌, ◌/◌, ◌%◌, ◌^◌, ◌<◌, ◌≤◌, Bool, true, false, List, [], ◌∷◌, ◌++◌, length, Option, Some, None, inl, inr, refl, sym, ap, ◌∙◌, subst, ⊎_elim, arith}
+use Rattle.std.proofs.Common.{◌≡◌, ℕ, zero, suc, ◌+◌, ◌-◌, ◌*◌, ◌/◌, ◌%◌, ◌<◌, ◌≤◌, Bool, true, false, List, [], ◌∷◌, ◌++◌, length, Option, Some, None, inl, inr, refl, sym, ap, ◌∙◌, subst, ⊎_elim, arith}
 use Rattle.std.specs.Prelude.{if◌then◌else◌, not, ◌&&◌, ◌||◌, nat_eq, nat_lt, nat_le, slice_index, ◌⊎◌}
 use Rattle.std.specs.List.{list_any, list_all, slice_get}
-use Rattle.std.proofs.lemmas.Bool.{and_parts, and_right, or_cases, or_parts, or_from, or_left, or_right, and_from, eqb-true, eq-eqb, not-true, both_ways, leb-true, ltb-true, ltb-false, true_from_ne_false, false_from_ne_true, cond_both}
+use Rattle.std.proofs.lemmas.Bool.{and_parts, and_right, or_from, or_left, or_right, and_from, eqb-true, eq-eqb, not-true, both_ways, leb-true, ltb-true, ltb-false, true_from_ne_false, false_from_ne_true, cond_both}
 use Rattle.pic_isa.specs.declared.Ins.{Ins}
-use Rattle.pic_isa.specs.declared.Ins.TheVariants.{Addwf, Andwf, Clrf, Clrw, Comf, Decf, Decfsz, Incf, Incfsz, Iorwf, Movf, Movwf, Nop, Rlf, Rrf, Subwf, Swapf, Xorwf, Bcf, Bsf, Btfsc, Btfss, Addlw, Andlw, Call, Clrwdt, Goto, Iorlw, Movlw, Retfie, Retlw, Return, Sleep, Sublw, Xorlw}
+use Rattle.pic_isa.specs.declared.Ins.TheVariants.{Movf, Call, Goto, Retfie, Retlw, Return, Sleep}
 use Rattle.pic_isa.specs.Lookup.{row_of}
 use Rattle.pic_world.specs.Bits.{bit, truth}
 use Rattle.pic_chip.specs.State.{State}
 use Rattle.pic_chip.specs.Act.{perform}
-use Rattle.pic_chip.specs.Instructions.{row, act_of, execute, is_modelled}
+use Rattle.pic_chip.specs.Instructions.{row, act_of, is_modelled}
 use Rattle.depth_check.specs.declared.Facts.{Facts}
 use Rattle.depth_check.specs.declared.Row.{Row}
 use Rattle.depth_check.specs.declared.Routine.{Routine}
@@ -18,7 +18,7 @@ use Rattle.depth_check.specs.Facts.{writes, writes_w, may_skip, is_movwf, loads,
 use Rattle.depth_check.specs.Valid.{routine_or, routine_in, routine, row_at, call_height, height_at, height_of, greater, height, height_in, routine_holds, routines_hold, is_rising, is_entry, lets_in, all_met, stands, has_row, instruction, next, next_but_one, is_return, returns, is_root, spares_gie, is_allowed, leads, comes_back, agree, is_callee, calls, leaves, goes_on, instruction_holds, is_bare, row_holds, total_of, roots_hold, is_valid}
 use Rattle.pic_chip.proofs.Stack.{IsOn, after_push, on_push, after_pop, on_pop, push_list, pop_list, on_same}
 use Rattle.pic_chip.proofs.Ranges.{IsRanged, IsSmall}
-use Rattle.depth_check.proofs.Step.{Moved, GoesTo, is_straight, row_moved}
+use Rattle.depth_check.proofs.Step.{GoesTo, is_straight, row_moved}
 use Rattle.depth_check.proofs.Holding.{Knows, knows_less, Holds, weaker, holds_after, gie_stays}
 
 -- ---- the row at an address

@@ -1,10 +1,10 @@
 -- What holds of the roots and goes from a caller to what it calls holds of the routine of each row that is met.
-use Rattle.std.proofs.Common.{◌≡◌, ℕ, zero, suc, ◌+◌, ◌<◌, ◌≤◌, Bool, true, false, List, Option, Some, None, refl, sym, ap, ◌∙◌, subst, ⊎_elim, arith}
-use Rattle.std.specs.Prelude.{not, ◌&&◌, ◌||◌, nat_eq}
+use Rattle.std.proofs.Common.{◌≡◌, ℕ, zero, suc, Bool, true, false, List, Option, Some, None, refl, sym, ap, ◌∙◌, subst, ⊎_elim}
+use Rattle.std.specs.Prelude.{◌&&◌, ◌||◌, nat_eq}
 use Rattle.std.specs.List.{list_any}
 use Rattle.std.proofs.lemmas.Bool.{and_parts, or_cases, eqb-true}
 use Rattle.pic_isa.specs.declared.Ins.{Ins}
-use Rattle.pic_isa.specs.declared.Ins.TheVariants.{Addwf, Andwf, Clrf, Clrw, Comf, Decf, Decfsz, Incf, Incfsz, Iorwf, Movf, Movwf, Nop, Rlf, Rrf, Subwf, Swapf, Xorwf, Bcf, Bsf, Btfsc, Btfss, Addlw, Andlw, Call, Clrwdt, Goto, Iorlw, Movlw, Retfie, Retlw, Return, Sleep, Sublw, Xorlw}
+use Rattle.pic_isa.specs.declared.Ins.TheVariants.{Call, Goto, Retfie, Retlw, Return, Sleep}
 use Rattle.depth_check.specs.declared.Facts.{Facts}
 use Rattle.depth_check.specs.declared.Row.{Row}
 use Rattle.depth_check.specs.Certificate.{Certificate}
@@ -12,7 +12,7 @@ use Rattle.depth_check.specs.Facts.{may_skip, after, fits, bits, target, at_rese
 use Rattle.depth_check.specs.Valid.{routine, row_at, has_row, instruction, next, next_but_one, returns, is_place, returns_from, call_returns, asks, is_met, row_holds, is_valid}
 use Rattle.depth_check.proofs.Step.{is_straight}
 use Rattle.depth_check.proofs.Threads.{In, main_row, handler, rises}
-use Rattle.depth_check.proofs.Transfer.{IsCalled, jump, call, straight_on}
+use Rattle.depth_check.proofs.Transfer.{jump, call, straight_on}
 use Rattle.depth_check.proofs.Below.{less_same, fits_of, known_same}
 use Rattle.depth_check.proofs.Complete.{any_in, own, same_row}
 use Rattle.depth_check.proofs.Sure.{fact, stands_at}

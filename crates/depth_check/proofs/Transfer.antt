@@ -1,14 +1,14 @@
 -- What a valid certificate asks for at a row is asked for by facts that tell more, too.
-use Rattle.std.proofs.Common.{◌≡◌, ℕ, Bool, true, false, List, Option, Some, None, refl, sym, ap, ◌∙◌, subst}
-use Rattle.std.specs.Prelude.{if◌then◌else◌, not, ◌&&◌, ◌||◌, nat_eq, nat_lt}
-use Rattle.std.proofs.lemmas.Bool.{and_parts, and_from, eqb-true, eq-eqb, not-true, both_ways}
+use Rattle.std.proofs.Common.{◌≡◌, ℕ, Bool, true, false, List, Option, Some, None, refl, sym, subst}
+use Rattle.std.specs.Prelude.{not, ◌||◌, nat_eq}
+use Rattle.std.proofs.lemmas.Bool.{and_parts, and_from, eqb-true, eq-eqb, not-true}
 use Rattle.pic_isa.specs.declared.Ins.{Ins}
 use Rattle.pic_isa.specs.declared.Ins.TheVariants.{Call, Goto, Retfie, Retlw, Return}
 use Rattle.depth_check.specs.declared.Facts.{Facts}
 use Rattle.depth_check.specs.declared.Row.{Row}
 use Rattle.depth_check.specs.Certificate.{Certificate}
 use Rattle.depth_check.specs.Facts.{may_skip, after, known_in, fits, bits, target}
-use Rattle.depth_check.specs.Valid.{routine, row_at, stands, has_row, instruction, next, next_but_one, is_return, returns, is_root, is_allowed, leads, comes_back, agree, is_callee, calls, leaves, goes_on, instruction_holds, is_bare, row_holds}
+use Rattle.depth_check.specs.Valid.{routine, row_at, stands, has_row, instruction, next, next_but_one, returns, is_root, is_allowed, leads, comes_back, agree, is_callee, calls, leaves, goes_on, instruction_holds, row_holds}
 use Rattle.depth_check.proofs.Step.{is_straight}
 use Rattle.depth_check.proofs.Threads.{straight_goes}
 use Rattle.depth_check.proofs.Below.{Less, less_of, fits_of, less_trans, after_less, same_target, known_trans}

@@ -1,31 +1,30 @@
 -- Every moment of a run.
-use Rattle.std.proofs.Common.{◌≡◌, ℕ, zero, suc, ◌+◌, ◌-◌, ◌*◌, ◌/◌, ◌%◌, ◌^◌, ◌<◌, ◌≤◌, Bool, true, false, List, [], ◌∷◌, ◌++◌, length, Option, Some, None, inl, inr, refl, sym, ap, ◌∙◌, subst, ⊎_elim, arith}
-use Rattle.std.specs.Prelude.{if◌then◌else◌, not, ◌&&◌, ◌||◌, nat_eq, slice_index, ◌⊎◌, IfSome, bit_or}
+use Rattle.std.proofs.Common.{◌≡◌, ℕ, zero, suc, ◌+◌, ◌/◌, ◌%◌, ◌<◌, ◌≤◌, Bool, true, false, List, [], ◌∷◌, ◌++◌, length, Option, Some, inl, inr, refl, sym, ap, ◌∙◌, subst, ⊎_elim, arith}
+use Rattle.std.specs.Prelude.{if◌then◌else◌, not, ◌&&◌, ◌||◌, nat_eq, slice_index, ◌⊎◌, IfSome}
 use Rattle.std.specs.List.{All}
-use Rattle.std.proofs.lemmas.Bool.{and_parts, or_from, or_left, or_right, and_from, eqb-true, both_ways, cases_lt, not_from_true}
+use Rattle.std.proofs.lemmas.Bool.{and_parts, or_left, or_right, and_from, eqb-true, both_ways, cases_lt, not_from_true}
 use Rattle.std.proofs.lemmas.List.{get_or_past}
 use Rattle.pic_isa.specs.declared.Ins.{Ins}
 use Rattle.pic_isa.specs.Lookup.{row_of}
-use Rattle.pic_world.specs.Bits.{bit, truth, clear_bit}
+use Rattle.pic_world.specs.Bits.{bit, clear_bit}
 use Rattle.pic_world.specs.Control.{Control, is_due, is_enabled}
 use Rattle.pic_world.specs.Arrivals.{arriving}
 use Rattle.pic_world.specs.declared.Event.TheVariants as events
 use Rattle.pic_chip.proofs.BitCases.{or_below_8, at_each}
 use Rattle.pic_chip.specs.State.{State, reset}
 use Rattle.pic_chip.specs.Act.{perform}
-use Rattle.pic_chip.specs.Instructions.{execute, fetched, is_modelled, act_of}
+use Rattle.pic_chip.specs.Instructions.{execute, fetched, is_modelled}
 use Rattle.pic_chip.specs.Interrupts.{control_of, raised, begun, enter}
 use Rattle.pic_chip.specs.Run.{IsStart, Watch, Moment, Setting, moment, next_moment, stepped, observed, ends_at}
-use Rattle.depth_check.specs.declared.Facts.{Facts}
 use Rattle.depth_check.specs.declared.Row.{Row}
 use Rattle.depth_check.specs.Certificate.{Certificate}
-use Rattle.depth_check.specs.Facts.{bits, at_reset, at_interrupt}
-use Rattle.depth_check.specs.Valid.{routine, is_root, is_bare, row_holds, instruction, instruction_holds, total_of, is_valid}
+use Rattle.depth_check.specs.Facts.{at_reset, at_interrupt}
+use Rattle.depth_check.specs.Valid.{routine, row_holds, total_of, is_valid}
 use Rattle.depth_check.specs.Depth.{IsDeepAtMost, StaysWithin}
-use Rattle.pic_chip.proofs.Stack.{IsOn, after_push, on_push, after_pop, on_pop, push_list}
+use Rattle.pic_chip.proofs.Stack.{IsOn, after_push, on_push, on_pop, push_list}
 use Rattle.pic_chip.proofs.Ranges.{IsRanged, IsSmall, decoded_small, executed_ranged, raised_ranged, entered_ranged}
-use Rattle.depth_check.proofs.Holding.{Knows, Holds, weaker}
-use Rattle.depth_check.proofs.Threads.{Bare, small_total, hi, lo, main_isr, main_row, handler, Member, Chain, chain_bound, chain_main, cell_of, Quiet, Thread, Stood, stood, stands_there, Left, one_step}
+use Rattle.depth_check.proofs.Holding.{Knows}
+use Rattle.depth_check.proofs.Threads.{Bare, small_total, hi, lo, main_isr, main_row, handler, Member, Chain, chain_bound, chain_main, cell_of, Thread, stood, stands_there, Left, one_step}
 
 -- ---- what a look at the program counter leaves
 module _ (w : Watch) where

@@ -1,5 +1,5 @@
 -- Where a row stands among rows in rising order of address.
-use Rattle.std.specs.Prelude.{ℕ, ◌+◌, Bool, true, false, nat_eq, nat_lt, if◌then◌else◌, Option, Some, None, List, [], ◌∷◌}
+use Rattle.std.specs.Prelude.{ℕ, ◌+◌, Bool, false, nat_eq, nat_lt, if◌then◌else◌, Option, Some, None, List, [], ◌∷◌}
 use Rattle.depth_check.specs.declared.Row.{Row}
 
 abbrev pub is_row_before : ℕ → Option Row → Bool

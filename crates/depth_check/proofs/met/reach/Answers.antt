@@ -1,4 +1,4 @@
-use Rattle.std.proofs.Common.{◌≤◌, arith}
+use Rattle.std.proofs.Common.{arith}
 use Rattle.depth_check.specs.Certificate.{seen}
 use Rattle.depth_check.proofs.Trail.{all_round}
 use Rattle.depth_check.proofs.met.reach.Goals as goal

@@ -1,4 +1,4 @@
-use Rattle.std.proofs.Common.{◌≡◌, replicate, Option, None}
+use Rattle.std.proofs.Common.{◌≡◌, replicate, None}
 use Rattle.depth_check.proofs.search.blank_outs.Given as goal
 
 abbrev pub invariant-loop-at : goal.invariant-loop-at

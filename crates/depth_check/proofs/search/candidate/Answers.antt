@@ -1,5 +1,4 @@
-use Rattle.std.proofs.Common.{◌≡◌, ◌∙◌, sym, ap, subst}
-use Rattle.depth_check.specs.Certificate.{seen}
+use Rattle.std.proofs.Common.{◌∙◌, sym, ap, subst}
 use Rattle.depth_check.specs.Search.{tables, raised}
 use Rattle.depth_check.specs.Found.{IsBest}
 use Rattle.depth_check.proofs.Showing.{best}

@@ -1,4 +1,4 @@
-use Rattle.depth_check.specs.Search.{tables, unchanged}
+use Rattle.depth_check.specs.Search.{tables}
 use Rattle.depth_check.proofs.Settling.{still_search, not_over, fewer}
 use Rattle.depth_check.proofs.search.found.Goals as goal
 

@@ -1,4 +1,4 @@
-use Rattle.std.proofs.Common.{ℕ, ◌+◌}
+use Rattle.std.proofs.Common.{◌+◌}
 use Rattle.depth_check.specs.Search.{tables}
 use Rattle.depth_check.specs.Found.{IsSearch, IsOver, size, flag_size}
 use Rattle.depth_check.proofs.search.found.Given as goal

@@ -1,4 +1,4 @@
-use Rattle.std.proofs.Common.{◌≡◌, ◌∙◌, sym, ap}
+use Rattle.std.proofs.Common.{◌∙◌, sym, ap}
 use Rattle.depth_check.specs.Certificate.{seen}
 use Rattle.depth_check.specs.Valid.{row_at, asks}
 use Rattle.depth_check.proofs.Trail.{passed_by, looked}
