@@ -8,12 +8,11 @@ use crate::known::{
 };
 use crate::why::{Clash, What, Why};
 use crate::words::{
-    INDF, INTCON, PCL, bit, is_bcf, is_bsf, is_call, is_goto, is_retfie, is_return, is_sleep,
-    may_skip, next, word_at, writes,
+    INDF, INTCON, PCL, bit, is_bcf, is_bsf, is_call, is_goto, is_instruction, is_retfie, is_return,
+    is_sleep, may_skip, next, word_at, writes,
 };
 use depth_check::Facts;
 use pic_chip::Image;
-use pic_isa::decode;
 use std::alloc::{AllocError, Global};
 
 /// How many words are looked at. Each of 8,192 can lose what is known there five times after it was found, and is looked at again at most
@@ -307,7 +306,7 @@ impl Walk {
             self.leave(at, s);
         } else if is_retfie(word) {
             self.end_handler(at, s);
-        } else if !is_sleep(word) && decode(word).is_some() {
+        } else if !is_sleep(word) && is_instruction(word) {
             self.pass(at, s, word);
         }
     }

@@ -1,6 +1,7 @@
 //! Words of program memory by their bits, as the table of instructions has them (Microchip DS39582).
 
 use pic_chip::Image;
+use pic_isa::decode;
 
 /// The low seven bits of the addresses of registers, which are the same in each bank.
 pub const INDF: u16 = 0x00;
@@ -65,6 +66,11 @@ pub fn is_retfie(word: u16) -> bool {
 
 pub fn is_sleep(word: u16) -> bool {
     word == 0x0063
+}
+
+/// Whether a word is an instruction's.
+pub fn is_instruction(word: u16) -> bool {
+    word < 0x4000 && decode(word).is_some()
 }
 
 /// DECFSZ, INCFSZ, BTFSC or BTFSS.
