@@ -5,7 +5,7 @@ ghost use Rattle.hex_image.specs.HexFile.{IsHexFile};
 ghost use Rattle.hex_image.specs.HexText.{hex_text};
 ghost use Rattle.host_io.specs.Host.{Closed};
 ghost use Rattle.pic_map.specs.MapFile.{IsMapFile};
-ghost use Rattle.pic_map.specs.MapText.{AreInRange};
+ghost use Rattle.pic_map.specs.MapText.{AreInRange, map_text};
 ghost use Rattle.pic_map.specs.MapView.{content_of};
 ghost use Rattle.picc_cli.specs.Built.{IsBuilt};
 ghost use Rattle.picc_cli.specs.Command.{Build};
@@ -84,6 +84,7 @@ fn texts_of(alloc: Global, program: &Program) -> Result<Texts, AllocError>
     requires { AreInRange (content_of program.now.map) }
     ensures hex { IfOk result (λ texts. texts.hex.items ≡ hex_text program.now.image) }
     ensures hex_file { IfOk result (λ texts. IsHexFile texts.hex.items program.now.image) }
+    ensures map { IfOk result (λ texts. texts.map.items ≡ map_text (content_of program.now.map)) }
     ensures map_file { IfOk result (λ texts. IsMapFile texts.map.items (content_of program.now.map)) }
 {
     let hex = write_hex(alloc, &program.image)?;
