@@ -14,7 +14,7 @@ use Rattle.picc_cli.specs.Simulation.{HasSimulated, Knows}
 use Rattle.picc_cli.specs.Lines.{usage_line}
 use Rattle.picc_cli.specs.Summary.{summary_line}
 use Rattle.picc_cli.proofs.Endings.{add_nothing}
-use Rattle.picc_cli.proofs.SimulationStops.{stops_as_run}
+use Rattle.picc_cli.proofs.SimulationStops.{prints_as_run, stops_as_run}
 
 pub nothing_of : (p : Option (List ℕ)) (text : List ℕ) → PrintsPrefix p p text
 nothing_of p [] = (0, omega arith, sym (add_nothing p))
@@ -93,7 +93,14 @@ not_simulated (Some (Trace asked)) (Some o) board p = tt
 not_simulated (Some (Simulate asked)) (Some o) board p =
     let knows : Knows asked o board board chip.NoMemory p p = inl (refl, refl) in
     let last : IsLast 9 [] p p 9 = inr (inr refl, nothing_of p []) in
-    record { ended = chip.NoMemory; middle = p; knows = knows; last = last; stops = stops_as_run asked o board board chip.NoMemory p p p 9 knows last }
+    record {
+      ended = chip.NoMemory;
+      middle = p;
+      knows = knows;
+      last = last;
+      stops = stops_as_run asked o board board chip.NoMemory p p p 9 knows last;
+      traces = prints_as_run asked o board board chip.NoMemory p p knows;
+    }
 not_simulated (Some (Agree asked)) (Some o) board p = tt
 not_simulated (Some (Generate functions)) (Some o) board p = tt
 

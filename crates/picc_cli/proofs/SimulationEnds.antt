@@ -17,7 +17,7 @@ use Rattle.picc_cli.specs.Inputs.{IsHexInput, IsMapInput, IsScriptInput}
 use Rattle.picc_cli.specs.ScriptInput.{IsFile}
 use Rattle.picc_cli.specs.Simulation.{HasSimulated, Knows, IsFed, IsRun, IsPrinted, Runs, Simulates, first_chip, first_look}
 use Rattle.picc_cli.proofs.Endings.{add_nothing}
-use Rattle.picc_cli.proofs.SimulationStops.{stops_as_run}
+use Rattle.picc_cli.proofs.SimulationStops.{prints_as_run, stops_as_run}
 
 -- what was said, or wasn't, comes last
 pub said_last : (kind : Kind) (before now : ℕ) (p q : Option (List ℕ)) (line : List ℕ) (status result : ℕ) → Says kind before now p q line status result → IsLast status line p q result
@@ -30,7 +30,14 @@ pub simulation_told : (asked : Simulated) (ended : Ended) (old : Option Contents
 simulation_told asked ended None before now kind first later p middle q result knows says = tt
 simulation_told asked ended (Some o) before now kind first later p middle q result knows says =
     let last = said_last kind first later middle q (last_line asked ended) (status_of ended) result says in
-    record { ended = ended; middle = middle; knows = knows; last = last; stops = stops_as_run asked o before now ended p middle q result knows last }
+    record {
+      ended = ended;
+      middle = middle;
+      knows = knows;
+      last = last;
+      stops = stops_as_run asked o before now ended p middle q result knows last;
+      traces = prints_as_run asked o before now ended p middle knows;
+    }
 
 -- ---- the run
 -- a board that was fed

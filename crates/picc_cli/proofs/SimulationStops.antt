@@ -1,5 +1,5 @@
--- Whether a simulation stops is whether the run of the chip's own definitions does.
-use Rattle.std.proofs.Common.{◌≡◌, ℕ, suc, ◌+◌, ◌-◌, ◌%◌, inl, inr, ⊎_elim, Bool, true, false, Option, IsSome, Result, Ok, List, [], ◌∷◌, ◌++◌, length, refl, sym, ap, ◌∙◌, subst, arith, append_assoc}
+-- Whether a simulation stops is whether the run of the chip's own definitions does, and the trace that it prints is that of this run.
+use Rattle.std.proofs.Common.{◌≡◌, ℕ, suc, ◌+◌, ◌-◌, ◌%◌, inl, inr, ⊎_elim, Bool, true, false, Option, IsSome, Result, Ok, List, [], ◌∷◌, ◌++◌, length, refl, sym, ap, ◌∙◌, subst, arith, append_assoc, option_map}
 use Rattle.std.proofs.lemmas.List.{append_cancel_left}
 use Rattle.hex_image.proofs.Found.{is_read, only}
 use Rattle.hex_image.specs.HexFile.{IsHexFile}
@@ -14,6 +14,7 @@ use Rattle.pic_sim.specs.Board.{Followed, Lists}
 use Rattle.pic_sim.specs.FromReset.{around}
 use Rattle.pic_sim.specs.Going.{HasBytes, HasMasks, IsAt, Known, Point}
 use Rattle.pic_sim.specs.declared.board.Exchange.{Exchange}
+use Rattle.pic_sim.specs.declared.running.SimEnd.{SimEnd}
 use Rattle.pic_sim.specs.declared.running.SimEnd.TheVariants as sim
 use Rattle.pic_world.specs.Arrivals.{arriving}
 use Rattle.pic_world.specs.declared.Event.{Event}
@@ -24,9 +25,10 @@ use Rattle.picc_cli.specs.declared.simulating.Ended.TheVariants.{Done, Unmodelle
 use Rattle.picc_cli.specs.Chip.{last_line, status_of}
 use Rattle.picc_cli.specs.Command.{Simulated}
 use Rattle.picc_cli.specs.Inputs.{IsHexInput, IsMapInput, IsScriptInput}
+use Rattle.picc_cli.specs.Lines.{event_lines}
 use Rattle.host_lines.specs.Said.{GivesUp, IsLast}
 use Rattle.picc_cli.specs.ScriptInput.{IsFile}
-use Rattle.picc_cli.specs.Simulation.{Answers, ComesBy, IsRun, Knows, Simulates, StopsAsRun, first_chip, first_look, run_by, stops_within}
+use Rattle.picc_cli.specs.Simulation.{Answers, ComesBy, IsRun, Knows, PrintsAsRun, PrintsTrace, Simulates, StopsAsRun, first_chip, first_look, ran_whole, run_by, stops_within}
 use Rattle.picc_cli.proofs.FilesKept.{same_bytes, hex_kept, map_kept, script_kept}
 
 -- ---- bytes and masks in two parts
@@ -61,20 +63,30 @@ module _ (image : List ℕ) (map : MapContent) (script answers : ScriptContent) 
   abbrev start : Known → Point
   start fed = record { chip = first_chip; tracing = first_look map; events = []; board = fed }
 
-  -- all instructions ran
-  pub goes_through : (events : List Event) → IsRun image map script n before now events sim.Done → Answers answers before now → stops_within image map answers n ≡ false
-  goes_through events run a =
+  abbrev finish : (events : List Event) (end : SimEnd) → IsRun image map script n before now events end → Point
+  finish events end run = record { chip = run.chip; tracing = run.tracing; events = events; board = now }
+
+  -- all instructions ran: the run stands at their moment
+  stands : (events : List Event) (run : IsRun image map script n before now events sim.Done) → Answers answers before now
+      → IsAt (around (run_by image map answers)) (moment (run_by image map answers) n) (finish events sim.Done run)
+  stands events run a =
       let g = run_by image map answers in
-      let new : Point = record { chip = run.chip; tracing = run.tracing; events = events; board = now } in
       let bytes = subst (HasBytes answers.input 0) (same_given run.fed run.went.given run.is_fed.same_lists a run.went.given_now) a.bytes in
       let masks = subst (HasMasks (arriving answers.arrivals) 0) (same_raised run.fed run.went.raised run.is_fed.same_lists a run.went.raised_now) a.masks in
-      let at = goes_on g n (start run.fed) new run.went bytes masks (begins g (start run.fed) refl refl refl) in
+      let at = goes_on g n (start run.fed) (finish events sim.Done run) run.went bytes masks (begins g (start run.fed) refl refl refl) in
       let e : 0 + n ≡ n = omega arith in
-      subst (λ k. (moment g k).stopped ≡ false) e at.going
+      subst (λ k. IsAt (around g) (moment g k) (finish events sim.Done run)) e at
 
-  -- it stopped at a word
-  pub stops_there : (events : List Event) (pc : ℕ) → IsRun image map script n before now events (sim.Unmodelled pc) → Answers answers before now → stops_within image map answers n ≡ true
-  stops_there events pc run a =
+  pub goes_through : (events : List Event) → IsRun image map script n before now events sim.Done → Answers answers before now → stops_within image map answers n ≡ false
+  goes_through events run a = let at = stands events run a in at.going
+
+  pub traced_through : (events : List Event) → IsRun image map script n before now events sim.Done → Answers answers before now → events ≡ (moment (run_by image map answers) n).trace
+  traced_through events run a = let at = stands events run a in sym at.trace
+
+  -- it stopped at a word: the run stays as it was before it, and has stopped
+  stays : (events : List Event) (pc : ℕ) (run : IsRun image map script n before now events (sim.Unmodelled pc)) → Answers answers before now
+      → (m : Moment) × (moment (run_by image map answers) n ≡ record m { stopped = true }) × (events ≡ m.trace)
+  stays events pc run a =
       let g = run_by image map answers in
       let went = run.went in
       let ran = went.ran in
@@ -91,8 +103,15 @@ module _ (image : List ℕ) (map : MapContent) (script answers : ScriptContent) 
       let here = subst (λ k. IsAt (around g) (moment g k) went.last) (sym index) at in
       let fewer = went.fewer in
       let e : went.last.chip.index + 1 + (n - (went.k + 1)) ≡ n = omega (arith, index, fewer) in
-      let stopped = stops_for_good g pc (n - (went.k + 1)) went.last (record { chip = run.chip; tracing = run.tracing; events = events; board = now }) stop mask here in
-      subst (λ k. (moment g k).stopped ≡ true) e (ap (λ (m : Moment). m.stopped) stopped)
+      let stopped = stops_for_good g pc (n - (went.k + 1)) went.last (finish events (sim.Unmodelled pc) run) stop mask here in
+      (moment g went.last.chip.index, subst (λ k. moment g k ≡ record (moment g went.last.chip.index) { stopped = true }) e stopped, stop.events ∙ sym here.trace)
+
+  pub stops_there : (events : List Event) (pc : ℕ) → IsRun image map script n before now events (sim.Unmodelled pc) → Answers answers before now → stops_within image map answers n ≡ true
+  stops_there events pc run a = ap (λ (m : Moment). m.stopped) (stays events pc run a).1
+
+  pub traced_there : (events : List Event) (pc : ℕ) → IsRun image map script n before now events (sim.Unmodelled pc) → Answers answers before now
+      → events ≡ (moment (run_by image map answers) n).trace
+  traced_there events pc run a = let all = stays events pc run a in all.2 ∙ sym (ap (λ (m : Moment). m.trace) all.1)
 
 -- ---- a board that follows scripts answers as the script that it was fed
 module _ (image : List ℕ) (map : MapContent) (script : ScriptContent) (n : ℕ) (before now : Known) (follows : IsSome before.follows) (none : before.lists.given ≡ []) where
@@ -188,19 +207,49 @@ module _ (asked : Simulated) (o : Contents) (before now : Known) (p q : Option (
     answered_by CannotPrint answers k e a = comes_up _ (inl e)
     answered_by NoMemory answers k e a = comes_up _ (inr e)
 
+    -- a board that follows scripts gave the answers of the script
+    given_through : Simulates asked o before now Done p q → IsSome before.follows → before.lists.given ≡ [] → Answers script before now
+    given_through k follows none =
+        held (λ i m s. Answers s before now) Done k (answers_through k.image k.map k.script asked.instructions before now follows none k.runs.events k.runs.run)
+
+    given_there : (at : ℕ) → Simulates asked o before now (Unmodelled at) p q → IsSome before.follows → before.lists.given ≡ [] → Answers script before now
+    given_there at k follows none =
+        held (λ i m s. Answers s before now) (Unmodelled at) k (answers_there k.image k.map k.script asked.instructions before now follows none k.runs.events at k.runs.run)
+
     followed_by : (ended : Ended) → Knows asked o before now ended p q → result ≡ status_of ended → IsSome before.follows → before.lists.given ≡ []
         → ComesBy (stops_within image map script asked.instructions) result
-    followed_by Done k e follows none =
-        let a = held (λ i m s. Answers s before now) Done k (answers_through k.image k.map k.script asked.instructions before now follows none k.runs.events k.runs.run) in
-        answered_by Done script k e a
-    followed_by (Unmodelled at) k e follows none =
-        let a = held (λ i m s. Answers s before now) (Unmodelled at) k (answers_there k.image k.map k.script asked.instructions before now follows none k.runs.events at k.runs.run) in
-        answered_by (Unmodelled at) script k e a
+    followed_by Done k e follows none = answered_by Done script k e (given_through k follows none)
+    followed_by (Unmodelled at) k e follows none = answered_by (Unmodelled at) script k e (given_there at k follows none)
     followed_by (NoHex end) k e follows none = comes_up _ (subst GivesUp (sym e) (hex_kept o asked.hex image end hex_file k.0))
     followed_by (NoMap end) k e follows none = comes_up _ (subst GivesUp (sym e) (map_kept o asked.map map end map_file k.0.of_map))
     followed_by (NoScript end) k e follows none = comes_up _ (subst GivesUp (sym e) (script_kept o asked.script script end script_file k.0.of_script))
     followed_by CannotPrint k e follows none = comes_up _ (inl e)
     followed_by NoMemory k e follows none = comes_up _ (inr e)
+
+    -- ---- the printed trace
+    traced_by : (ended : Ended) (answers : ScriptContent) → Knows asked o before now ended p q → ran_whole ended ≡ true → Answers answers before now
+        → PrintsTrace image map answers asked.instructions p q
+    traced_by Done answers k well a =
+        held (λ i m s. PrintsTrace i m answers asked.instructions p q) Done k
+        (k.runs.printed ∙ ap (λ es. option_map (λ t. t ++ event_lines k.map es) p) (traced_through k.image k.map k.script answers asked.instructions before now k.runs.events k.runs.run a))
+    traced_by (Unmodelled at) answers k well a =
+        held (λ i m s. PrintsTrace i m answers asked.instructions p q) (Unmodelled at) k
+        (k.runs.printed ∙ ap (λ es. option_map (λ t. t ++ event_lines k.map es) p) (traced_there k.image k.map k.script answers asked.instructions before now k.runs.events at k.runs.run a))
+    traced_by (NoHex end) answers k well a = absurd (cc)
+    traced_by (NoMap end) answers k well a = absurd (cc)
+    traced_by (NoScript end) answers k well a = absurd (cc)
+    traced_by CannotPrint answers k well a = absurd (cc)
+    traced_by NoMemory answers k well a = absurd (cc)
+
+    traced_by_script : (ended : Ended) → Knows asked o before now ended p q → ran_whole ended ≡ true → IsSome before.follows → before.lists.given ≡ []
+        → PrintsTrace image map script asked.instructions p q
+    traced_by_script Done k well follows none = traced_by Done script k well (given_through k follows none)
+    traced_by_script (Unmodelled at) k well follows none = traced_by (Unmodelled at) script k well (given_there at k follows none)
+    traced_by_script (NoHex end) k well follows none = absurd (cc)
+    traced_by_script (NoMap end) k well follows none = absurd (cc)
+    traced_by_script (NoScript end) k well follows none = absurd (cc)
+    traced_by_script CannotPrint k well follows none = absurd (cc)
+    traced_by_script NoMemory k well follows none = absurd (cc)
 
 -- however it ended
 pub stops_as_run : (asked : Simulated) (o : Contents) (before now : Known) (ended : Ended) (p middle q : Option (List ℕ)) (result : ℕ) → Knows asked o before now ended p middle
@@ -217,4 +266,13 @@ stops_as_run asked o before now ended p middle q result knows last =
           (λ said. followed_by asked o before now p middle result image map script a b c ended knows said.0 follows none)
           (λ up. comes_up asked o before now p middle result (stops_within image map script asked.instructions) up.0)
           last;
+    }
+
+-- however it ended, where the run ended well its whole trace is printed
+pub prints_as_run : (asked : Simulated) (o : Contents) (before now : Known) (ended : Ended) (p middle : Option (List ℕ)) → Knows asked o before now ended p middle
+    → PrintsAsRun asked o before now ended p middle
+prints_as_run asked o before now ended p middle knows =
+    record {
+      answered = λ image map script answers a b c well made. traced_by asked o before now p middle (status_of ended) image map script a b c ended answers knows well made;
+      followed = λ image map script a b c well follows none. traced_by_script asked o before now p middle (status_of ended) image map script a b c ended knows well follows none;
     }

@@ -163,6 +163,32 @@ pub record StopsAsRun (asked : Simulated) (old : Contents) (before now : Known) 
       → IsFile old asked.hex (IsHexInput image) → IsFile old asked.map (IsMapInput map) → IsFile old asked.script (IsScriptInput script)
       → IsSome before.follows → before.lists.given ≡ [] → ComesBy (stops_within image map script asked.instructions) result
 
+-- ---- the trace of the run
+-- all instructions were run, or all up to a word that isn't run, and no line of an event is left out
+abbrev pub ran_whole : Ended → Bool
+ran_whole Done = true
+ran_whole (Unmodelled at) = true
+ran_whole (NoHex end) = false
+ran_whole (NoMap end) = false
+ran_whole (NoScript end) = false
+ran_whole CannotPrint = false
+ran_whole NoMemory = false
+
+-- the lines of the whole trace of the run by the chip's own definitions, up to this moment
+abbrev pub PrintsTrace : List ℕ → MapContent → ScriptContent → ℕ → Option (List ℕ) → Option (List ℕ) → Type 0
+PrintsTrace image map script n p q = q ≡ option_map (λ t. t ++ event_lines map (moment (run_by image map script) n).trace) p
+
+-- Of three files that are such as they are to be, where the run ended well.
+pub record PrintsAsRun (asked : Simulated) (old : Contents) (before now : Known) (ended : Ended) (p middle : Option (List ℕ)) : Type 0 where
+  -- the trace of the run by the script that the answers of the board are, whichever board it is,
+  pub answered : (image : List ℕ) (map : MapContent) (script answers : ScriptContent)
+      → IsFile old asked.hex (IsHexInput image) → IsFile old asked.map (IsMapInput map) → IsFile old asked.script (IsScriptInput script)
+      → ran_whole ended ≡ true → Answers answers before now → PrintsTrace image map answers asked.instructions p middle
+  -- and of a board that follows scripts, and has given no byte before, of the run by the script of the file
+  pub followed : (image : List ℕ) (map : MapContent) (script : ScriptContent)
+      → IsFile old asked.hex (IsHexInput image) → IsFile old asked.map (IsMapInput map) → IsFile old asked.script (IsScriptInput script)
+      → ran_whole ended ≡ true → IsSome before.follows → before.lists.given ≡ [] → PrintsTrace image map script asked.instructions p middle
+
 -- With this status, and with these bytes printed, a simulation ended so: `middle` is what was printed before its last line.
 pub record SimulationTells (asked : Simulated) (old : Contents) (before now : Known) (p q : Option (List ℕ)) (result : ℕ) : Type 0 where
   pub ended : Ended
@@ -171,6 +197,8 @@ pub record SimulationTells (asked : Simulated) (old : Contents) (before now : Kn
   pub last : IsLast (status_of ended) (last_line asked ended) middle q result
   -- 6 comes just where the run stops, and 0 just where it doesn't
   pub stops : StopsAsRun asked old before now result
+  -- and where either comes, the trace of that run is printed
+  pub traces : PrintsAsRun asked old before now ended p middle
 
 -- of the other forms this says nothing
 abbrev pub HasSimulated : Option Form → Contents → Known → Known → Option (List ℕ) → Option (List ℕ) → ℕ → Type 0

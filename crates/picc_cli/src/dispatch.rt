@@ -56,8 +56,8 @@ pub fn picc<H: Host>(
     // the sizes of a generated program are those of its typed program, or a refusal of it holds of it.
     ensures told { IfSome (H.contents host.old) (λ old. HasTold (form_of (words_of words.now)) old (H.contents host.new) (H.printed host.old) (H.printed host.new) result) }
     // A simulation runs the chip over the board, on what its three files hold: this is that run, its events, and what the board was
-    // asked and told; and 6 comes just where the run of the chip's own definitions stops. Where a file isn't such as it is to be, the
-    // first such file is told.
+    // asked and told. 6 comes just where the run of the chip's own definitions stops, and with 0 and 6 the trace of that run is printed.
+    // Where a file isn't such as it is to be, the first such file is told.
     ensures simulated { IfSome (H.contents host.old) (λ old. HasSimulated (form_of (words_of words.now)) old (board_of (lists board.old) (follows board.old)) (board_of (lists board.new) (follows board.new)) (H.printed host.old) (H.printed host.new) result) }
     // A trace prints the lines of the run of a typed program, by the definitions of the source. Each event of it has a name in the map.
     ensures traced { IfSome (H.contents host.old) (λ old. HasTraced (form_of (words_of words.now)) old (H.printed host.old) (H.printed host.new) result) }
