@@ -21,7 +21,7 @@ use Rattle.picc_cli.proofs.FormEnds.{form_faults, said_status, with_status, up_n
 use Rattle.picc_cli.proofs.InputFiles.{file_three, file_fault}
 
 -- ---- simulations
-chip_three : (ended : chip_ends.Ended) → simulation.status_of ended ≡ 3 → simulation.is_fault ended ≡ true
+pub chip_three : (ended : chip_ends.Ended) → simulation.status_of ended ≡ 3 → simulation.is_fault ended ≡ true
 chip_three chip.Done e = absurd (omega arith)
 chip_three (chip.Unmodelled at) e = absurd (omega arith)
 chip_three (chip.NoHex end) e = file_three end e
@@ -40,6 +40,12 @@ chip_fault chip.CannotPrint e = refl
 chip_fault chip.NoMemory e = absurd (cc)
 
 module _ (asked : Simulated) where
+  -- it lacks the file at which it ended
+  missing_file : (old : Option Contents) (ended : chip_ends.Ended) → simulation.EndsAtMissing asked old ended → simulation.LacksFile asked old
+  missing_file old ended (inl (is, lacks)) = inl lacks
+  missing_file old ended (inr (inl (is, has, lacks))) = inr (inl (has, lacks))
+  missing_file old ended (inr (inr (is, has, more, lacks))) = inr (inr (has, more, lacks))
+
   abbrev sim : Option Form
   sim = Some (Simulate asked)
 
@@ -75,7 +81,7 @@ module _ (asked : Simulated) where
       → HasOutcomeCause kind first before (simulation.is_fault ended) → simulation.FailsWithoutFiles kind old asked ended → alike ≡ kind
       → Says alike before now p q line (simulation.status_of ended) result → HasFaults kind first now sim old result
   chip_faults ended kind alike old first before now p q line result cause sound same says =
-      form_faults sim kind alike old (simulation.is_fault ended) (simulation.status_of ended) (chip_three ended) (chip_fault ended) sound.only sound.missing
+      form_faults sim kind alike old (simulation.is_fault ended) (simulation.status_of ended) (chip_three ended) (chip_fault ended) (λ is at. missing_file old ended (sound.only is at)) sound.missing
       first before now p q line result cause same says
 
   pub chip_complete : (kind : Kind) (before now : ℕ) (old : Option Contents) (result : ℕ) (first last : Known) (p q : Option (List ℕ)) → HasFaults kind before now sim old result → HasStatus sim result
@@ -111,7 +117,7 @@ five_at_file ended kind before now p q line result says five =
     by_end chip.NoMemory e = absurd (omega arith)
 
 -- ---- comparisons
-agree_three : (ended : agree_ends.Ended) → agreement.status_of ended ≡ 3 → agreement.is_fault ended ≡ true
+pub agree_three : (ended : agree_ends.Ended) → agreement.status_of ended ≡ 3 → agreement.is_fault ended ≡ true
 agree_three (agree.Same events) e = absurd (omega arith)
 agree_three (agree.Undefined kind line) e = absurd (omega arith)
 agree_three (agree.Refused refusal) e = absurd (omega arith)
@@ -128,6 +134,10 @@ agree_fault (agree.NoScript end) e = file_fault end e
 agree_fault agree.NoMemory e = absurd (cc)
 
 module _ (asked : Compared) where
+  missing_input : (old : Option Contents) (ended : agree_ends.Ended) → agreement.EndsAtMissing asked old ended → agreement.LacksFile asked old
+  missing_input old ended (inl (is, lacks)) = inl lacks
+  missing_input old ended (inr (is, has, lacks)) = inr lacks
+
   abbrev comparison : Option Form
   comparison = Some (Agree asked)
 
@@ -163,7 +173,7 @@ module _ (asked : Compared) where
       → HasOutcomeCause kind first before (agreement.is_fault ended) → agreement.FailsWithoutFiles kind old asked ended → alike ≡ kind
       → Says alike before now p q line (agreement.status_of ended) result → HasFaults kind first now comparison old result
   agree_faults ended kind alike old first before now p q line result cause sound same says =
-      form_faults comparison kind alike old (agreement.is_fault ended) (agreement.status_of ended) (agree_three ended) (agree_fault ended) sound.only sound.missing
+      form_faults comparison kind alike old (agreement.is_fault ended) (agreement.status_of ended) (agree_three ended) (agree_fault ended) (λ is at. missing_input old ended (sound.only is at)) sound.missing
       first before now p q line result cause same says
 
   pub agree_complete : (kind : Kind) (before now : ℕ) (old new : Option Contents) (result : ℕ) (p q : Option (List ℕ)) → HasFaults kind before now comparison old result → HasStatus comparison result

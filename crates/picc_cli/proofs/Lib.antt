@@ -14,6 +14,7 @@ pub mod FewObjects
 pub mod Limits
 pub mod EventLines
 pub mod FormPrints
+pub mod MissingTold
 pub mod ChipEnds
 pub mod Sound
 pub mod NothingDone

@@ -50,28 +50,36 @@ no_status_known (Some (Generate functions)) = inr (inr (inr refl))
 pub no_status : (form : Option Form) → HasStatus form 9
 no_status form = record { known = no_status_known form; usage = λ two. absurd (omega arith); no_form = λ none. inr (inr refl) }
 
-pub no_print : (form : Option Form) (kind : Kind) (p : Option (List ℕ)) → HasPrinted kind form p p 9
-no_print None kind p = record { whole = λ two. absurd (omega arith); prefix = λ up. nothing_of p usage_line }
-no_print (Some (Build names)) kind p =
+pub no_print : (form : Option Form) (kind : Kind) (files : Option Contents) (p : Option (List ℕ)) → HasPrinted kind form files p p 9
+no_print None kind files p = record { whole = λ two. absurd (omega arith); prefix = λ up. nothing_of p usage_line }
+no_print (Some (Build names)) kind files p =
     record {
       nothing = λ e. absurd (omega arith);
       error = λ e. absurd (omega arith);
       prefix = λ up. (outcomes.NoMemory, nothing_of p []);
       sound = λ is e. absurd (omega arith);
     }
-no_print (Some (Trace asked)) kind p =
+no_print (Some (Trace asked)) kind files p =
     record {
       whole = inl (inr refl);
       prefix = λ up. (trace.NoMemory, [], record { events = []; has_events = refl; whole = refl }, nothing_of p []);
       sound = λ is e. absurd (omega arith);
     }
-no_print (Some (Simulate asked)) kind p =
+no_print (Some (Simulate asked)) kind files p =
     record {
-      whole = inl (inr refl);
-      prefix = λ up. (chip.NoMemory, [], ([], inr (record { main = 0; halt = 0; objects = []; frames = [] }, [], refl), refl), nothing_of p []);
+      prints =
+          record {
+            whole = inl (inr refl);
+            prefix = λ up. (chip.NoMemory, [], ([], inr (record { main = 0; halt = 0; objects = []; frames = [] }, [], refl), refl), nothing_of p []);
+          };
+      sound = λ is e. absurd (omega arith);
     }
-no_print (Some (Agree asked)) kind p = record { whole = inl (inr refl); prefix = λ up. (agree.NoMemory, [], refl, nothing_of p []) }
-no_print (Some (Generate functions)) kind p =
+no_print (Some (Agree asked)) kind files p =
+    record {
+      prints = record { whole = inl (inr refl); prefix = λ up. (agree.NoMemory, [], refl, nothing_of p []) };
+      sound = λ is e. absurd (omega arith);
+    }
+no_print (Some (Generate functions)) kind files p =
     let text = generated functions ++ summary_line functions 0 0 0 in
     record { whole = inl (inr refl); prefix = λ up. (None, text, record { words = 0; ram = 0; depth = 0; whole = refl }, nothing_of p text) }
 

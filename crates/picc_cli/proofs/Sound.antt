@@ -54,8 +54,11 @@ module _ {T : Type 0} (kind : Kind) (old : Option Contents) (name : List ℕ) wh
 module _ (kind : Kind) (old : Option Contents) (asked : Simulated) where
   pub no_hex_fails : {T : Type 0} (end : FileEnd) → FailsWithoutFile {T = T} kind old asked.hex (Err end) → IfSome old (λ o. HasNoHex o asked.hex end)
       → simulation.FailsWithoutFiles kind old asked (chip.NoHex end)
-  no_hex_fails {T} end sound none = record { only = λ is fails. inl (sound.only is fails).1; missing = missing }
+  no_hex_fails {T} end sound none = record { only = only; missing = missing }
     where
+      only : IsTrue kind.is_sound → inputs.is_fault end ≡ true → simulation.EndsAtMissing asked old (chip.NoHex end)
+      only is fails = let both = sound.only is fails in let read = both.0 in let e : end ≡ CannotRead = cc in inl (ap chip.NoHex e, both.1)
+
       missing : IsTrue kind.is_sound → simulation.LacksFile asked old → GivesUp (inputs.status_of end)
       missing is (inl lacks) = lacked_up {T = T} kind old asked.hex end sound is lacks
       missing is (inr (inl (has, lacks))) = hex_up old asked.hex end has none
@@ -72,8 +75,10 @@ module _ (kind : Kind) (old : Option Contents) (asked : Simulated) where
       no_map : IfSome old (λ o. HasNoMap o asked.map end)
       no_map = subst (λ c. IfSome c (λ o. HasNoMap o asked.map end)) same none
 
-      only : IsTrue kind.is_sound → inputs.is_fault end ≡ true → simulation.LacksFile asked old
-      only is fails = let lacks = (sound.only is fails).1 in inr (inl (has_hex old asked.hex image asked.map found lacks, lacks))
+      only : IsTrue kind.is_sound → inputs.is_fault end ≡ true → simulation.EndsAtMissing asked old (chip.NoMap end)
+      only is fails =
+          let both = sound.only is fails in let read = both.0 in let e : end ≡ CannotRead = cc in
+          inr (inl (ap chip.NoMap e, has_hex old asked.hex image asked.map found both.1, both.1))
 
       missing : IsTrue kind.is_sound → simulation.LacksFile asked old → GivesUp (inputs.status_of end)
       missing is (inl lacks) = absurd (read_there {T = T} kind old asked.hex x hex is lacks)
@@ -95,10 +100,10 @@ module _ (kind : Kind) (old : Option Contents) (asked : Simulated) where
       map_found : IfSome old (λ o. IsFile o asked.map (IsMapInput content))
       map_found = subst (λ c. IfSome c (λ o. IsFile o asked.map (IsMapInput content))) same there
 
-      only : IsTrue kind.is_sound → inputs.is_fault end ≡ true → simulation.LacksFile asked old
+      only : IsTrue kind.is_sound → inputs.is_fault end ≡ true → simulation.EndsAtMissing asked old (chip.NoScript end)
       only is fails =
-          let lacks = (sound.only is fails).1 in
-          inr (inr (has_hex old asked.hex image asked.script found lacks, has_map old asked.map content asked.script map_found lacks, lacks))
+          let both = sound.only is fails in let read = both.0 in let e : end ≡ CannotRead = cc in
+          inr (inr (ap chip.NoScript e, has_hex old asked.hex image asked.script found both.1, has_map old asked.map content asked.script map_found both.1, both.1))
 
       missing : IsTrue kind.is_sound → simulation.LacksFile asked old → GivesUp (inputs.status_of end)
       missing is (inl lacks) = absurd (read_there {T = T} kind old asked.hex x hex is lacks)
@@ -111,7 +116,7 @@ module _ (kind : Kind) (old : Option Contents) (asked : Simulated) where
       → simulation.FailsWithoutFiles kind old asked ended
   run_fails {T} {U} {V} x y z ended other last run middle later hex alike same map after kept script ran quiet = record { only = only; missing = missing }
     where
-      only : IsTrue kind.is_sound → simulation.is_fault ended ≡ true → simulation.LacksFile asked old
+      only : IsTrue kind.is_sound → simulation.is_fault ended ≡ true → simulation.EndsAtMissing asked old ended
       only is fails = let never = quiet (subst (λ (k : Kind). IsTrue k.is_sound) (sym (ran ∙ after ∙ alike)) is) in absurd (cc)
 
       missing : IsTrue kind.is_sound → simulation.LacksFile asked old → GivesUp (simulation.status_of ended)
@@ -123,7 +128,7 @@ module _ (kind : Kind) (old : Option Contents) (asked : Simulated) where
 -- ---- comparisons
 pub text_fails : {T : Type 0} (kind : Kind) (old : Option Contents) (asked : Compared) → FailsAtMissing {T = T} kind old asked.input (Err host.Failed)
     → agreement.FailsWithoutFiles kind old asked agree.CannotReadText
-text_fails kind old asked sound = record { only = λ is fails. inl (sound.only is refl); missing = λ is lacks. inl refl }
+text_fails kind old asked sound = record { only = λ is fails. inl (refl, sound.only is refl); missing = λ is lacks. inl refl }
 
 pub memory_fails : (kind : Kind) (old : Option Contents) (asked : Compared) → agreement.FailsWithoutFiles kind old asked agree.NoMemory
 memory_fails kind old asked = record { only = λ is fails. absurd (cc); missing = λ is lacks. inr refl }
@@ -142,10 +147,15 @@ text_there kind old asked x text is lacks = let both = text.always is lacks in c
 module _ {T U : Type 0} (kind : Kind) (old : Option Contents) (asked : Compared) (x : T) (text : FailsAtMissing {T = T} kind old asked.input (Ok x)) where
   pub compared_no_script : (end : FileEnd) (other : Kind) (middle : Option Contents) → other ≡ kind → middle ≡ old → FailsWithoutFile {T = U} other middle asked.script (Err end)
       → agreement.FailsWithoutFiles kind old asked (agree.NoScript end)
-  compared_no_script end other middle alike same later = record { only = λ is fails. inr (sound.only is fails).1; missing = missing }
+  compared_no_script end other middle alike same later = record { only = only; missing = missing }
     where
       sound : FailsWithoutFile {T = U} kind old asked.script (Err end)
       sound = moved {T = U} kind old asked.script other middle (Err end) alike same later
+
+      only : IsTrue kind.is_sound → inputs.is_fault end ≡ true → agreement.EndsAtMissing asked old (agree.NoScript end)
+      only is fails =
+          let both = sound.only is fails in let read = both.0 in let e : end ≡ CannotRead = cc in
+          inr (ap agree.NoScript e, (λ lacks. text_there {T = T} kind old asked x text is lacks), both.1)
 
       missing : IsTrue kind.is_sound → agreement.LacksFile asked old → GivesUp (inputs.status_of end)
       missing is (inl lacks) = absurd (text_there {T = T} kind old asked x text is lacks)

@@ -1,6 +1,6 @@
 -- How a trace ends, by what was printed.
 use Rattle.std.proofs.Common.{◌≡◌, ℕ, ◌⊎◌, inl, inr, ⊎_elim, true, IsTrue, Option, Some, None, IfSome, List, [], ◌++◌, refl, sym, ap, ◌∙◌, subst, arith, option_map}
-use Rattle.host_io.specs.Host.{Kind, Contents, PrintsPrefix, IsCounted}
+use Rattle.host_io.specs.Host.{Kind, Contents, Lacks, PrintsPrefix, IsCounted}
 use Rattle.picc_core.proofs.OneAnswer.{one_answer}
 use Rattle.picc_core.specs.Answers.{Tells}
 use Rattle.picc_core.specs.Decided.{IsAcceptedText}
@@ -124,8 +124,9 @@ module _ (asked : Asked) where
   prefix_text NoMemory p middle q (inr (text, lines, first)) prefix = broken_lines p middle q text lines first prefix
 
   -- ---- the printed text
-  abbrev TellsMissing : Option (List ℕ) → Option (List ℕ) → Type 0
-  TellsMissing p q = (q ≡ option_map (λ text. text ++ cannot_read asked.input) p) ⊎ (q ≡ option_map (λ text. text ++ cannot_read asked.script) p)
+  abbrev TellsMissing : Option Contents → Option (List ℕ) → Option (List ℕ) → Type 0
+  TellsMissing old p q =
+      (Lacks old asked.input × (q ≡ option_map (λ text. text ++ cannot_read asked.input) p)) ⊎ (Lacks old asked.script × (q ≡ option_map (λ text. text ++ cannot_read asked.script) p))
 
   missing_text : (ended : Ended) (p middle q : Option (List ℕ)) → ended ≡ CannotReadText → Leads asked.steps ended p middle → q ≡ option_map (λ t. t ++ last_line asked ended) middle
       → q ≡ option_map (λ text. text ++ cannot_read asked.input) p
@@ -142,16 +143,16 @@ module _ (asked : Asked) where
       said ∙ ap (option_map (λ text. text ++ cannot_read asked.script)) same
 
   told_missing : (kind : Kind) (old : Option Contents) (ended : Ended) (p middle q : Option (List ℕ)) → FailsWithoutFiles kind old asked ended → IsTrue kind.is_sound → is_fault ended ≡ true
-      → Leads asked.steps ended p middle → q ≡ option_map (λ t. t ++ last_line asked ended) middle → TellsMissing p q
+      → Leads asked.steps ended p middle → q ≡ option_map (λ t. t ++ last_line asked ended) middle → TellsMissing old p q
   told_missing kind old ended p middle q fails sound fault leads e =
       ⊎_elim
-      (λ (is, lacks). inl (missing_text ended p middle q is leads e))
-      (λ (is, lacks). inr (missing_script ended p middle q is leads e))
+      (λ (is, lacks). inl (lacks, missing_text ended p middle q is leads e))
+      (λ (is, lacks). inr (lacks, missing_script ended p middle q is leads e))
       (fails.only sound fault)
 
   pub trace_printed : (kind later : Kind) (old : Option Contents) (ended : Ended) (before now : ℕ) (p middle q : Option (List ℕ)) (result : ℕ)
       → FailsWithoutFiles kind old asked ended → later ≡ kind → Leads asked.steps ended p middle
-      → Says later before now middle q (last_line asked ended) (status_of ended) result → TracePrints kind asked p q result
+      → Says later before now middle q (last_line asked ended) (status_of ended) result → TracePrints kind asked old p q result
   trace_printed kind later old ended before now p middle q result fails alike leads (inl s) =
       record {
         whole = ⊎_elim

@@ -1,16 +1,17 @@
 -- How a comparison ends: what is known of its files, what it prints, and its exit status.
-use Rattle.std.specs.Prelude.{ℕ, ◌≡◌, ◌⊎◌, Bool, true, false, IsTrue, Option, List, [], ◌∷◌, ◌++◌, codes, decimal}
+use Rattle.std.specs.Prelude.{ℕ, ◌≡◌, ◌⊎◌, Bool, true, false, IsTrue, Option, List, [], ◌∷◌, ◌++◌, codes, decimal, option_map}
 use Rattle.host_io.specs.Host.{Kind, Contents, Lacks}
 use Rattle.picc_core.specs.Answers.{Tells}
 use Rattle.picc_core.specs.Decided.{IsAcceptedText}
 use Rattle.picc_cli.specs.declared.comparing.Ended.{Ended}
 use Rattle.picc_cli.specs.declared.comparing.Ended.TheVariants.{Same, Undefined, Refused, CannotReadText, NoScript, NoMemory}
+use Rattle.picc_cli.specs.declared.inputs.FileEnd.TheVariants.{CannotRead}
 use Rattle.picc_cli.specs.Command.{Asked, Compared}
 use Rattle.picc_cli.specs.Inputs as inputs
 use Rattle.picc_cli.specs.Lines.{cannot_read, undefined_line}
 use Rattle.picc_cli.specs.Refusals.{refusal_line}
 use Rattle.picc_cli.specs.RunsTold.{IsExact}
-use Rattle.host_lines.specs.Said.{GivesUp, IsLast}
+use Rattle.host_lines.specs.Said.{GivesUp, IsLast, Prints}
 use Rattle.picc_cli.specs.ScriptInput.{IsScript}
 use Rattle.picc_cli.specs.Trace.{Reads}
 
@@ -65,14 +66,30 @@ status_of CannotReadText = 3
 status_of (NoScript end) = inputs.status_of end
 status_of NoMemory = 9
 
+-- It ended at the first file that has no content: the text comes before the script.
+abbrev pub EndsAtMissing : Compared → Option Contents → Ended → Type 0
+EndsAtMissing asked old ended =
+    ((ended ≡ CannotReadText) × Lacks old asked.input) ⊎ ((ended ≡ NoScript CannotRead) × (Lacks old asked.input → ⊥) × Lacks old asked.script)
+
 -- Over a sound host a fault is a file without a content, and each is one, where memory suffices up to it.
 pub record FailsWithoutFiles (kind : Kind) (old : Option Contents) (asked : Compared) (ended : Ended) : Type 0 where
-  pub only : IsTrue kind.is_sound → is_fault ended ≡ true → LacksFile asked old
+  pub only : IsTrue kind.is_sound → is_fault ended ≡ true → EndsAtMissing asked old ended
   pub missing : IsTrue kind.is_sound → LacksFile asked old → GivesUp (status_of ended)
 
 -- the whole text of a comparison that ends so is its last line
 abbrev pub IsText : Compared → Ended → List ℕ → Type 0
 IsText asked ended text = text ≡ last_line asked ended
+
+-- the line of the first file that has no content
+abbrev pub TellsMissing : Compared → Option Contents → Option (List ℕ) → Option (List ℕ) → Type 0
+TellsMissing asked files old new =
+    (Lacks files asked.input × (new ≡ option_map (λ t. t ++ cannot_read asked.input) old))
+    ⊎ ((Lacks files asked.input → ⊥) × Lacks files asked.script × (new ≡ option_map (λ t. t ++ cannot_read asked.script) old))
+
+pub record AgreementPrints (kind : Kind) (asked : Compared) (files : Option Contents) (old new : Option (List ℕ)) (result : ℕ) : Type 0 where
+  pub prints : Prints status_of (IsText asked) old new result
+  -- over a sound host, where only files can be missing, the line says which
+  pub sound : IsTrue kind.is_sound → result ≡ 3 → TellsMissing asked files old new
 
 -- ---- what is known of the files
 abbrev pub files_of : Compared → Asked

@@ -3,14 +3,15 @@ use Rattle.std.specs.Prelude.{ℕ, ◌≡◌, ◌⊎◌, Bool, true, false, IsTr
 use Rattle.host_io.specs.Host.{Kind, Contents, Lacks, PrintsPrefix}
 use Rattle.pic_world.specs.declared.Event.{Event}
 use Rattle.pic_map.specs.MapContent.{MapContent}
+use Rattle.picc_cli.specs.declared.inputs.FileEnd.TheVariants.{CannotRead}
 use Rattle.picc_cli.specs.declared.simulating.Ended.{Ended}
 use Rattle.picc_cli.specs.declared.simulating.Ended.TheVariants.{Done, Unmodelled, NoHex, NoMap, NoScript, CannotPrint, NoMemory}
 use Rattle.picc_cli.specs.Command.{Simulated}
 use Rattle.picc_cli.specs.HexReasons.{word_text}
 use Rattle.picc_cli.specs.Inputs as inputs
 use Rattle.picc_cli.specs.Inputs.{IsHexInput, IsMapInput, IsScriptInput, HasNoHex, HasNoMap, HasNoScript}
-use Rattle.host_lines.specs.Said.{GivesUp}
-use Rattle.picc_cli.specs.Lines.{event_lines}
+use Rattle.host_lines.specs.Said.{GivesUp, Prints}
+use Rattle.picc_cli.specs.Lines.{cannot_read, event_lines}
 use Rattle.picc_cli.specs.ScriptInput.{IsFile}
 use Rattle.picc_cli.specs.Trace.{AllShown}
 
@@ -74,10 +75,17 @@ status_of (NoScript end) = inputs.status_of end
 status_of CannotPrint = 3
 status_of NoMemory = 9
 
+-- It ended at the first file that has no content.
+abbrev pub EndsAtMissing : Simulated → Option Contents → Ended → Type 0
+EndsAtMissing asked old ended =
+    ((ended ≡ NoHex CannotRead) × Lacks old asked.hex)
+    ⊎ (((ended ≡ NoMap CannotRead) × HasHex old asked.hex × Lacks old asked.map)
+    ⊎ ((ended ≡ NoScript CannotRead) × HasHex old asked.hex × HasMap old asked.map × Lacks old asked.script))
+
 -- Over a sound host a fault is a file without a content that the simulation comes to, and each is one, where memory suffices
 -- up to it.
 pub record FailsWithoutFiles (kind : Kind) (old : Option Contents) (asked : Simulated) (ended : Ended) : Type 0 where
-  pub only : IsTrue kind.is_sound → is_fault ended ≡ true → LacksFile asked old
+  pub only : IsTrue kind.is_sound → is_fault ended ≡ true → EndsAtMissing asked old ended
   pub missing : IsTrue kind.is_sound → LacksFile asked old → GivesUp (status_of ended)
 
 -- ---- the printed text
@@ -109,3 +117,15 @@ HasEvents ended text = ((ends_at_file ended ≡ true) × (text ≡ [])) ⊎ ((co
 
 abbrev pub IsChipText : Simulated → Ended → List ℕ → Type 0
 IsChipText asked ended text = (events : List ℕ) × HasEvents ended events × (text ≡ events ++ last_line asked ended)
+
+-- the line of the first file that has no content, where each one before it is such as it is to be
+abbrev pub TellsMissing : Simulated → Option Contents → Option (List ℕ) → Option (List ℕ) → Type 0
+TellsMissing asked files old new =
+    (Lacks files asked.hex × (new ≡ option_map (λ t. t ++ cannot_read asked.hex) old))
+    ⊎ ((HasHex files asked.hex × Lacks files asked.map × (new ≡ option_map (λ t. t ++ cannot_read asked.map) old))
+    ⊎ (HasHex files asked.hex × HasMap files asked.map × Lacks files asked.script × (new ≡ option_map (λ t. t ++ cannot_read asked.script) old)))
+
+pub record SimulationPrints (kind : Kind) (asked : Simulated) (files : Option Contents) (old new : Option (List ℕ)) (result : ℕ) : Type 0 where
+  pub prints : Prints status_of (IsChipText asked) old new result
+  -- over a sound host, where only files can be missing, the line says which
+  pub sound : IsTrue kind.is_sound → result ≡ 3 → TellsMissing asked files old new

@@ -85,21 +85,23 @@ pub record BuildPrints (kind : Kind) (names : Names) (old new : Option (List ℕ
   -- over a sound host, where only the input can be missing, the line says so
   pub sound : IsTrue kind.is_sound → result ≡ 3 → new ≡ option_map (λ text. text ++ cannot_read names.input) old
 
-pub record TracePrints (kind : Kind) (asked : Asked) (old new : Option (List ℕ)) (result : ℕ) : Type 0 where
+pub record TracePrints (kind : Kind) (asked : Asked) (files : Option Contents) (old new : Option (List ℕ)) (result : ℕ) : Type 0 where
   -- the lines of events and the last line, of a trace that ends with this status
   pub whole : GivesUp result ⊎ ((ended : Ended) × (text : List ℕ) × (trace.status_of ended ≡ result) × IsTraceText asked ended text × (new ≡ option_map (λ t. t ++ text) old))
   -- or a prefix of them
   pub prefix : GivesUp result → (ended : Ended) × (text : List ℕ) × IsTraceText asked ended text × PrintsPrefix old new text
   -- over a sound host, where only files can be missing, the line says which
-  pub sound : IsTrue kind.is_sound → result ≡ 3 → (new ≡ option_map (λ text. text ++ cannot_read asked.input) old) ⊎ (new ≡ option_map (λ text. text ++ cannot_read asked.script) old)
+  pub sound : IsTrue kind.is_sound → result ≡ 3
+      → (Lacks files asked.input × (new ≡ option_map (λ text. text ++ cannot_read asked.input) old))
+      ⊎ (Lacks files asked.script × (new ≡ option_map (λ text. text ++ cannot_read asked.script) old))
 
-abbrev pub HasPrinted : Kind → Option Form → Option (List ℕ) → Option (List ℕ) → ℕ → Type 0
-HasPrinted kind None old new result = UsagePrints old new result
-HasPrinted kind (Some (Build names)) old new result = BuildPrints kind names old new result
-HasPrinted kind (Some (Trace asked)) old new result = TracePrints kind asked old new result
-HasPrinted kind (Some (Simulate asked)) old new result = Prints chip.status_of (chip.IsChipText asked) old new result
-HasPrinted kind (Some (Agree asked)) old new result = Prints agreement.status_of (agreement.IsText asked) old new result
-HasPrinted kind (Some (Generate functions)) old new result = Prints generation.status_of (IsGeneratedText functions) old new result
+abbrev pub HasPrinted : Kind → Option Form → Option Contents → Option (List ℕ) → Option (List ℕ) → ℕ → Type 0
+HasPrinted kind None files old new result = UsagePrints old new result
+HasPrinted kind (Some (Build names)) files old new result = BuildPrints kind names old new result
+HasPrinted kind (Some (Trace asked)) files old new result = TracePrints kind asked files old new result
+HasPrinted kind (Some (Simulate asked)) files old new result = chip.SimulationPrints kind asked files old new result
+HasPrinted kind (Some (Agree asked)) files old new result = agreement.AgreementPrints kind asked files old new result
+HasPrinted kind (Some (Generate functions)) files old new result = Prints generation.status_of (IsGeneratedText functions) old new result
 
 -- ---- where the host tells both
 -- the line that is printed is that of a refusal that holds of the text

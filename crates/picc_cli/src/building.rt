@@ -53,7 +53,7 @@ pub fn build_files<H: Host>(alloc: Global, host: &mut H, files: Files<'_>) -> u8
     ensures files { IfSome (H.contents host.old) (λ old. HasFiles (Some (Build (names_of files.entry))) old (H.contents host.new) result) }
     ensures faults { HasFaults (H.kind host.old) (H.faults host.old) (H.faults host.new) (Some (Build (names_of files.entry))) (H.contents host.old) result }
     ensures status { HasStatus (Some (Build (names_of files.entry))) result }
-    ensures printed { HasPrinted (H.kind host.old) (Some (Build (names_of files.entry))) (H.printed host.old) (H.printed host.new) result }
+    ensures printed { HasPrinted (H.kind host.old) (Some (Build (names_of files.entry))) (H.contents host.old) (H.printed host.old) (H.printed host.new) result }
     ensures told { IfSome (H.contents host.old) (λ old. HasTold (Some (Build (names_of files.entry))) old (H.contents host.new) (H.printed host.old) (H.printed host.new) result) }
     ensures complete { IfSome (H.contents host.old) (λ old. IsComplete (H.kind host.old) (H.faults host.old) (H.faults host.new) (Some (Build (names_of files.entry))) old result) }
 {

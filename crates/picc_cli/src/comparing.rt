@@ -50,7 +50,7 @@ pub fn compare<H: Host>(alloc: Global, host: &mut H, asked: Compared<'_>) -> u8
     ensures same_contents { H.contents host.new ≡ H.contents host.old }
     ensures faults { HasFaults (H.kind host.old) (H.faults host.old) (H.faults host.new) (Some (Agree (compared_of asked.entry))) (H.contents host.old) result }
     ensures status { HasStatus (Some (Agree (compared_of asked.entry))) result }
-    ensures printed { HasPrinted (H.kind host.old) (Some (Agree (compared_of asked.entry))) (H.printed host.old) (H.printed host.new) result }
+    ensures printed { HasPrinted (H.kind host.old) (Some (Agree (compared_of asked.entry))) (H.contents host.old) (H.printed host.old) (H.printed host.new) result }
     ensures told { IfSome (H.contents host.old) (λ old. HasTold (Some (Agree (compared_of asked.entry))) old (H.contents host.new) (H.printed host.old) (H.printed host.new) result) }
     ensures complete { IfSome (H.contents host.old) (λ old. IsComplete (H.kind host.old) (H.faults host.old) (H.faults host.new) (Some (Agree (compared_of asked.entry))) old result) }
 {

@@ -51,7 +51,9 @@ pub fn picc<H: Host>(
     ensures files { IfSome (H.contents host.old) (λ old. HasFiles (form_of (words_of words.now)) old (H.contents host.new) result) }
     ensures faults { HasFaults (H.kind host.old) (H.faults host.old) (H.faults host.new) (form_of (words_of words.now)) (H.contents host.old) result }
     ensures status { HasStatus (form_of (words_of words.now)) result }
-    ensures printed { HasPrinted (H.kind host.old) (form_of (words_of words.now)) (H.printed host.old) (H.printed host.new) result }
+    // What is printed is a whole text of the form, or a prefix of one where it gives up. Over a sound host 3 comes with the line of a file
+    // that has no content.
+    ensures printed { HasPrinted (H.kind host.old) (form_of (words_of words.now)) (H.contents host.old) (H.printed host.old) (H.printed host.new) result }
     // What is printed of a refused text, of a file that isn't such as it is to be, and of an accepted one, holds of the files; and
     // the sizes of a generated program are those of its typed program, or a refusal of it holds of it.
     ensures told { IfSome (H.contents host.old) (λ old. HasTold (form_of (words_of words.now)) old (H.contents host.new) (H.printed host.old) (H.printed host.new) result) }
@@ -88,7 +90,7 @@ fn run<H: Host>(
     ensures files { IfSome (H.contents host.old) (λ old. HasFiles (option_map form_view command.entry) old (H.contents host.new) result) }
     ensures faults { HasFaults (H.kind host.old) (H.faults host.old) (H.faults host.new) (option_map form_view command.entry) (H.contents host.old) result }
     ensures status { HasStatus (option_map form_view command.entry) result }
-    ensures printed { HasPrinted (H.kind host.old) (option_map form_view command.entry) (H.printed host.old) (H.printed host.new) result }
+    ensures printed { HasPrinted (H.kind host.old) (option_map form_view command.entry) (H.contents host.old) (H.printed host.old) (H.printed host.new) result }
     ensures told { IfSome (H.contents host.old) (λ old. HasTold (option_map form_view command.entry) old (H.contents host.new) (H.printed host.old) (H.printed host.new) result) }
     ensures simulated { IfSome (H.contents host.old) (λ old. HasSimulated (option_map form_view command.entry) old (board_of (lists board.old) (follows board.old)) (board_of (lists board.new) (follows board.new)) (H.printed host.old) (H.printed host.new) result) }
     ensures traced { IfSome (H.contents host.old) (λ old. HasTraced (option_map form_view command.entry) old (H.printed host.old) (H.printed host.new) result) }

@@ -66,7 +66,7 @@ pub fn simulate<H: Host>(
     ensures same_contents { H.contents host.new ≡ H.contents host.old }
     ensures faults { HasFaults (H.kind host.old) (H.faults host.old) (H.faults host.new) (Some (Simulate (simulated_of asked.entry))) (H.contents host.old) result }
     ensures status { HasStatus (Some (Simulate (simulated_of asked.entry))) result }
-    ensures printed { HasPrinted (H.kind host.old) (Some (Simulate (simulated_of asked.entry))) (H.printed host.old) (H.printed host.new) result }
+    ensures printed { HasPrinted (H.kind host.old) (Some (Simulate (simulated_of asked.entry))) (H.contents host.old) (H.printed host.old) (H.printed host.new) result }
     ensures complete { IfSome (H.contents host.old) (λ old. IsComplete (H.kind host.old) (H.faults host.old) (H.faults host.new) (Some (Simulate (simulated_of asked.entry))) old result) }
     ensures refused { result ≡ 5 → board.new ≡ board.old }
     ensures simulated { IfSome (H.contents host.old) (λ old. HasSimulated (Some (Simulate (simulated_of asked.entry))) old (board_of (lists board.old) (follows board.old)) (board_of (lists board.new) (follows board.new)) (H.printed host.old) (H.printed host.new) result) }

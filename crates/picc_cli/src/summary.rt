@@ -35,7 +35,7 @@ pub fn print_generated<H: Host>(alloc: Global, host: &mut H, functions: u32) -> 
     ensures same_contents { H.contents host.new ≡ H.contents host.old }
     ensures faults { HasFaults (H.kind host.old) (H.faults host.old) (H.faults host.new) (Some (Generate functions)) (H.contents host.old) result }
     ensures status { HasStatus (Some (Generate functions)) result }
-    ensures printed { HasPrinted (H.kind host.old) (Some (Generate functions)) (H.printed host.old) (H.printed host.new) result }
+    ensures printed { HasPrinted (H.kind host.old) (Some (Generate functions)) (H.contents host.old) (H.printed host.old) (H.printed host.new) result }
     ensures told { IfSome (H.contents host.old) (λ old. HasTold (Some (Generate functions)) old (H.contents host.new) (H.printed host.old) (H.printed host.new) result) }
     ensures complete { IfSome (H.contents host.old) (λ old. IsComplete (H.kind host.old) (H.faults host.old) (H.faults host.new) (Some (Generate functions)) old result) }
 {

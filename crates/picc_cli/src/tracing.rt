@@ -50,7 +50,7 @@ pub fn trace<H: Host>(alloc: Global, host: &mut H, asked: Asked<'_>) -> u8
     ensures same_contents { H.contents host.new ≡ H.contents host.old }
     ensures faults { HasFaults (H.kind host.old) (H.faults host.old) (H.faults host.new) (Some (Trace (asked_of asked.entry))) (H.contents host.old) result }
     ensures status { HasStatus (Some (Trace (asked_of asked.entry))) result }
-    ensures printed { HasPrinted (H.kind host.old) (Some (Trace (asked_of asked.entry))) (H.printed host.old) (H.printed host.new) result }
+    ensures printed { HasPrinted (H.kind host.old) (Some (Trace (asked_of asked.entry))) (H.contents host.old) (H.printed host.old) (H.printed host.new) result }
     ensures told { IfSome (H.contents host.old) (λ old. HasTold (Some (Trace (asked_of asked.entry))) old (H.contents host.new) (H.printed host.old) (H.printed host.new) result) }
     ensures complete { IfSome (H.contents host.old) (λ old. IsComplete (H.kind host.old) (H.faults host.old) (H.faults host.new) (Some (Trace (asked_of asked.entry))) old result) }
     ensures traced { IfSome (H.contents host.old) (λ old. HasTraced (Some (Trace (asked_of asked.entry))) old (H.printed host.old) (H.printed host.new) result) }

@@ -1,9 +1,7 @@
-use Rattle.std.proofs.Common.{refl}
-use Rattle.picc_cli.specs.Agreement as agreement
 use Rattle.picc_cli.specs.CommandView.{compared_of}
 use Rattle.picc_cli.proofs.AgreementEnds.{agreement_told}
 use Rattle.picc_cli.proofs.ChipEnds.{agree_complete, agree_faults, agree_status}
-use Rattle.picc_cli.proofs.FormPrints.{prints_line}
+use Rattle.picc_cli.proofs.MissingTold.{agree_printed}
 use Rattle.picc_cli.proofs.comparing.compare.Goals as goal
 
 pub returns-clause-faults : goal.returns-clause-faults
@@ -16,7 +14,8 @@ returns-clause-status g c = agree_status (compared_of c.args.asked) c.compared-e
 
 pub returns-clause-printed : goal.returns-clause-printed
 returns-clause-printed g c =
-    prints_line agreement.status_of (agreement.IsText (compared_of c.args.asked)) c.compared-ended.result _ _ _ _ _ _ _ _ refl c.compared-ended.ensures.same_printed c.report.ensures.said
+    agree_printed (compared_of c.args.asked) c.compared-ended.result _ _ _ _ _ _ _ _ _ c.compared-ended.ensures.sound c.compared-ended.ensures.same_kind c.compared-ended.ensures.same_printed
+    c.report.ensures.said
 
 pub returns-clause-told : goal.returns-clause-told
 returns-clause-told g c = agreement_told (compared_of c.args.asked) c.compared-ended.result _ (g.H.Host.contents c.report.new.host) _ _ _ _ _ _ _ c.compared-ended.ensures.knows c.compared-ended.ensures.exact c.compared-ended.ensures.same_printed c.report.ensures.said

@@ -12,7 +12,7 @@ pub returns-in-Err-clause-files : goal.returns-in-Err-clause-files
 returns-in-Err-clause-files g c = no_files (form_of (words_of c.args.words.now)) (g.H.Host.contents c.args.host.now)
 
 pub returns-in-Err-clause-printed : goal.returns-in-Err-clause-printed
-returns-in-Err-clause-printed g c = no_print (form_of (words_of c.args.words.now)) (g.H.Host.kind c.args.host.now) (g.H.Host.printed c.args.host.now)
+returns-in-Err-clause-printed g c = no_print (form_of (words_of c.args.words.now)) (g.H.Host.kind c.args.host.now) (g.H.Host.contents c.args.host.now) (g.H.Host.printed c.args.host.now)
 
 pub returns-in-Err-clause-told : goal.returns-in-Err-clause-told
 returns-in-Err-clause-told g c =

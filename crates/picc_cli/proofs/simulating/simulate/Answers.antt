@@ -1,6 +1,6 @@
 use Rattle.picc_cli.specs.CommandView.{simulated_of}
 use Rattle.picc_cli.proofs.ChipEnds.{chip_complete, chip_faults, chip_status, five_at_file}
-use Rattle.picc_cli.proofs.FormPrints.{chip_prints}
+use Rattle.picc_cli.proofs.MissingTold.{chip_printed}
 use Rattle.picc_cli.proofs.SimulationEnds.{simulation_told}
 use Rattle.picc_cli.proofs.simulating.simulate.Goals as goal
 
@@ -13,7 +13,9 @@ pub returns-clause-status : goal.returns-clause-status
 returns-clause-status g c = chip_status (simulated_of c.args.asked) c.simulated-ended.result _ _ _ _ _ _ _ c.report.ensures.said
 
 pub returns-clause-printed : goal.returns-clause-printed
-returns-clause-printed g c = chip_prints (simulated_of c.args.asked) c.simulated-ended.result _ _ _ _ _ _ _ c.simulated-ended.ensures.leads c.report.ensures.said
+returns-clause-printed g c =
+    chip_printed (simulated_of c.args.asked) c.simulated-ended.result _ _ _ _ _ _ _ _ _ c.simulated-ended.ensures.sound c.simulated-ended.ensures.same_kind c.simulated-ended.ensures.leads
+    c.report.ensures.said
 
 pub returns-clause-refused : goal.returns-clause-refused
 returns-clause-refused g c = λ five. c.simulated-ended.ensures.same_board (five_at_file c.simulated-ended.result _ _ _ _ _ _ _ c.report.ensures.said five)

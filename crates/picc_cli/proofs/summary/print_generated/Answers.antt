@@ -51,7 +51,7 @@ pub returns-in-Err-NoMemory-clause-status : goal.returns-in-Err-NoMemory-clause-
 returns-in-Err-NoMemory-clause-status g c = no_status (Some (Generate c.args.functions))
 
 pub returns-in-Err-NoMemory-clause-printed : goal.returns-in-Err-NoMemory-clause-printed
-returns-in-Err-NoMemory-clause-printed g c = no_print (Some (Generate c.args.functions)) (g.H.Host.kind c.args.host.now) (g.H.Host.printed c.args.host.now)
+returns-in-Err-NoMemory-clause-printed g c = no_print (Some (Generate c.args.functions)) (g.H.Host.kind c.args.host.now) (g.H.Host.contents c.args.host.now) (g.H.Host.printed c.args.host.now)
 
 pub returns-in-Err-NoMemory-clause-told : goal.returns-in-Err-NoMemory-clause-told
 returns-in-Err-NoMemory-clause-told g c = no_told (Some (Generate c.args.functions)) (g.H.Host.contents c.args.host.now) (g.H.Host.contents c.args.host.now) (g.H.Host.printed c.args.host.now)
