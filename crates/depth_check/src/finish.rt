@@ -47,7 +47,7 @@ impl Numbering {
         }
     }
 
-    // The number of the routine with this entry.
+    // The number of the routine with this entry, and the number of all routines where there is none.
     fn place(&self, entry: u16) -> u16
         requires few { length self.now.list.items ≤ 8194 }
         requires numbered { IsNumbered self.now.numbers self.now.list.items }
@@ -59,6 +59,7 @@ impl Numbering {
         }
     }
 
+    // The next number is the routine's that begins at this address.
     fn append(&mut self, at: u16) -> Result<(), AllocError>
         requires few { length self.old.list.items ≤ 8193 }
         requires below { at < 8192 }
@@ -71,6 +72,7 @@ impl Numbering {
         Ok(())
     }
 
+    // The routine that begins at this address has a number.
     fn add(&mut self, at: u16) -> Result<(), AllocError>
         requires few { length self.old.list.items ≤ 8193 }
         requires below { at < 8192 }

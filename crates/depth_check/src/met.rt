@@ -37,6 +37,7 @@ impl Met {
         if i < 8192 { self.places[i] } else { 0 }
     }
 
+    // An address is met for the first time.
     fn add(&mut self, at: u16)
         requires order { IsOrder self.old }
         requires below { at < 8192 }
@@ -48,6 +49,7 @@ impl Met {
         self.count += 1;
     }
 
+    // An address is met, if there is one.
     fn meet(&mut self, at: Option<u16>)
         requires order { IsOrder self.old }
         ensures { Meets self.old self.new at }

@@ -38,7 +38,7 @@ fn blank_outs(alloc: Global) -> Result<Vec<Option<Out>>, AllocError>
     Ok(outs)
 }
 
-// More turns than a search takes: what is known of a row is taken away five times at most, and of where a routine is left twice.
+// More turns than a search takes: an address waits for what changes there, six times at most, and for where its callee is left, three times.
 const TURNS: u32 = 100_000;
 
 // What waits is looked at, until nothing does.

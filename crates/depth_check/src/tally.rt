@@ -31,7 +31,7 @@ pub fn ways_out(image: &Image, rows: &[Row]) -> [bool; 8192]
     marks
 }
 
-/// Whether some row of the routine is RETURN or RETLW. A certificate has no sound routine with a number for which the rows are read here.
+/// Whether some row of the routine is RETURN or RETLW. Only a number that no valid certificate has is looked for in the rows.
 pub fn returns(image: &Image, rows: &[Row], ways_out: &[bool; 8192], n: usize) -> bool
     requires tells { TellsReturns image.now rows.now ways_out.now }
     ensures { result ≡ returns_in_of image.now rows.now n }
@@ -54,7 +54,7 @@ fn returns_by_rows(image: &Image, rows: &[Row], n: usize) -> bool
     false
 }
 
-// A routine that this row belongs to is at least as high as what the row calls.
+// The row's routine is at least as high as what the row calls.
 fn note_height(image: &Image, h: &Heights, row: Row, heights: &mut [u16; 8192])
     requires rising { is_rising_of 0 h.now.rows.items ≡ true }
     ensures { (n : ℕ) → n < 8192 → slice_index_or heights.new n 0 ≡ greater_of (slice_index_or heights.old n 0) (height_in_of n (seen h.now) row (instruction_of image.now row)) }
