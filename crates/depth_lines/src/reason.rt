@@ -26,9 +26,10 @@ pub enum Reason {
     Depth(u16),
 }
 
-/// What a walk comes to: how far it went, and its reason.
+/// What a walk comes to: whether the handler puts PCLATH into the cell, how far the walk went, and its reason.
 #[derive(Clone, Copy)]
 struct Verdict {
+    keeps: bool,
     looks: u32,
     reason: Option<Reason>,
 }
@@ -104,6 +105,7 @@ fn in_calls(alloc: Global, walk: &Walk, interrupts: bool) -> Result<Option<Reaso
 fn judged(alloc: Global, walk: &Walk, interrupts: bool) -> Result<Verdict, AllocError> {
     match walk.first {
         Some(first) => Ok(Verdict {
+            keeps: walk.keeps,
             looks: first.looks,
             reason: Some(Reason::At {
                 at: first.at,
@@ -111,6 +113,7 @@ fn judged(alloc: Global, walk: &Walk, interrupts: bool) -> Result<Verdict, Alloc
             }),
         }),
         None => Ok(Verdict {
+            keeps: walk.keeps,
             looks: u32::MAX,
             reason: in_calls(alloc, walk, interrupts)?,
         }),
@@ -122,12 +125,21 @@ fn with_cell(alloc: Global, image: &Image, cell: u8) -> Result<Verdict, AllocErr
     judged(alloc, &walk, true)
 }
 
-// Of all cells the one whose walk goes on longest.
+// A cell that the handler puts PCLATH into tells more than another one, and else the longer walk.
+fn tells_more(a: Verdict, b: Verdict) -> bool {
+    if a.keeps == b.keeps {
+        a.looks > b.looks
+    } else {
+        a.keeps
+    }
+}
+
+// Of all cells the one that tells most.
 fn with_handler(alloc: Global, image: &Image) -> Result<Option<Reason>, AllocError> {
     let mut best = with_cell(alloc, image, FIRST_CELL)?;
     for cell in FIRST_CELL + 1..CELLS_END {
         let other = with_cell(alloc, image, cell)?;
-        if other.looks > best.looks {
+        if tells_more(other, best) {
             best = other;
         }
     }

@@ -54,6 +54,8 @@ pub struct Walk {
     failed: bool,
     /// Whether a word of main writes INTCON.
     pub opens: bool,
+    /// Whether the handler puts the PCLATH of what it interrupts into the cell.
+    pub keeps: bool,
     /// The first thing that isn't allowed.
     pub first: Option<Refusal>,
 }
@@ -84,6 +86,7 @@ impl Walk {
             looks: 0,
             failed: false,
             opens: false,
+            keeps: false,
             first: None,
         })
     }
@@ -291,6 +294,7 @@ impl Walk {
     fn pass(&mut self, at: u16, s: Spot, word: u16) {
         self.look_at_writes(at, s, word);
         let behind = beside(s, after(self.cell, word, s.facts));
+        self.keeps = self.keeps || behind.facts.saved;
         if may_skip(word) {
             self.put(at, next(next(at)), behind);
         }
