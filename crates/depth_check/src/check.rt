@@ -425,6 +425,7 @@ fn is_entry(isr: bool, at: u16, routines: &[Routine], n: usize) -> bool
     n < routines.len() && routines[n].entry == at && routines[n].isr == isr
 }
 
+/// After a reset bits 3 and 4 of PCLATH are 0 (data sheet DS39582, "Initialization conditions").
 pub const AT_RESET: Facts = Facts {
     p3: Some(false),
     p4: Some(false),
@@ -433,6 +434,7 @@ pub const AT_RESET: Facts = Facts {
     saved: false,
 };
 
+/// At the first word of the handler PCLATH is as it was when the interrupt was taken.
 pub const AT_INTERRUPT: Facts = Facts {
     p3: None,
     p4: None,

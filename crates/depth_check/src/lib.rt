@@ -21,11 +21,11 @@ mod search;
 mod tables;
 mod tally;
 
-pub use check::{total, verify};
+pub use check::{AT_INTERRUPT, AT_RESET, total, verify};
 pub use search::certify;
 
 /// What is known where an instruction is to run.
-#[derive(Clone, Copy, PartialEq, Eq, Debug)]
+#[derive(Clone, Copy)]
 pub struct Facts {
     /// Bit 3 of PCLATH, if it is known.
     pub p3: Option<bool>,
@@ -40,7 +40,7 @@ pub struct Facts {
 }
 
 /// What is known at an address.
-#[derive(Clone, Copy, PartialEq, Eq, Debug)]
+#[derive(Clone, Copy)]
 pub struct Row {
     /// The address, below 8,192.
     pub at: u16,
@@ -50,7 +50,7 @@ pub struct Row {
 }
 
 /// A routine.
-#[derive(Clone, Copy, PartialEq, Eq, Debug)]
+#[derive(Clone, Copy)]
 pub struct Routine {
     /// The address of its first instruction.
     pub entry: u16,

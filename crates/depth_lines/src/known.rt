@@ -5,24 +5,6 @@ ghost use Rattle.std.specs.Prelude.{◌≤◌};
 use crate::words::{PCLATH, bit, is_bcf, is_bsf, is_clrf, is_movwf, loads, writes, writes_w};
 use depth_check::Facts;
 
-/// After reset bits 3 and 4 of PCLATH are 0.
-pub const AT_RESET: Facts = Facts {
-    p3: Some(false),
-    p4: Some(false),
-    orig: false,
-    w_orig: false,
-    saved: false,
-};
-
-/// At the beginning of the handler PCLATH is what it was where the handler was entered.
-pub const AT_INTERRUPT: Facts = Facts {
-    p3: None,
-    p4: None,
-    orig: true,
-    w_orig: false,
-    saved: false,
-};
-
 /// What is known of bits 3 and 4 of PCLATH.
 #[derive(Clone, Copy)]
 pub struct Pages {

@@ -3,15 +3,14 @@
 //! first of these, and goes on.
 
 use crate::known::{
-    AT_INTERRUPT, AT_RESET, Pages, after, are_known_in, common_facts, common_pages, is_within,
-    pages_of, target, two_bits,
+    Pages, after, are_known_in, common_facts, common_pages, is_within, pages_of, target, two_bits,
 };
 use crate::why::{Clash, What, Why};
 use crate::words::{
     INDF, INTCON, PCL, bit, is_bcf, is_bsf, is_call, is_goto, is_instruction, is_retfie, is_return,
     is_sleep, may_skip, next, word_at, writes,
 };
-use depth_check::Facts;
+use depth_check::{AT_INTERRUPT, AT_RESET, Facts};
 use pic_chip::Image;
 use std::alloc::{AllocError, Global};
 

@@ -72,9 +72,9 @@ frame main 21h 11
 frame isr 30h 11
 frame main 40h 11
 block copy.0
-put call copy.2; movf R0 w; movwf S0.0; goto halt
+put call copy.2; movf M0 w; movwf S0.0; goto halt
 block copy.2
-put movf S0.0 w; movwf R0; return
+put movf S0.0 w; movwf M0; return
 lean none
 made 0
 wants call copy.2; movwf S0.0; goto halt

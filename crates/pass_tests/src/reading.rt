@@ -1,6 +1,6 @@
 //! Instructions and bytes as texts.
 //!
-//! A byte is `S0.1` of a static object, `F0.1` of the frame of a copy, `R1` and `I1` of the result under main and under the handler,
+//! A byte is `S0.1` of a static object, `F0.1` of the frame of a copy, `M1` and `I1` of the result under main and under the handler,
 //! and `D86h` a device register; the core's registers have their names, and those that are saved stand behind `saved.`. A label
 //! is `L0`, `halt` or `restore`, and a block `start` or `copy.1`.
 
@@ -113,7 +113,7 @@ pub fn byte(text: &str) -> Byte {
     }
     let (root, k) = match front.strip_prefix('I') {
         Some(k) => (Root::Isr, k),
-        None => (Root::Main, front.strip_prefix('R').unwrap_or("")),
+        None => (Root::Main, front.strip_prefix('M').unwrap_or("")),
     };
     Byte::Result { root, k: small(k) }
 }
