@@ -6,6 +6,8 @@ use Rattle.pic_isa.specs.Lookup.{row_of}
 use Rattle.pic_chip.specs.State.{State, Part, AtW, AtPc, AtBank, AtZ, AtDc, AtC, AtFsr, AtPclath, AtIntcon, AtPir1, AtPie1, AtPushes, AtPops, AtTaken, Ram, Level}
 use Rattle.pic_chip.specs.Act.{Derived, Write, Note, Act, Ask, Do}
 use Rattle.pic_world.specs.Bits.{bit, set_bit, clear_bit, truth}
+use Rattle.pic_world.specs.Control.{is_stored}
+use Rattle.pic_world.specs.Registers.{is_register}
 use Rattle.pic_chip.specs.Address.{Place, Pcl, Status, Fsr, Pclath, Intcon, Pir1, Pie1, General, Device, Nothing, operand, address_of}
 
 -- ---- numbers made of parts of the state
@@ -70,18 +72,30 @@ store plain Nothing v = []
 abbrev pub access : Bool → ℕ → Derived → List Note
 access write address v = record { write = write; address = address; value = v } ∷ []
 
+-- What differs from chip to chip of this family.
+pub record Rule : Type 0 where
+  -- where an instruction goes on with the place that its operand names
+  pub find : ℕ → (Place → Act) → Act
+  -- how many general bytes there are, and the lowest address of each
+  pub bytes : ℕ
+  pub lowest : ℕ → ℕ
+  -- a device register is found at the address
+  pub is_register : ℕ → Bool
+  -- .. which keeps what is written to it
+  pub is_stored : ℕ → Bool
+
 -- an access to a place, by its lowest address
-abbrev pub note : Bool → Place → Derived → List Note
-note write Pcl v = access write 2 v
-note write Status v = access write 3 v
-note write Fsr v = access write 4 v
-note write Pclath v = access write 10 v
-note write Intcon v = access write 11 v
-note write Pir1 v = access write 12 v
-note write Pie1 v = access write 0x8c v
-note write (General k) v = access write (address_of k) v
-note write (Device address) v = access write address v
-note write Nothing v = []
+abbrev pub note_by : (ℕ → ℕ) → Bool → Place → Derived → List Note
+note_by low write Pcl v = access write 2 v
+note_by low write Status v = access write 3 v
+note_by low write Fsr v = access write 4 v
+note_by low write Pclath v = access write 10 v
+note_by low write Intcon v = access write 11 v
+note_by low write Pir1 v = access write 12 v
+note_by low write Pie1 v = access write 0x8c v
+note_by low write (General k) v = access write (low k) v
+note_by low write (Device address) v = access write address v
+note_by low write Nothing v = []
 
 -- ---- the forms of a row
 abbrev pub is_empty : List Write → Bool
@@ -93,9 +107,9 @@ abbrev pub result_to : Bool → Place → Derived → List Write → List Write
 result_to true p v flags = store (is_empty flags) p v ++ flags
 result_to false p v flags = to AtW v ∷ flags
 
-abbrev pub write_note : Bool → Place → Derived → List Note
-write_note true p v = note true p v
-write_note false p v = []
+abbrev pub write_note_by : (ℕ → ℕ) → Bool → Place → Derived → List Note
+write_note_by low true p v = note_by low true p v
+write_note_by low false p v = []
 
 -- the following instruction
 abbrev pub following : ℕ → Derived
@@ -106,28 +120,28 @@ abbrev pub skipping : ℕ → (ℕ → Bool) → Derived → Derived
 skipping pc skips v = of (λ x. (pc + (if skips x then 2 else 1)) % 8192) v
 
 -- a row with f and d: it reads f, and its result, its flags and the next place come from what f holds
-abbrev pub byte_row : List ℕ → ℕ → ℕ → Bool → (Derived → Derived) → (Derived → List Write) → (Derived → Derived) → Act
-byte_row inputs pc f d result flags next =
-    operand f (λ p. let x = contents inputs pc p in Do (record {
+abbrev pub byte_row_by : Rule → List ℕ → ℕ → ℕ → Bool → (Derived → Derived) → (Derived → List Write) → (Derived → Derived) → Act
+byte_row_by c inputs pc f d result flags next =
+    c.find f (λ p. let x = contents inputs pc p in Do (record {
       writes = to AtPc (next x) ∷ (after_read p ++ result_to d p (result x) (flags x));
-      notes = note false p x ++ write_note d p (result x);
+      notes = note_by c.lowest false p x ++ write_note_by c.lowest d p (result x);
     }))
 
 -- a row that writes f and doesn't read it
-abbrev pub write_row : ℕ → ℕ → Derived → List Write → Act
-write_row pc f v flags =
-    operand f (λ p. Do (record { writes = to AtPc (following pc) ∷ (store (is_empty flags) p v ++ flags); notes = note true p v }))
+abbrev pub write_row_by : Rule → ℕ → ℕ → Derived → List Write → Act
+write_row_by c pc f v flags =
+    c.find f (λ p. Do (record { writes = to AtPc (following pc) ∷ (store (is_empty flags) p v ++ flags); notes = note_by c.lowest true p v }))
 
 -- a row with f and b that changes a bit
-abbrev pub bit_row : List ℕ → ℕ → ℕ → (ℕ → ℕ) → Act
-bit_row inputs pc f change = byte_row inputs pc f true (of change) (λ x. []) (λ x. following pc)
+abbrev pub bit_row_by : Rule → List ℕ → ℕ → ℕ → (ℕ → ℕ) → Act
+bit_row_by c inputs pc f change = byte_row_by c inputs pc f true (of change) (λ x. []) (λ x. following pc)
 
 -- a row with f and b that skips where the bit has this value
-abbrev pub test_row : List ℕ → ℕ → ℕ → ℕ → ℕ → Act
-test_row inputs pc f b v =
-    operand f (λ p. let x = contents inputs pc p in Do (record {
+abbrev pub test_row_by : Rule → List ℕ → ℕ → ℕ → ℕ → ℕ → Act
+test_row_by c inputs pc f b v =
+    c.find f (λ p. let x = contents inputs pc p in Do (record {
       writes = to AtPc (skipping pc (λ y. nat_eq (bit y b) v) x) ∷ after_read p;
-      notes = note false p x;
+      notes = note_by c.lowest false p x;
     }))
 
 -- a row that touches no file register
@@ -188,34 +202,34 @@ pop =
 
 -- ---- the rows
 -- an instruction at pc, over this input list
-abbrev pub row : List ℕ → ℕ → Ins → Act
-row inputs pc i =
+abbrev pub row_by : Rule → List ℕ → ℕ → Ins → Act
+row_by c inputs pc i =
     let step = to AtPc (following pc) in
     let on = λ (x : Derived). following pc in
     let no_flags = λ (x : Derived). let none : List Write = [] in none in
     elim i [
-      | Addwf f d ↦ byte_row inputs pc f d (with_part AtW sum) sum_flags on
-      | Andwf f d ↦ byte_row inputs pc f d (with_part AtW bit_and) (λ x. z_of (with_part AtW bit_and x)) on
-      | Clrf f ↦ write_row pc f (number 0) (to AtZ (number 1) ∷ [])
+      | Addwf f d ↦ byte_row_by c inputs pc f d (with_part AtW sum) sum_flags on
+      | Andwf f d ↦ byte_row_by c inputs pc f d (with_part AtW bit_and) (λ x. z_of (with_part AtW bit_and x)) on
+      | Clrf f ↦ write_row_by c pc f (number 0) (to AtZ (number 1) ∷ [])
       | Clrw ↦ plain_row (step ∷ to AtW (number 0) ∷ to AtZ (number 1) ∷ [])
-      | Comf f d ↦ byte_row inputs pc f d (of complement) (λ x. z_of (of complement x)) on
-      | Decf f d ↦ byte_row inputs pc f d (of decrement) (λ x. z_of (of decrement x)) on
-      | Decfsz f d ↦ byte_row inputs pc f d (of decrement) no_flags (λ x. skipping pc is_zero (of decrement x))
-      | Incf f d ↦ byte_row inputs pc f d (of increment) (λ x. z_of (of increment x)) on
-      | Incfsz f d ↦ byte_row inputs pc f d (of increment) no_flags (λ x. skipping pc is_zero (of increment x))
-      | Iorwf f d ↦ byte_row inputs pc f d (with_part AtW bit_or) (λ x. z_of (with_part AtW bit_or x)) on
-      | Movf f d ↦ byte_row inputs pc f d (λ x. x) z_of on
-      | Movwf f ↦ write_row pc f (part AtW) []
+      | Comf f d ↦ byte_row_by c inputs pc f d (of complement) (λ x. z_of (of complement x)) on
+      | Decf f d ↦ byte_row_by c inputs pc f d (of decrement) (λ x. z_of (of decrement x)) on
+      | Decfsz f d ↦ byte_row_by c inputs pc f d (of decrement) no_flags (λ x. skipping pc is_zero (of decrement x))
+      | Incf f d ↦ byte_row_by c inputs pc f d (of increment) (λ x. z_of (of increment x)) on
+      | Incfsz f d ↦ byte_row_by c inputs pc f d (of increment) no_flags (λ x. skipping pc is_zero (of increment x))
+      | Iorwf f d ↦ byte_row_by c inputs pc f d (with_part AtW bit_or) (λ x. z_of (with_part AtW bit_or x)) on
+      | Movf f d ↦ byte_row_by c inputs pc f d (λ x. x) z_of on
+      | Movwf f ↦ write_row_by c pc f (part AtW) []
       | Nop ↦ plain_row (step ∷ [])
-      | Rlf f d ↦ byte_row inputs pc f d (with_part AtC (λ c x. (2 * x + c) % 256)) (λ x. to AtC (of (λ y. y / 128 % 2) x) ∷ []) on
-      | Rrf f d ↦ byte_row inputs pc f d (with_part AtC (λ c x. 128 * c + x / 2)) (λ x. to AtC (of (λ y. y % 2) x) ∷ []) on
-      | Subwf f d ↦ byte_row inputs pc f d (with_part AtW difference) difference_flags on
-      | Swapf f d ↦ byte_row inputs pc f d (of swap) no_flags on
-      | Xorwf f d ↦ byte_row inputs pc f d (with_part AtW bit_xor) (λ x. z_of (with_part AtW bit_xor x)) on
-      | Bcf f b ↦ bit_row inputs pc f (clear_bit b)
-      | Bsf f b ↦ bit_row inputs pc f (set_bit b)
-      | Btfsc f b ↦ test_row inputs pc f b 0
-      | Btfss f b ↦ test_row inputs pc f b 1
+      | Rlf f d ↦ byte_row_by c inputs pc f d (with_part AtC (λ c x. (2 * x + c) % 256)) (λ x. to AtC (of (λ y. y / 128 % 2) x) ∷ []) on
+      | Rrf f d ↦ byte_row_by c inputs pc f d (with_part AtC (λ c x. 128 * c + x / 2)) (λ x. to AtC (of (λ y. y % 2) x) ∷ []) on
+      | Subwf f d ↦ byte_row_by c inputs pc f d (with_part AtW difference) difference_flags on
+      | Swapf f d ↦ byte_row_by c inputs pc f d (of swap) no_flags on
+      | Xorwf f d ↦ byte_row_by c inputs pc f d (with_part AtW bit_xor) (λ x. z_of (with_part AtW bit_xor x)) on
+      | Bcf f b ↦ bit_row_by c inputs pc f (clear_bit b)
+      | Bsf f b ↦ bit_row_by c inputs pc f (set_bit b)
+      | Btfsc f b ↦ test_row_by c inputs pc f b 0
+      | Btfss f b ↦ test_row_by c inputs pc f b 1
       | Addlw k ↦ plain_row (step ∷ to AtW (of (λ w. sum w k) (part AtW)) ∷ sum_flags (number k))
       | Andlw k ↦ plain_row (step ∷ to AtW (of (bit_and k) (part AtW)) ∷ z_of (of (bit_and k) (part AtW)))
       | Call k ↦ plain_row (to AtPc (page k) ∷ push (following pc))
@@ -231,6 +245,31 @@ row inputs pc i =
       | Xorlw k ↦ plain_row (step ∷ to AtW (of (bit_xor k) (part AtW)) ∷ z_of (of (bit_xor k) (part AtW)))
     ]
 
+-- ---- the PIC16F877A
+abbrev pub big : Rule
+big = record { find = operand; bytes = 368; lowest = address_of; is_register = is_register; is_stored = is_stored }
+
+abbrev pub note : Bool → Place → Derived → List Note
+note = note_by address_of
+
+abbrev pub write_note : Bool → Place → Derived → List Note
+write_note = write_note_by address_of
+
+abbrev pub byte_row : List ℕ → ℕ → ℕ → Bool → (Derived → Derived) → (Derived → List Write) → (Derived → Derived) → Act
+byte_row = byte_row_by big
+
+abbrev pub write_row : ℕ → ℕ → Derived → List Write → Act
+write_row = write_row_by big
+
+abbrev pub bit_row : List ℕ → ℕ → ℕ → (ℕ → ℕ) → Act
+bit_row = bit_row_by big
+
+abbrev pub test_row : List ℕ → ℕ → ℕ → ℕ → ℕ → Act
+test_row = test_row_by big
+
+abbrev pub row : List ℕ → ℕ → Ins → Act
+row = row_by big
+
 -- The model goes no further at SLEEP or at a word that no row has: there an instruction changes nothing.
 abbrev pub is_modelled : Option Ins → Bool
 is_modelled None = false
@@ -241,9 +280,12 @@ abbrev pub is_return_from_interrupt : Option Ins → Bool
 is_return_from_interrupt (Some Retfie) = true
 is_return_from_interrupt _ = false
 
+abbrev pub act_by : Rule → List ℕ → ℕ → Option Ins → Act
+act_by c inputs pc None = plain_row []
+act_by c inputs pc (Some i) = row_by c inputs pc i
+
 abbrev pub act_of : List ℕ → ℕ → Option Ins → Act
-act_of inputs pc None = plain_row []
-act_of inputs pc (Some i) = row inputs pc i
+act_of = act_by big
 
 -- the word that the program counter names
 abbrev pub fetched : List ℕ → State → Option Ins

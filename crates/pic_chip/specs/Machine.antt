@@ -2,10 +2,8 @@
 use Rattle.std.specs.Prelude.{ℕ, ◌≡◌, slice_index, ◌≤◌, ◌+◌, ◌^◌, Bool, not, ◌&&◌, if◌then◌else◌, List, [], ◌∷◌, Option, Some, None, ℤ, pos, ◌-ℤ◌}
 use Rattle.pic_chip.specs.State.{State}
 use Rattle.pic_chip.specs.Act.{Made}
-use Rattle.pic_world.specs.Registers.{is_register}
-use Rattle.pic_world.specs.Control.{is_stored}
 use Rattle.pic_world.specs.Bits.{bit}
-use Rattle.pic_chip.specs.Instructions.{fetched, is_modelled}
+use Rattle.pic_chip.specs.Instructions.{Rule, big, fetched, is_modelled}
 
 -- the state, and the index of the next instruction, counted from 0 at reset
 pub record Machine : Type 0 where
@@ -28,14 +26,21 @@ stop_at image s = if is_modelled (fetched image s) then None else Some s.pc
 abbrev pub index_after : List ℕ → State → ℕ → ℕ
 index_after image s index = if is_modelled (fetched image s) then index + 1 else index
 
--- a read of a device register other than INTCON, PIR1 and PIE1
-abbrev pub takes_input : Made → Bool
-takes_input a = not a.write && is_register a.address && not (is_stored a.address)
+-- a read of a device register that doesn't keep what is written to it
+abbrev pub takes_input_by : Rule → Made → Bool
+takes_input_by c a = not a.write && c.is_register a.address && not (c.is_stored a.address)
 
 -- the register that is read from the input list
+abbrev pub wanted_by : Rule → List Made → Option ℕ
+wanted_by c [] = None
+wanted_by c (a ∷ rest) = if takes_input_by c a then Some a.address else wanted_by c rest
+
+-- on the PIC16F877A: one other than INTCON, PIR1 and PIE1
+abbrev pub takes_input : Made → Bool
+takes_input = takes_input_by big
+
 abbrev pub wanted : List Made → Option ℕ
-wanted [] = None
-wanted (a ∷ rest) = if takes_input a then Some a.address else wanted rest
+wanted = wanted_by big
 
 -- where a register is wanted, the input list has this byte at the place of the next one
 abbrev pub Feeds : List ℕ → ℕ → ℕ → Option ℕ → Type 0

@@ -1,9 +1,9 @@
 -- The program's own data as the definitions have it.
-use Rattle.std.specs.Prelude.{ℕ, ◌≡◌, ◌<◌, Bool, true, false, List, [], ◌∷◌, Option, Some, None}
+use Rattle.std.specs.Prelude.{ℕ, ◌≡◌, ◌<◌, true, false, List, [], ◌∷◌, Option, Some, None}
 use Rattle.pic_chip.specs.declared.place.Place.{Place as Named}
 use Rattle.pic_chip.specs.declared.place.Place.TheVariants.{PclReg, StatusReg, FsrReg, PclathReg, IntconReg, Pir1Reg, Pie1Reg, GeneralByte, DeviceReg, Nowhere}
-use Rattle.pic_world.specs.Registers.{is_register}
-use Rattle.pic_world.specs.Control.{is_stored}
+use Rattle.pic_chip.specs.declared.profile.Profile.{Profile}
+use Rattle.pic_chip.specs.Profiles.{rule_of}
 use Rattle.pic_chip.specs.Address.{Place, Pcl, Status, Fsr, Pclath, Intcon, Pir1, Pie1, General, Device, Nothing}
 
 abbrev pub named : Named → Place
@@ -18,12 +18,16 @@ named (GeneralByte k) = General k
 named (DeviceReg address) = Device address
 named Nowhere = Nothing
 
--- a general byte's number fits the memory, and a device register has an address of the table, those of INTCON, PIR1
--- and PIE1 left out
-abbrev pub IsPlace : Place → Type 0
-IsPlace (General k) = k < 368
-IsPlace (Device address) = (is_register address ≡ true) × (is_stored address ≡ false)
-IsPlace _ = Unit {0}
+-- a general byte's number fits the memory, and a device register has an address of the table, of which those that keep what is written are left out
+abbrev pub IsPlace : Profile → Place → Type 0
+IsPlace q (General k) = k < (rule_of q).bytes
+IsPlace q (Device address) = ((rule_of q).is_register address ≡ true) × ((rule_of q).is_stored address ≡ false)
+IsPlace q _ = Unit {0}
+
+-- a general byte's number is one of memory
+abbrev pub IsHeld : Place → Type 0
+IsHeld (General k) = k < 368
+IsHeld _ = Unit {0}
 
 -- by bank, the low seven bits of the device registers other than INTCON, PIR1 and PIE1
 abbrev pub devices : List (List ℕ)

@@ -3,11 +3,13 @@
 ghost use Rattle.std.specs.Prelude.{◌≡◌, ◌++◌, Bool, [], true, false, ℕ, Option};
 ghost use Rattle.pic_chip.specs.State.{State};
 ghost use Rattle.pic_chip.specs.Act.{Derived, value_in, made};
-ghost use Rattle.pic_chip.specs.Instructions.{note, write_note};
+ghost use Rattle.pic_chip.specs.Instructions.{note_by, write_note_by};
 ghost use Rattle.pic_chip.specs.Named.{named, IsPlace};
+ghost use Rattle.pic_chip.specs.Profiles.{rule_of};
 ghost use Rattle.pic_chip.specs.Seen.{made_by, seen};
 
 use crate::place::{Place, general_address};
+use crate::profile::Profile;
 
 /// An access to a file register: the lowest address, below 512, of the register or byte, and the
 /// byte read or written.
@@ -32,9 +34,9 @@ pub enum StepEnd {
     Unmodelled(u16),
 }
 
-fn access_to(place: Place, value: u8) -> Option<Access>
-    requires { IsPlace (named place) }
-    ensures { (write : Bool) (s : State) (v : Derived) → value_in s v ≡ value → made_by write result ≡ made (note write (named place) v) s }
+fn access_to(profile: Profile, place: Place, value: u8) -> Option<Access>
+    requires { IsPlace profile (named place) }
+    ensures { (write : Bool) (s : State) (v : Derived) → value_in s v ≡ value → made_by write result ≡ made (note_by (rule_of profile).lowest write (named place) v) s }
 {
     match place {
         Place::PclReg => Some(Access { address: 2, value }),
@@ -48,7 +50,7 @@ fn access_to(place: Place, value: u8) -> Option<Access>
             value,
         }),
         Place::GeneralByte(k) => Some(Access {
-            address: general_address(k),
+            address: general_address(profile, k),
             value,
         }),
         Place::DeviceReg(address) => Some(Access {
@@ -60,35 +62,39 @@ fn access_to(place: Place, value: u8) -> Option<Access>
 }
 
 /// A read of a byte, and the write of another where the result goes there too.
-pub fn through(place: Place, byte: u8, d: bool, outcome: u8) -> Accesses
-    requires { IsPlace (named place) }
-    ensures { (s : State) (v : Derived) (u : Derived) → value_in s v ≡ byte → value_in s u ≡ outcome → seen result ≡ made (note false (named place) v ++ write_note d (named place) u) s }
+pub fn through(profile: Profile, place: Place, byte: u8, d: bool, outcome: u8) -> Accesses
+    requires { IsPlace profile (named place) }
+    ensures { (s : State) (v : Derived) (u : Derived) → value_in s v ≡ byte → value_in s u ≡ outcome → seen result ≡ made (note_by (rule_of profile).lowest false (named place) v ++ write_note_by (rule_of profile).lowest d (named place) u) s }
 {
     Accesses {
-        read: access_to(place, byte),
-        write: if d { access_to(place, outcome) } else { None },
+        read: access_to(profile, place, byte),
+        write: if d {
+            access_to(profile, place, outcome)
+        } else {
+            None
+        },
     }
 }
 
 /// A read alone.
-pub fn only_read(place: Place, byte: u8) -> Accesses
-    requires { IsPlace (named place) }
-    ensures { (s : State) (v : Derived) → value_in s v ≡ byte → seen result ≡ made (note false (named place) v) s }
+pub fn only_read(profile: Profile, place: Place, byte: u8) -> Accesses
+    requires { IsPlace profile (named place) }
+    ensures { (s : State) (v : Derived) → value_in s v ≡ byte → seen result ≡ made (note_by (rule_of profile).lowest false (named place) v) s }
 {
     Accesses {
-        read: access_to(place, byte),
+        read: access_to(profile, place, byte),
         write: None,
     }
 }
 
 /// A write alone.
-pub fn only_write(place: Place, byte: u8) -> Accesses
-    requires { IsPlace (named place) }
-    ensures { (s : State) (v : Derived) → value_in s v ≡ byte → seen result ≡ made (note true (named place) v) s }
+pub fn only_write(profile: Profile, place: Place, byte: u8) -> Accesses
+    requires { IsPlace profile (named place) }
+    ensures { (s : State) (v : Derived) → value_in s v ≡ byte → seen result ≡ made (note_by (rule_of profile).lowest true (named place) v) s }
 {
     Accesses {
         read: None,
-        write: access_to(place, byte),
+        write: access_to(profile, place, byte),
     }
 }
 

@@ -13,6 +13,7 @@ ghost use Rattle.pic_chip.specs.Seen.{accesses_in, stopped_at};
 use crate::access::StepEnd;
 use crate::place::{Place, place_at};
 use crate::processor::Processor;
+use crate::profile::Profile;
 use crate::rows::{device_read, run};
 use crate::{Image, Start};
 use pic_isa::{Ins, decode};
@@ -72,7 +73,7 @@ impl Chip {
     {
         match decode(image.word(self.processor.pc())) {
             None => None,
-            Some(i) => device_read(&self.processor, i),
+            Some(i) => device_read(Profile::Pic16F877a, &self.processor, i),
         }
     }
 
@@ -92,7 +93,7 @@ impl Chip {
             None => StepEnd::Unmodelled(pc),
             Some(Ins::Sleep) => StepEnd::Unmodelled(pc),
             Some(i) => {
-                let accesses = run(&mut self.processor, i, input);
+                let accesses = run(Profile::Pic16F877a, &mut self.processor, i, input);
                 self.index += 1;
                 StepEnd::Done(accesses)
             }

@@ -12,12 +12,15 @@ pub mod chip;
 pub mod image;
 mod operation;
 mod place;
-mod processor;
-mod rows;
+pub mod processor;
+pub mod profile;
+pub mod rows;
 
 pub use access::{Access, Accesses, StepEnd};
 pub use chip::Chip;
 pub use image::Image;
+pub use processor::Processor;
+pub use profile::Profile;
 
 /// What is unknown after power-on. `flags` is below 8 and has Z, DC and C as bits 2, 1 and 0.
 /// The bytes of `ram` are the 368 general bytes in order of address.

@@ -2,8 +2,13 @@
 
 ghost use Rattle.std.specs.Prelude.{◌≡◌, ◌<◌, ◌*◌, ◌+◌, ℕ, [], slice_index_or, nat_eq, nat_lt, ◌&&◌, false, if◌then◌else◌};
 ghost use Rattle.pic_world.specs.Registers.{is_among, is_register, lowest};
-ghost use Rattle.pic_chip.specs.Address.{Device, Nothing, place as place_of, indirect as indirect_of, address_of};
-ghost use Rattle.pic_chip.specs.Named.{named, IsPlace, device_in, devices};
+ghost use Rattle.pic_chip.specs.Address.{Device, Nothing, place as place_of, indirect as indirect_of};
+ghost use Rattle.pic_chip.specs.Named.{named, IsPlace, IsHeld, device_in, devices};
+ghost use Rattle.pic_chip.specs.Profiles.{rule_of};
+ghost use Rattle.pic_chip.specs.SmallAddress.{small_place, small_indirect};
+ghost use Rattle.pic_chip.specs.declared.profile.Profile.TheVariants.{Pic16F877a, Pic16F84a};
+
+use crate::profile::Profile;
 
 /// A place that an instruction reads or writes.
 #[derive(Clone, Copy)]
@@ -22,12 +27,13 @@ pub enum Place {
     Nowhere,
 }
 
-/// The place of a bank and the low seven bits of an address.
+/// The place of a bank and the low seven bits of an address of the PIC16F877A.
 pub fn place_at(bank: u8, low: u8) -> Place
     requires bank { bank < 4 }
     requires low { low < 128 }
     ensures value { named result ≡ place_of bank low }
-    ensures fits { IsPlace (named result) }
+    ensures fits { IsPlace Pic16F877a (named result) }
+    ensures held { IsHeld (named result) }
 {
     if low == 2 {
         Place::PclReg
@@ -61,7 +67,8 @@ fn device_at(bank: u8, low: u8) -> Place
     requires other { nat_eq low 11 ≡ false }
     requires peripheral { (nat_eq low 12 && nat_lt bank 2) ≡ false }
     ensures value { named result ≡ (if is_register (0x80 * bank + low) then Device (lowest (0x80 * bank + low)) else Nothing) }
-    ensures fits { IsPlace (named result) }
+    ensures fits { IsPlace Pic16F877a (named result) }
+    ensures held { IsHeld (named result) }
 {
     if is_device(bank, low) {
         Place::DeviceReg(0x80 * (bank % 2) + low)
@@ -114,16 +121,57 @@ fn is_device(bank: u8, low: u8) -> bool
     }
 }
 
-/// The place that INDF reaches at an address below 512.
+/// The place that INDF of the PIC16F877A reaches at an address below 512.
 pub fn indirect(address: u16) -> Place
     requires { address < 512 }
     ensures value { named result ≡ indirect_of address }
-    ensures fits { IsPlace (named result) }
+    ensures fits { IsPlace Pic16F877a (named result) }
+    ensures held { IsHeld (named result) }
 {
     if address % 128 == 0 {
         Place::Nowhere
     } else {
         place_at((address / 128) as u8, (address % 128) as u8)
+    }
+}
+
+/// The place of a bank and the low seven bits of an address of the PIC16F84A.
+pub fn small_place_at(bank: u8, low: u8) -> Place
+    requires bank { bank < 2 }
+    requires low { low < 128 }
+    ensures value { named result ≡ small_place bank low }
+    ensures fits { IsPlace Pic16F84a (named result) }
+    ensures held { IsHeld (named result) }
+{
+    if low == 2 {
+        Place::PclReg
+    } else if low == 3 {
+        Place::StatusReg
+    } else if low == 4 {
+        Place::FsrReg
+    } else if low == 10 {
+        Place::PclathReg
+    } else if low == 11 {
+        Place::IntconReg
+    } else if low >= 0x0c && low <= 0x4f {
+        Place::GeneralByte(low as u16 - 0x0c)
+    } else if low == 5 || low == 6 || low == 1 {
+        Place::DeviceReg(0x80 * bank + low)
+    } else {
+        Place::Nowhere
+    }
+}
+
+/// The place that INDF of the PIC16F84A reaches.
+pub fn small_indirect_at(fsr: u8) -> Place
+    ensures value { named result ≡ small_indirect fsr }
+    ensures fits { IsPlace Pic16F84a (named result) }
+    ensures held { IsHeld (named result) }
+{
+    if fsr % 128 == 0 {
+        Place::Nowhere
+    } else {
+        small_place_at(fsr / 128, fsr % 128)
     }
 }
 
@@ -146,18 +194,16 @@ pub fn device_of(place: Place) -> Option<u8>
 }
 
 /// The lowest address of a general byte.
-pub fn general_address(number: u16) -> u16
-    requires { number < 368 }
-    ensures value { result ≡ address_of number }
+pub fn general_address(profile: Profile, number: u16) -> u16
+    requires { number < (rule_of profile).bytes }
+    ensures value { result ≡ (rule_of profile).lowest number }
     ensures small { result < 512 }
 {
-    if number < 96 {
-        number + 0x20
-    } else if number < 176 {
-        number + 0x40
-    } else if number < 272 {
-        number + 0x60
-    } else {
-        number + 0x80
+    match profile {
+        Profile::Pic16F84a => number + 0x0c,
+        Profile::Pic16F877a if number < 96 => number + 0x20,
+        Profile::Pic16F877a if number < 176 => number + 0x40,
+        Profile::Pic16F877a if number < 272 => number + 0x60,
+        Profile::Pic16F877a => number + 0x80,
     }
 }

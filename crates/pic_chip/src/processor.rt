@@ -9,13 +9,17 @@ ghost use Rattle.pic_world.specs.Bits.{bit as bit_at, set_bit as with_bit, clear
 ghost use Rattle.pic_chip.specs.Instructions.{contents as contents_of, to, of, part, number, page, following, plain_row, push as push_of, pop as pop_of};
 ghost use Rattle.pic_world.specs.Control.{is_due as due};
 ghost use Rattle.pic_chip.specs.Interrupts.{raise as raise_of, control_of, enter as enter_of};
-ghost use Rattle.pic_chip.specs.Named.{named, IsPlace, device_in};
+ghost use Rattle.pic_chip.specs.Named.{named, IsPlace, IsHeld, device_in};
+ghost use Rattle.pic_chip.specs.Profiles.{rule_of};
+ghost use Rattle.pic_chip.specs.SmallAddress.{small_operand as small_operand_of};
+ghost use Rattle.pic_chip.specs.declared.profile.Profile.TheVariants.{Pic16F877a, Pic16F84a};
 ghost use Rattle.pic_chip.specs.Machine.{Feeds};
 ghost use Rattle.pic_chip.specs.Changes.{Grows, stored, after_reading, flagged, finished, row_done, pushed, popped};
 
 use crate::Start;
 use crate::bits::{bit, clear_bit, number_of, set_bit};
-use crate::place::{Place, indirect, place_at};
+use crate::place::{Place, indirect, place_at, small_indirect_at, small_place_at};
+use crate::profile::Profile;
 use std::marker::Model;
 
 /// The flags that an instruction sets.
@@ -93,11 +97,12 @@ impl Processor {
         }
     }
 
-    /// The place of a direct operand.
-    pub fn operand(&self, f: u8) -> Place
+    // The place of a direct operand of the PIC16F877A.
+    fn big_operand(&self, f: u8) -> Place
         requires { f < 128 }
         ensures leads { (next : AnyPlace → Act) → effect (operand_of f next) self.now ≡ effect (next (named result)) self.now }
-        ensures fits { IsPlace (named result) }
+        ensures fits { IsPlace Pic16F877a (named result) }
+        ensures held { IsHeld (named result) }
     {
         let bank = self.bank;
         if f == 2 || f == 3 || f == 4 || f == 10 || f == 11 || f >= 0x70 {
@@ -109,9 +114,36 @@ impl Processor {
         }
     }
 
+    // The place of a direct operand of the PIC16F84A.
+    fn small_operand(&self, f: u8) -> Place
+        requires { f < 128 }
+        ensures leads { (next : AnyPlace → Act) → effect (small_operand_of f next) self.now ≡ effect (next (named result)) self.now }
+        ensures fits { IsPlace Pic16F84a (named result) }
+        ensures held { IsHeld (named result) }
+    {
+        if f == 0 {
+            small_indirect_at(self.fsr)
+        } else {
+            small_place_at(self.bank % 2, f)
+        }
+    }
+
+    /// The place of a direct operand.
+    pub fn operand(&self, profile: Profile, f: u8) -> Place
+        requires { f < 128 }
+        ensures leads { (next : AnyPlace → Act) → effect ((rule_of profile).find f next) self.now ≡ effect (next (named result)) self.now }
+        ensures fits { IsPlace profile (named result) }
+        ensures held { IsHeld (named result) }
+    {
+        match profile {
+            Profile::Pic16F877a => self.big_operand(f),
+            Profile::Pic16F84a => self.small_operand(f),
+        }
+    }
+
     /// What a place holds, where this is the next input byte.
     pub fn contents(&self, place: Place, input: u8) -> u8
-        requires { IsPlace (named place) }
+        requires { IsHeld (named place) }
         ensures { (inputs : List ℕ) → Feeds inputs self.now.taken input (device_in (named place)) → result ≡ value_in self.now (contents_of inputs self.now.pc (named place)) }
     {
         match place {
@@ -134,7 +166,7 @@ impl Processor {
 
     // Writes a place; `plain` says that the instruction sets no flag by its own logic.
     fn store(&mut self, plain: bool, place: Place, value: u8)
-        requires { IsPlace (named place) }
+        requires { IsHeld (named place) }
         ensures { self.new ≡ stored plain (named place) value self.old }
     {
         match place {
@@ -245,7 +277,7 @@ impl Processor {
     /// Ends an instruction that reads a place: its result goes there or to W.
     pub fn finish(&mut self, next: u16, place: Place, d: bool, value: u8, flags: Flags)
         requires next { next < 8192 }
-        requires place { IsPlace (named place) }
+        requires place { IsHeld (named place) }
         requires taken { self.old.taken < 2 ^ 40 }
         ensures state { self.new ≡ row_done next (named place) d value flags self.old }
         ensures grows { Grows self.old self.new }
@@ -274,7 +306,7 @@ impl Processor {
     /// Ends an instruction that writes a place and doesn't read it.
     pub fn finish_write(&mut self, next: u16, place: Place, value: u8, flags: Flags)
         requires next { next < 8192 }
-        requires place { IsPlace (named place) }
+        requires place { IsHeld (named place) }
         ensures state { self.new ≡ finished (named place) true value flags (record self.old { pc = next }) }
         ensures grows { Grows self.old self.new }
     {

@@ -23,3 +23,22 @@ pub returns-in-Xorlw-clause-state : goal.returns-in-Xorlw-clause-state
 returns-in-Xorlw-clause-state c = λ inputs e.
     let s = c.args.processor.now in
     rw c.in-Xorlw.is (c.literal-in-Xorlw.ensures.state ∙ ap (to_w s) (xor_comm s.w c.in-Xorlw.k))
+
+-- ---- rows that set no flag
+pub returns-in-Decfsz-clause-state : goal.returns-in-Decfsz-clause-state
+returns-in-Decfsz-clause-state c = rw c.in-Decfsz.is c.operate-in-Decfsz.ensures.state
+
+pub returns-in-Decfsz-clause-accesses : goal.returns-in-Decfsz-clause-accesses
+returns-in-Decfsz-clause-accesses c = rw c.in-Decfsz.is c.operate-in-Decfsz.ensures.accesses
+
+pub returns-in-Incfsz-clause-state : goal.returns-in-Incfsz-clause-state
+returns-in-Incfsz-clause-state c = rw c.in-Incfsz.is c.operate-in-Incfsz.ensures.state
+
+pub returns-in-Incfsz-clause-accesses : goal.returns-in-Incfsz-clause-accesses
+returns-in-Incfsz-clause-accesses c = rw c.in-Incfsz.is c.operate-in-Incfsz.ensures.accesses
+
+pub returns-in-Swapf-clause-state : goal.returns-in-Swapf-clause-state
+returns-in-Swapf-clause-state c = rw c.in-Swapf.is c.operate-in-Swapf.ensures.state
+
+pub returns-in-Swapf-clause-accesses : goal.returns-in-Swapf-clause-accesses
+returns-in-Swapf-clause-accesses c = rw c.in-Swapf.is c.operate-in-Swapf.ensures.accesses
