@@ -60,7 +60,7 @@ class Run:
 
     def __init__(self, built, start, inputs, pairs, last):
         self.built, self.last, self.inputs, self.arrivals, self.sources = built, last, inputs, arrivals_of(pairs), {}
-        setting_of = definition(HEAD + 'Headline', 'setting_of')
+        setting_of = definition(HEAD + 'OnChip', 'setting_of')
         self.setting = setting_of(built.content, built.image, start, inputs, self.arrivals)
         self.moments, self.masks = self.run()
         self.traces = Function(1, lambda n: self.moments[n].trace)

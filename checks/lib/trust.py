@@ -5,7 +5,7 @@ import sys
 
 from chain import chain, lines_of
 
-HEADLINE = ['headline/Headline', 'hex_image/HexFile', 'hex_image/HexText', 'pic_map/MapFile', 'pic_map/MapText']
+HEADLINE = ['headline/OnChip', 'hex_image/HexFile', 'hex_image/HexText', 'pic_map/MapFile', 'pic_map/MapText']
 TOTALS = {
     'In all': HEADLINE,
     'contract': ['picc_cli/Command', 'picc_cli/CommandView', 'picc_cli/Finished', 'picc_cli/Simulation', 'picc_cli/Traced', 'host_io/Host'],

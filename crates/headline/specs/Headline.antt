@@ -1,22 +1,19 @@
--- The headline: what an image does on the chip is a run of the source program that calls the handler whole.
+-- The headline: what an image does on a chip is a run of the source program that calls the handler whole.
 use Rattle.std.specs.Prelude.{ℕ, ◌+◌, ◌-◌, ◌*◌, ◌≡◌, ◌≢◌, ◌<◌, ◌≤◌, Bool, true, false, ◌&&◌, nat_eq, if◌then◌else◌, List, [], ◌∷◌, length, slice_index, slice_index_or, slice_get, Some, Contains}
 use Rattle.pic_world.specs.declared.Arrival.{Arrival}
 use Rattle.pic_world.specs.declared.Root.{Root}
 use Rattle.pic_world.specs.declared.Root.TheVariants.{Main, Isr}
-use Rattle.pic_chip.specs.declared.Start.{Start}
 use Rattle.pic_world.specs.declared.Cell.TheVariants as cells
 use Rattle.pic_world.specs.declared.Event.{Event}
 use Rattle.pic_world.specs.declared.Event.TheVariants as events
-use Rattle.pic_chip.specs.Address.{byte_at}
 use Rattle.pic_chip.specs.Instructions.{is_modelled}
 use Rattle.pic_isa.specs.Lookup.{row_of}
-use Rattle.pic_world.specs.Arrivals.{arriving}
-use Rattle.pic_chip.specs.Run.{IsStart, Setting, moment, is_handling}
 use Rattle.pic_world.specs.World.{Outside, outside_of}
-use Rattle.pic_map.specs.MapContent.{ObjectLine, FrameLine, MapContent, watch_of}
+use Rattle.pic_map.specs.MapContent.{ObjectLine, FrameLine, MapContent}
 use Rattle.live_frames.specs.Memory.{AreDisjoint}
 use Rattle.run_links.specs.Runs.{IsFrontOf}
 use Rattle.schedule.specs.Off.{read_off}
+use Rattle.headline.specs.Chips.{ChipRun, Chip}
 
 -- ---- the source
 -- A run of the source under one schedule, over one input list, by micro-steps; some of them count as steps of the language,
@@ -81,51 +78,44 @@ is_guarded false Main = false
 is_guarded false Isr = true
 
 -- ---- one run of the chip
-module _ (source : Source) (content : MapContent) (g : Setting) where
-  abbrev pub trace_at : ℕ → List Event
-  trace_at n = (moment g n).trace
-
+module _ (source : Source) (content : MapContent) (inputs : List ℕ) (arrivals : List Arrival) (r : ChipRun) where
   -- the source run whose handler is called where the arrivals up to moment n, in any order, fall in the chip's trace
   abbrev pub run_at : ℕ → SourceRun
-  run_at n = source.run (outside_of g.inputs (read_off trace_at n g.arrivals))
+  run_at n = source.run (outside_of inputs (read_off r.trace n arrivals))
 
   -- No step that counts is undefined: one that is among the first (m + 1) * nodes, and begins while the source's trace is
   -- no longer than the chip's.
   abbrev pub IsClean : ℕ → Type 0
   IsClean n =
-      (m i : ℕ) → m ≤ n → (run_at m).steps i < (m + 1) * source.nodes → length ((run_at m).trace i) ≤ length (trace_at m) → (run_at m).is_defined i ≡ true
+      (m i : ℕ) → m ≤ n → (run_at m).steps i < (m + 1) * source.nodes → length ((run_at m).trace i) ≤ length (r.trace m) → (run_at m).is_defined i ≡ true
 
   pub record Follows : Type 0 where
     -- the chip's trace is a prefix of the source's
-    pub prefix : (n : ℕ) → IsClean n → (k : ℕ) × IsFrontOf (trace_at n) ((run_at n).trace k)
+    pub prefix : (n : ℕ) → IsClean n → (k : ℕ) × IsFrontOf (r.trace n) ((run_at n).trace k)
     -- 8,192 (m + 1) instructions without an arrival make the events of the source's next m steps
-    pub pace : (n t m : ℕ) → IsClean n → t ≤ n → IsQuiet g.arrivals t n → 8192 * (m + 1) ≤ n - t
-        → HasNext (run_at n) (length (trace_at t)) m (trace_at n)
+    pub pace : (n t m : ℕ) → IsClean n → t ≤ n → IsQuiet arrivals t n → 8192 * (m + 1) ≤ n - t
+        → HasNext (run_at n) (length (r.trace t)) m (r.trace n)
     -- each byte of a static object that isn't const holds its initial value or the last one written
-    pub end_state : (n i k : ℕ) (line : ObjectLine) → IsClean n → (moment g n).met ≡ true
+    pub end_state : (n i k : ℕ) (line : ObjectLine) → IsClean n → r.met n ≡ true
         → slice_get content.objects i ≡ Some line → line.constant ≡ false → k < line.size
-        → byte_at (moment g n).state (line.address + k) ≡ last_written i k (slice_index (slice_index_or source.initial i []) k) (trace_at n)
+        → r.byte n (line.address + k) ≡ last_written i k (slice_index (slice_index_or source.initial i []) k) (r.trace n)
     -- the return stack never runs over nor under
-    pub no_underflow : (n k : ℕ) → IsClean n → k ≤ n → (moment g k).state.pops ≤ (moment g k).state.pushes
-    pub no_overflow : (n k : ℕ) → IsClean n → k ≤ n → (moment g k).state.pushes ≤ (moment g k).state.pops + 8
+    pub no_underflow : (n k : ℕ) → IsClean n → k ≤ n → r.pops k ≤ r.pushes k
+    pub no_overflow : (n k : ℕ) → IsClean n → k ≤ n → r.pushes k ≤ r.pops k + 8
     -- the handler changes no byte of a frame of main's, and main none of the handler's
-    pub frames : (n k b : ℕ) (line : FrameLine) → IsClean n → k < n → (moment g k).met ≡ true
+    pub frames : (n k b : ℕ) (line : FrameLine) → IsClean n → k < n → r.met k ≡ true
         → Contains content.frames line → b < line.size
-        → is_guarded (is_handling (arriving g.arrivals k) (moment g k)) line.root ≡ true
-        → byte_at (moment g (k + 1)).state (line.address + b) ≡ byte_at (moment g k).state (line.address + b)
+        → is_guarded (r.handling k) line.root ≡ true
+        → r.byte (k + 1) (line.address + b) ≡ r.byte k (line.address + b)
     -- main is met within 4,096 instructions, and no device register is accessed before
-    pub start_up : (moment g 4096).met ≡ true
-    pub no_early_access : (n : ℕ) → (moment g n).early ≡ []
+    pub start_up : r.met 4096 ≡ true
+    pub no_early_access : (n : ℕ) → r.early n ≡ []
 
 -- ---- all runs
 -- from anything that power-on leaves, over any input list and any arrivals
-abbrev pub setting_of : MapContent → List ℕ → Start → List ℕ → List Arrival → Setting
-setting_of content image start inputs arrivals =
-    record { image = image; watch = watch_of content; start = start; inputs = inputs; arrivals = arrivals }
-
-pub record IsFaithful (source : Source) (content : MapContent) (image : List ℕ) : Type 0 where
+pub record IsFaithfulOn (chip : Chip) (source : Source) (content : MapContent) (image : List ℕ) : Type 0 where
   -- every word is one of an instruction that the model has
-  pub words : (at : ℕ) → at < 8192 → is_modelled (row_of (slice_index image at)) ≡ true
+  pub words : (at : ℕ) → at < chip.words → is_modelled (row_of (slice_index image at)) ≡ true
   -- the map has exactly the program's objects and copies, where they are to stand
   pub mapped : source.IsMapped content.objects content.frames
   pub main : content.main < 0x2000
@@ -135,5 +125,5 @@ pub record IsFaithful (source : Source) (content : MapContent) (image : List ℕ
       → source.live_together i j → AreDisjoint x.address x.size y.address y.size
   pub clear_of_objects : (x : FrameLine) (y : ObjectLine) → Contains content.frames x → Contains content.objects y
       → AreDisjoint x.address x.size y.address y.size
-  pub runs : (start : Start) (inputs : List ℕ) (arrivals : List Arrival) → IsStart start → ((k : ℕ) → slice_index inputs k < 256)
-      → Follows source content (setting_of content image start inputs arrivals)
+  pub runs : (start : chip.Start) (inputs : List ℕ) (arrivals : List Arrival) → chip.IsStart start → ((k : ℕ) → slice_index inputs k < 256)
+      → Follows source content inputs arrivals (chip.run content image start inputs arrivals)

@@ -1,2 +1,4 @@
+pub mod Chips
 pub mod Headline
+pub mod OnChip
 pub mod SourceOf

@@ -17,7 +17,8 @@ use Rattle.src_rules.specs.Step.{step}
 use Rattle.src_values.specs.Memory.{Setting, first_memory}
 use Rattle.src_memory.specs.Shown.{address_of, shown, shown_byte}
 use Rattle.src_values.specs.declared.objects.Object.TheVariants.{Fixed}
-use Rattle.headline.specs.Headline.{Source, SourceRun, IsFaithful}
+use Rattle.headline.specs.Headline.{Source, SourceRun}
+use Rattle.headline.specs.OnChip.{IsFaithful}
 
 -- ---- runs
 abbrev pub setting_of : Program → Outside → Setting

@@ -26,7 +26,8 @@ use Rattle.sym_code.specs.declared.code.BlockName.TheVariants.{Copy}
 use Rattle.sym_code.specs.declared.code.Sym.{Sym}
 use Rattle.select_trace.proofs.Placed.{slot, stands_in, watched, frames_own}
 use Rattle.chip_trace.specs.Arriving.{IsStarted, IsMet, Arrives, one_each, is_kept, keeps_out, outside_at}
-use Rattle.headline.specs.Headline.{Source, IsClean, last_written, is_guarded}
+use Rattle.headline.specs.Headline.{Source, last_written, is_guarded}
+use Rattle.headline.specs.OnChip.{IsClean}
 use Rattle.headline_trace.specs.Carried.{IsLed, IsSeen, IsTold, frame_of}
 use Rattle.headline_trace.proofs.Joining.{met, running}
 use Rattle.headline_trace.proofs.Watched.{watched_bytes}

@@ -17,7 +17,8 @@ use Rattle.sym_code.specs.Machine.{Entry, sym_start, sym_run}
 use Rattle.sym_code.specs.Registers.{Registers}
 use Rattle.sym_code.specs.Runs.{run_of}
 use Rattle.chip_trace.specs.Arriving.{IsStarted, IsRunning, IsMet, Arrives, one_each, outside_at, early}
-use Rattle.headline.specs.Headline.{Source, SourceRun, IsClean, HasNext, IsQuiet}
+use Rattle.headline.specs.Headline.{Source, SourceRun, HasNext, IsQuiet}
+use Rattle.headline.specs.OnChip.{IsClean}
 use Rattle.headline_trace.specs.Carried.{IsSteady, IsLed, IsSeen}
 use Rattle.headline_trace.proofs.Events.{Longer, is_run, next_longer, front_length}
 use Rattle.headline_trace.proofs.Following.{IsFirst, first_of, map_front, shorter_front, HasFront, has_front, step_by, steps_first, goes_or_halts}

@@ -42,7 +42,8 @@ use Rattle.bank_trace.proofs.Chosen.{flows_keep}
 use Rattle.chip_trace.specs.Arriving.{IsStarted, Arrives, one_each}
 use Rattle.chip_trace.proofs.Final.{arriving}
 use Rattle.chip_trace.proofs.StartFinal.{starting}
-use Rattle.headline.specs.Headline.{Source, Follows, setting_of}
+use Rattle.headline.specs.Headline.{Source}
+use Rattle.headline.specs.OnChip.{Follows, setting_of}
 use Rattle.headline.specs.SourceOf as sources
 use Rattle.headline.specs.SourceOf.{source_of}
 use Rattle.headline_trace.specs.Carried.{IsLed, IsSeen, IsTold}

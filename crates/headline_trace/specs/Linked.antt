@@ -44,7 +44,7 @@ use Rattle.narrow_code.specs.Links.{reaches_lent}
 use Rattle.flow_facts.specs.Links.{HasFlow}
 use Rattle.chip_trace.specs.Arriving.{IsAssembled}
 use Rattle.chip_trace.specs.Starting.{IsBeginning, held_in}
-use Rattle.headline.specs.Headline.{Follows, setting_of}
+use Rattle.headline.specs.OnChip.{Follows, setting_of}
 use Rattle.headline.specs.SourceOf.{source_of}
 use Rattle.headline_trace.specs.Carried.{frame_of}
 

@@ -13,7 +13,7 @@ use Rattle.pic_world.specs.declared.Arrival.{Arrival}
 use Rattle.program_code.specs.Translated.{IsTranslation, IsTranslated}
 use Rattle.sym_code.specs.declared.code.SymBlock.{SymBlock}
 use Rattle.lower_trace.specs.Lowering.{IsLowerable}
-use Rattle.headline.specs.Headline.{Follows, setting_of}
+use Rattle.headline.specs.OnChip.{Follows, setting_of}
 use Rattle.headline.specs.SourceOf.{source_of}
 use Rattle.headline_trace.specs.Linked.{IsLinked}
 use Rattle.headline_trace.specs.Selection.{reaches_in, limit_of}

@@ -5,7 +5,7 @@ use Rattle.c_typed.specs.Roots.{broken_root}
 use Rattle.c_typed.specs.Trees.{Program}
 use Rattle.call_graph.specs.Levels.{IsAcyclic}
 use Rattle.call_graph.specs.declared.types.FnCopy.{FnCopy}
-use Rattle.headline.specs.Headline.{setting_of}
+use Rattle.headline.specs.OnChip.{setting_of}
 use Rattle.headline.specs.SourceOf.{IsFaithfulTo}
 use Rattle.host_io.specs.Host.{Contents}
 use Rattle.pic_chip.specs.Run.{Setting}

@@ -7,7 +7,7 @@ use Rattle.std.specs.List.{All}
 use Rattle.c_typed.specs.TreeNodes.{nodes_of}
 use Rattle.c_typed.specs.Trees.{Program}
 use Rattle.call_graph.specs.declared.types.FnCopy.{FnCopy}
-use Rattle.headline.specs.Headline.{IsClean}
+use Rattle.headline.specs.OnChip.{IsClean}
 use Rattle.headline.specs.SourceOf.{is_undefined, setting_of, source_of}
 use Rattle.pic_chip.specs.Run.{Setting}
 use Rattle.pic_map.specs.MapContent.{MapContent}

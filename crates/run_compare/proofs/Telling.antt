@@ -9,7 +9,7 @@ use Rattle.c_typed.specs.Views.{program_of}
 use Rattle.c_typed.specs.declared.program.Typed.{Typed}
 use Rattle.call_graph.specs.Levels.{IsAcyclic}
 use Rattle.call_graph.specs.declared.types.FnCopy.{FnCopy}
-use Rattle.headline.specs.Headline.{setting_of}
+use Rattle.headline.specs.OnChip.{setting_of}
 use Rattle.headline.specs.SourceOf.{IsFaithfulTo}
 use Rattle.pic_chip.specs.Run.{IsStart, Setting}
 use Rattle.pic_map.specs.MapContent.{MapContent}

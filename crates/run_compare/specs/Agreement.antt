@@ -10,7 +10,8 @@ use Rattle.pic_world.specs.World.{outside_of}
 use Rattle.schedule.specs.Off.{read_off, runs_begun}
 use Rattle.src_rules.specs.Runs.{Fault, after, fault_after, is_idle_after, main_steps_after, runs_after}
 use Rattle.src_values.specs.Memory.{Setting as SourceSetting}
-use Rattle.headline.specs.Headline.{Source, trace_at, run_at, IsClean}
+use Rattle.headline.specs.Headline.{Source}
+use Rattle.headline.specs.OnChip.{trace_at, run_at, IsClean}
 use Rattle.headline.specs.SourceOf.{setting_of, source_of}
 use Rattle.run_compare.specs.declared.comparing.Agreed.{Agreed}
 use Rattle.run_compare.specs.declared.comparing.Agreed.TheVariants.{Same, Undefined}

@@ -15,7 +15,7 @@ use Rattle.run_compare.specs.Looking.{IsRun, Looked, Met, fault_in}
 use Rattle.run_compare.specs.declared.searching.Search.{Search}
 use Rattle.run_compare.specs.declared.source_run.Fault.{Fault}
 use Rattle.run_compare.specs.declared.source_run.SourceRun.{SourceRun}
-use Rattle.headline.specs.Headline.{IsClean}
+use Rattle.headline.specs.OnChip.{IsClean}
 use Rattle.headline.specs.SourceOf.{source_of}
 use Rattle.schedule.specs.Off.{read_off, lengths_before, runs_begun}
 use Rattle.schedule.specs.Watching.{traces}
