@@ -1,7 +1,7 @@
 -- At the lowest address of a register, and at no other, there is a name; and it is below 256.
-use Rattle.std.proofs.Common.{◌≡◌, ℕ, ◌≤◌, Bool, true, false, ◌||◌, Some, None, List, [], ◌∷◌, map, refl, sym, ap, ◌∙◌, arith, nat_eq, nat_lt}
+use Rattle.std.proofs.Common.{◌≡◌, ℕ, ◌≤◌, Bool, true, false, ◌||◌, Option, Some, None, List, [], ◌∷◌, map, refl, sym, ap, ◌∙◌, arith, nat_eq, nat_lt}
 use Rattle.std.proofs.lemmas.Bool.{eqb-true, ltb-true, eq-eqb}
-use Rattle.std.specs.Prelude.{if◌then◌else◌, is_some}
+use Rattle.std.specs.Prelude.{if◌then◌else◌, ◌&&◌, is_some}
 use Rattle.pic_world.specs.Registers.{Register, registers, register_at, name_in, name_at, is_among, is_register, lowest, or_itself}
 
 -- what stands at its own address has a name there, and what has a name there is a register
@@ -47,3 +47,31 @@ high_has_no_name = small_row registers refl
 -- and so no register is above 255 that stands at its own address
 pub high_is_none : (address : ℕ) → 256 ≤ address → lowest address ≡ address → is_register address ≡ false
 high_is_none address h low = sym (named_is_register address low) ∙ ap is_some (high_has_no_name address h)
+
+-- ---- the lowest address of a register is its own lowest
+
+abbrev each_first : (ℕ → Bool) → List Register → Bool
+each_first g [] = true
+each_first g (r ∷ rs) = g r.1 && each_first g rs
+
+both : (a b : Bool) → (a && b) ≡ true → (a ≡ true) × (b ≡ true)
+both true b h = (refl, h)
+both false b h = absurd (cc)
+
+found_first : (g : ℕ → Bool) (rs : List Register) → each_first g rs ≡ true → (address first : ℕ) → register_at rs address ≡ Some first → g first ≡ true
+found_first g [] h address first e = absurd (cc)
+found_first g (r ∷ rs) h address first e = by_test (nat_eq r.1 address || is_among r.2 address) e (found_first g rs (both (g r.1) (each_first g rs) h).1 address first)
+  where
+    some_inj : (x y : ℕ) → Some x ≡ Some y → x ≡ y
+    some_inj x y e = cc
+
+    by_test : (b : Bool) → (if b then Some r.1 else register_at rs address) ≡ Some first → (register_at rs address ≡ Some first → g first ≡ true) → g first ≡ true
+    by_test true e later = ap g (sym (some_inj r.1 first e)) ∙ (both (g r.1) (each_first g rs) h).0
+    by_test false e later = later e
+
+pub lowest_twice : (address : ℕ) → lowest (lowest address) ≡ lowest address
+lowest_twice address = by_case (register_at registers address) refl
+  where
+    by_case : (o : Option ℕ) → register_at registers address ≡ o → lowest (or_itself address o) ≡ or_itself address o
+    by_case None e = ap (or_itself address) e
+    by_case (Some first) e = eqb-true (lowest first) first (found_first (λ first. nat_eq (lowest first) first) registers refl address first e)

@@ -10,14 +10,31 @@ ghost use Rattle.pic_map.specs.MapView.{object_of};
 use crate::ObjLine;
 use pic_world::{Cell, register_name};
 
-/// What an access to this address is about. The address is the lowest of its register.
+/// What an access to this address is about. A register counts at each of its addresses.
+#[tactic(auto, using(crate::proofs::Lowest::lowest_twice))]
 pub fn cell_at(lines: &[ObjLine], address: u16) -> Option<Cell>
     requires { length lines.now ≤ 65536 }
-    ensures { lowest address ≡ address → result ≡ cell_of (map range_of (map object_of lines.now)) address }
+    ensures { result ≡ cell_of (map range_of (map object_of lines.now)) (lowest address) }
 {
+    let address = lowest_address(address);
     match device_at(address) {
         None => object_at(lines, address),
         device => device,
+    }
+}
+
+/// The lowest address of the register that is found at an address (DS39582, register file map); an address that is no
+/// register's is its own.
+fn lowest_address(address: u16) -> u16
+    ensures { result ≡ lowest address }
+{
+    match address {
+        0x101 => 0x01,
+        0x106 => 0x06,
+        0x8b | 0x10b | 0x18b => 0x0b,
+        0x181 => 0x81,
+        0x186 => 0x86,
+        _ => address,
     }
 }
 

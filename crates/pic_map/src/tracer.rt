@@ -56,10 +56,10 @@ impl<'a> Tracer<'a> {
     }
 
     /// The event of an access, a write or a read. `None` comes exactly where main wasn't met yet, or the
-    /// address is no device register and no byte of an object that isn't const. The address is the
-    /// lowest of its register, as in the accesses of a step.
+    /// address is no device register and no byte of an object that isn't const. A register's event has its
+    /// lowest address, at whichever of its addresses it was reached.
     pub fn event(&self, write: bool, a: Access) -> Option<Event>
-        ensures { lowest a.address ≡ a.address → list_of result ≡ shown write a.value a.address (tracing_of self.now) }
+        ensures { list_of result ≡ shown write a.value (lowest a.address) (tracing_of self.now) }
     {
         if !self.met {
             return None;

@@ -47,8 +47,8 @@ none_shown write t = by_test t.met
     by_test true = refl
     by_test false = refl
 
-pub one_shown : (write : Bool) (a : Access) (t : Tracing) (count : ℕ) (event : List Event) → count ≡ length event → event ≡ shown write a.value a.address t → count ≡ length (shown_all (made_by write (Some a)) t)
-one_shown write a t count event e h = e ∙ ap length h ∙ ap length (by_test t.met)
+pub one_shown : (write : Bool) (a : Access) (t : Tracing) (count : ℕ) (event : List Event) → count ≡ length event → event ≡ shown write a.value (lowest a.address) t → AreLowest (made_by write (Some a)) → count ≡ length (shown_all (made_by write (Some a)) t)
+one_shown write a t count event e h low = e ∙ ap length (h ∙ ap (λ address. shown write a.value address t) low.0) ∙ ap length (by_test t.met)
   where
     by_test : (b : Bool) → (if b then event_at write a.value (cell_at t.watch.ranges a.address) else []) ≡ (if b then event_at write a.value (cell_at t.watch.ranges a.address) ++ [] else [])
     by_test true = sym (append-nil _)
