@@ -38,7 +38,7 @@ use Rattle.type_rules.specs.Units as rule
 use Rattle.typed_laws.proofs.Units.{judged_sound}
 use Rattle.typed_laws.specs.Sizes.{size_of}
 use Rattle.typed_laws.proofs.Counts.{size_counts}
-use Rattle.typed_laws.proofs.UnitSizes.{judged_bounded}
+use Rattle.typed_laws.proofs.UnitSizes.{judged_small}
 use Rattle.c_tables.specs.Answers.{Refuses}
 use Rattle.c_tables.specs.Tables.{known_of}
 use Rattle.c_tables.specs.declared.checker.Checker.{Checker}
@@ -261,12 +261,15 @@ pub is_kept : (unit : List ItemTree) (p : Program) (targets : List Qualified) (s
 is_kept unit p targets structures statics functions judged is = ap is_sound is ∙ judged_sound unit p judged
 
 pub is_few : (unit : List ItemTree) (p : Program) (targets : List Qualified) (structures : List Structure) (statics : List Static) (functions : List Function)
-    → rule.judged_unit unit ≡ Ok p → made.program_from targets structures statics functions ≡ p → length (spelled_unit unit) ≤ 262144 → program_size statics functions ≤ 2 ^ 28
-is_few unit p targets structures statics functions judged is few =
+    → rule.judged_unit unit ≡ Ok p → made.program_from targets structures statics functions ≡ p → program_size statics functions ≤ 3 * length (spelled_unit unit)
+is_few unit p targets structures statics functions judged is =
     let size = ap size_of is in
     let counts = size_counts targets structures statics functions in
-    let low = judged_bounded unit p judged few in
+    let low = judged_small unit p judged in
     omega (arith, size, counts, low)
+
+pub is_bounded : (size tokens : ℕ) → size ≤ 3 * tokens → tokens ≤ 262144 → (size ≤ 2 ^ 24) × (size ≤ 2 ^ 28)
+is_bounded size tokens few short = (omega (arith, few, short), omega (arith, few, short))
 
 -- ---- the whole unit
 

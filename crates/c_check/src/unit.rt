@@ -1,9 +1,10 @@
 //! Functions, and the whole unit (ISO/IEC 9899:1990, 6.7).
 
-ghost use Rattle.std.specs.Prelude.{◌≡◌, ◌≤◌, [], ◌∷◌, length, map, Ok, IfOk, IfErr, OnOk};
+ghost use Rattle.std.specs.Prelude.{◌≡◌, ◌≤◌, ◌*◌, ◌^◌, [], ◌∷◌, length, map, Ok, IfOk, IfErr, OnOk};
 ghost use Rattle.c_nodes.specs.ProgramViews.{block_of, unit_of};
 ghost use Rattle.c_nodes.specs.Programs.{spelled_unit};
 ghost use Rattle.c_nodes.specs.Views.{declarator_of, specs_of};
+ghost use Rattle.c_typed.specs.Nodes.{program_size};
 ghost use Rattle.c_typed.specs.Views.{function_of, program_of, statement_of, variable_of};
 ghost use Rattle.type_rules.specs.Declarators.{line_in, name_in};
 ghost use Rattle.type_rules.specs.Faults as faults;
@@ -219,6 +220,7 @@ fn typed(unit: &Unit, checker: Checker, functions: Vec<TypedFunction>) -> Result
     requires judged { rule.judged_unit (unit_of unit.now) ≡ Ok (rule.program_from (known_of checker) (map function_of functions.items)) }
     requires few { length (spelled_unit (unit_of unit.now)) ≤ 262144 }
     ensures ok { IfOk result (λ p. program_of p ≡ rule.program_from (known_of checker) (map function_of functions.items)) }
+    ensures few { IfOk result (λ p. program_size p.statics.items p.functions.items ≤ 3 * length (spelled_unit (unit_of unit.now))) }
     ensures err { IfErr result (λ e. e ≡ NoMemory) }
 {
     let Checker { types, statics, .. } = checker;
@@ -252,7 +254,11 @@ fn begun(alloc: Global, unit: &Unit) -> Result<Checker, CheckError>
 #[tactic(auto, using(crate::proofs::Units::judged, crate::proofs::Units::misjudged))]
 pub fn check(alloc: Global, unit: &Unit) -> Result<Typed, CheckError>
     requires { length (spelled_unit (unit_of unit.now)) ≤ 262144 }
-    ensures { Checks result (rule.judged_unit (unit_of unit.now)) }
+    ensures answer { Checks result (rule.judged_unit (unit_of unit.now)) }
+    // Nodes, static objects, parameters and locals are together at most three times as many as the unit has tokens,
+    ensures few { IfOk result (λ p. program_size p.statics.items p.functions.items ≤ 3 * length (spelled_unit (unit_of unit.now))) }
+    // and so at most 2 to the 24.
+    ensures bounded { IfOk result (λ p. program_size p.statics.items p.functions.items ≤ 2 ^ 24) }
 {
     let mut checker = begun(alloc, unit)?;
     let functions = functions(unit, &mut checker)?;
