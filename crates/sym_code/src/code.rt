@@ -1,6 +1,6 @@
 //! Symbolic instructions, and the blocks and programs that they make.
 
-ghost use Rattle.std.specs.Prelude.{◌≡◌, ◌∷◌, [], ◌++◌, true, OnOk};
+ghost use Rattle.std.specs.Prelude.{◌≡◌, ◌∷◌, [], ◌++◌, true, OnErr, OnOk};
 ghost use Rattle.sym_code.specs.WellFormed.{is_well_formed, are_well_formed};
 
 use core_code::Byte;
@@ -198,6 +198,7 @@ impl SymBlock {
     pub fn put(&mut self, sym: Sym) -> Result<(), AllocError>
         requires { is_well_formed sym ≡ true }
         ensures put { OnOk result (self.new.list.items ≡ self.old.list.items ++ (sym ∷ [])) }
+        ensures kept { OnErr result (self.new.list.items ≡ self.old.list.items) }
         ensures name { self.new.name ≡ self.old.name }
     {
         self.list.push(sym)?;
