@@ -32,7 +32,7 @@ use Rattle.select_trace.specs.Helpers.{Layout, Value, Left, Right, Remainder, Sp
 use Rattle.select_trace.specs.Ints.{IsValue}
 use Rattle.select_trace.specs.Links.{Fine}
 use Rattle.select_trace.specs.Positions.{place, Path, Returns}
-use Rattle.select_trace.specs.Promises.{HelpersAnswer}
+use Rattle.select_trace.specs.Promises.{HelpersAnswer, routine_most}
 use Rattle.select_trace.specs.Run.{Sym, Machine, going}
 use Rattle.select_trace.specs.Silent.{number_at, OwnsBytes, AreQuiet, IsIn, plain_code}
 use Rattle.select_trace.specs.Steps.{number_of}
@@ -44,7 +44,7 @@ use Rattle.select_trace.proofs.Kept.{within_all, path_kept}
 use Rattle.select_trace.proofs.Names.{IsOwnOne, own_stands, own_quiet}
 use Rattle.select_trace.proofs.Numbers.{byte_back, from_bytes}
 use Rattle.select_trace.proofs.Operators.{count_is}
-use Rattle.select_trace.proofs.RoutineParts.{is_shift, byte_number, layout, start_length, body_length, rounds, most_rounds, start_of, body_of, end_of, code_is, most_is, Parts, parts}
+use Rattle.select_trace.proofs.RoutineParts.{is_shift, byte_number, layout, start_length, body_length, rounds, most_rounds, all_rounds, start_of, body_of, end_of, code_is, most_is, Parts, parts}
 use Rattle.select_trace.proofs.Ranges.{Keeps}
 use Rattle.select_trace.proofs.OperatorValues.{if_some}
 use Rattle.select_trace.proofs.Walked.{AreSilent, at_place, returned, Through, through}
@@ -61,9 +61,11 @@ drop_silent P zero xs all = all
 drop_silent P (suc n) [] all = tt
 drop_silent P (suc n) (x ∷ xs) all = drop_silent P n xs all.1
 
-most_small : (h : Helper) (root : Root) (copy any count : ℕ) (at : Byte → ℕ) (price : ℕ → ℕ) → ArePriced price (helper_code h root copy) → rounds h count ≤ most_rounds h →
-    most_of price (layout at root copy any h) (task_of h) count ≤ 2048
-most_small h root copy any count at price priced few =
+-- a routine of so many rounds at most costs no more than its words allow
+most_within : (h : Helper) (root : Root) (copy any count : ℕ) (at : Byte → ℕ) (price : ℕ → ℕ) → ArePriced price (helper_code h root copy) → (most limit : ℕ) → rounds h count ≤ most →
+    most_words (start_of h root copy) + most * most_words (body_of h root copy) + most_words (end_of h root copy) ≤ limit →
+    most_of price (layout at root copy any h) (task_of h) count ≤ limit
+most_within h root copy any count at price priced most limit few small =
     let k : Parts h root copy = parts h root copy in
     let all = silent_code h root copy in
     let P : Byte → Type 0 = λ byte. IsIn root copy (frame_size h) byte 1 in
@@ -73,10 +75,10 @@ most_small h root copy any count at price priced few =
     let d = dues_paid P at price 0 (start_of h root copy) (take_silent P (start_length h) (helper_code h root copy) all) in
     let e = dues_paid P at price (start_length h + 1) (body_of h root copy) (take_silent P (body_length h) (drop (start_length h + 1) (helper_code h root copy)) (drop_silent P (start_length h + 1) (helper_code h root copy) all)) in
     let f = dues_paid P at price (start_length h + 1 + body_length h) (end_of h root copy) (drop_silent P (start_length h + 1 + body_length h) (helper_code h root copy) all) in
-    put _ _ _ _ _ _ _ _ _ _ _ _ (most_is price at root copy any count h) d e f a b c few k.small
+    put _ _ _ _ _ _ _ _ _ _ _ most limit (most_is price at root copy any count h) d e f a b c few small
   where
-    put : (m x y z n p q r u v w l : ℕ) → m ≡ x + n * y + z → x ≡ p → y ≡ q → z ≡ r → p ≤ u → q ≤ v → r ≤ w → n ≤ l → u + l * v + w ≤ 2048 → m ≤ 2048
-    put m x y z n p q r u v w l e a b c f g h i j =
+    put : (m x y z n p q r u v w l t : ℕ) → m ≡ x + n * y + z → x ≡ p → y ≡ q → z ≡ r → p ≤ u → q ≤ v → r ≤ w → n ≤ l → u + l * v + w ≤ t → m ≤ t
+    put m x y z n p q r u v w l top e a b c f g h i j =
         let s : n * y ≤ n * v = mul-le n y v (let t : y ≤ v = omega arith in t) in
         let t : n * v ≤ l * v = mul-le-left n l v i in
         omega arith
@@ -160,6 +162,24 @@ few Shl4 count f = let a : count < 32 = f refl in omega arith
 few Shru4 count f = let a : count < 32 = f refl in omega arith
 few Shrs4 count f = let a : count < 32 = f refl in omega arith
 
+few_always : (h : Helper) (count : ℕ) → count < 256 → rounds h count ≤ all_rounds h
+few_always Mul2 count lt = omega (arith, lt)
+few_always Mul4 count lt = omega (arith, lt)
+few_always Divu2 count lt = omega (arith, lt)
+few_always Divs2 count lt = omega (arith, lt)
+few_always Remu2 count lt = omega (arith, lt)
+few_always Rems2 count lt = omega (arith, lt)
+few_always Divu4 count lt = omega (arith, lt)
+few_always Divs4 count lt = omega (arith, lt)
+few_always Remu4 count lt = omega (arith, lt)
+few_always Rems4 count lt = omega (arith, lt)
+few_always Shl2 count lt = omega (arith, lt)
+few_always Shru2 count lt = omega (arith, lt)
+few_always Shrs2 count lt = omega (arith, lt)
+few_always Shl4 count lt = omega (arith, lt)
+few_always Shru4 count lt = omega (arith, lt)
+few_always Shrs4 count lt = omega (arith, lt)
+
 -- where the operator of a shift has a value, its count is below the width
 small_count : (m n : ℕ) → (int_lt (pos n) (pos 0) || int_le (pos m) (pos n)) ≡ false → n < m
 small_count m n e = grind (arith, nat_tests)
@@ -170,9 +190,9 @@ by_left ty l r P f = if_some (shifts_badly ty (pos (r % 256))) _ _ (λ e. f (sma
 by_right : (ty : IntTy) (l r : ℕ) (P : Type 0) → (r % 256 < width ty → P) → IfSome (outcome Shr (cut_to ty (pos l)) (right_operand Shr ty r)) (λ value. P)
 by_right ty l r P f = if_some (shifts_badly ty (pos (r % 256))) _ _ (λ e. f (small_count (width ty) (r % 256) e))
 
-always : (o : Option Quantity) (P : Type 0) → P → IfSome o (λ value. P)
-always None P p = tt
-always (Some v) P p = p
+either_way : (o : Option Quantity) (P : Type 0) → P → IfSome o (λ value. P)
+either_way None P p = tt
+either_way (Some v) P p = p
 
 shifted_left : (op : BinOp) (ty : IntTy) (l r w : ℕ) (P : Type 0) → op ≡ Shl → w ≡ bytes_of ty → (r % 256 < 8 * w → P) → IfSome (outcome op (cut_to ty (pos l)) (right_operand op ty r)) (λ value. P)
 shifted_left op ty l r w P e f h = subst (λ (x : BinOp). IfSome (outcome x (cut_to ty (pos l)) (right_operand x ty r)) (λ value. P)) (sym e) (by_left ty l r P (λ lt. h (omega (arith, f, lt))))
@@ -182,16 +202,16 @@ shifted_right op ty l r w P e f h = subst (λ (x : BinOp). IfSome (outcome x (cu
 
 -- what holds where a shift's count is below its width holds where there is a value
 where_valued : (h : Helper) (op : BinOp) (ty : IntTy) (l r : ℕ) (P : Type 0) → Wanted op ty h → ((is_shift h ≡ true → r % 256 < 8 * width_of h) → P) → IfSome (outcome op (cut_to ty (pos l)) (right_operand op ty r)) (λ value. P)
-where_valued Mul2 op ty l r P w f = always (outcome op (cut_to ty (pos l)) (right_operand op ty r)) P (f (λ e. absurd (cc)))
-where_valued Mul4 op ty l r P w f = always (outcome op (cut_to ty (pos l)) (right_operand op ty r)) P (f (λ e. absurd (cc)))
-where_valued Divu2 op ty l r P w f = always (outcome op (cut_to ty (pos l)) (right_operand op ty r)) P (f (λ e. absurd (cc)))
-where_valued Divs2 op ty l r P w f = always (outcome op (cut_to ty (pos l)) (right_operand op ty r)) P (f (λ e. absurd (cc)))
-where_valued Remu2 op ty l r P w f = always (outcome op (cut_to ty (pos l)) (right_operand op ty r)) P (f (λ e. absurd (cc)))
-where_valued Rems2 op ty l r P w f = always (outcome op (cut_to ty (pos l)) (right_operand op ty r)) P (f (λ e. absurd (cc)))
-where_valued Divu4 op ty l r P w f = always (outcome op (cut_to ty (pos l)) (right_operand op ty r)) P (f (λ e. absurd (cc)))
-where_valued Divs4 op ty l r P w f = always (outcome op (cut_to ty (pos l)) (right_operand op ty r)) P (f (λ e. absurd (cc)))
-where_valued Remu4 op ty l r P w f = always (outcome op (cut_to ty (pos l)) (right_operand op ty r)) P (f (λ e. absurd (cc)))
-where_valued Rems4 op ty l r P w f = always (outcome op (cut_to ty (pos l)) (right_operand op ty r)) P (f (λ e. absurd (cc)))
+where_valued Mul2 op ty l r P w f = either_way (outcome op (cut_to ty (pos l)) (right_operand op ty r)) P (f (λ e. absurd (cc)))
+where_valued Mul4 op ty l r P w f = either_way (outcome op (cut_to ty (pos l)) (right_operand op ty r)) P (f (λ e. absurd (cc)))
+where_valued Divu2 op ty l r P w f = either_way (outcome op (cut_to ty (pos l)) (right_operand op ty r)) P (f (λ e. absurd (cc)))
+where_valued Divs2 op ty l r P w f = either_way (outcome op (cut_to ty (pos l)) (right_operand op ty r)) P (f (λ e. absurd (cc)))
+where_valued Remu2 op ty l r P w f = either_way (outcome op (cut_to ty (pos l)) (right_operand op ty r)) P (f (λ e. absurd (cc)))
+where_valued Rems2 op ty l r P w f = either_way (outcome op (cut_to ty (pos l)) (right_operand op ty r)) P (f (λ e. absurd (cc)))
+where_valued Divu4 op ty l r P w f = either_way (outcome op (cut_to ty (pos l)) (right_operand op ty r)) P (f (λ e. absurd (cc)))
+where_valued Divs4 op ty l r P w f = either_way (outcome op (cut_to ty (pos l)) (right_operand op ty r)) P (f (λ e. absurd (cc)))
+where_valued Remu4 op ty l r P w f = either_way (outcome op (cut_to ty (pos l)) (right_operand op ty r)) P (f (λ e. absurd (cc)))
+where_valued Rems4 op ty l r P w f = either_way (outcome op (cut_to ty (pos l)) (right_operand op ty r)) P (f (λ e. absurd (cc)))
 where_valued Shl2 op ty l r P w f = shifted_left op ty l r 2 P w.task w.fits (λ lt. f (λ e. lt))
 where_valued Shru2 op ty l r P w f = shifted_right op ty l r 2 P w.task.0 w.fits (λ lt. f (λ e. lt))
 where_valued Shrs2 op ty l r P w f = shifted_right op ty l r 2 P w.task.0 w.fits (λ lt. f (λ e. lt))
@@ -349,18 +369,26 @@ module _ (h : Helper) (copy : ℕ) (g : Setting) (price : BlockName → ℕ → 
       subst (λ (q : Quantity). IfSome (outcome op (cut_to ty (pos left)) q) (λ value. number_of (lay 512) result.out Answer ≡ pattern value.ty value.number)) (right_operand_is op ty w)
       (subst (λ (n : ℕ). IfSome (outcome op (cut_to ty (pos n)) (right_operand op ty (number_of (lay 512) begin Right))) (λ value. number_of (lay 512) result.out Answer ≡ pattern value.ty value.number)) left_is v)
 
-  cheap : (is_shift h ≡ true → right % 256 < 8 * width_of h) → quiet_cost g price inside run.count s ≤ 2048
-  cheap f =
-      let a : most_of (price (Copy copy)) (lay 512) (task_of h) count ≤ 2048 =
-      most_small h root copy 512 count at (price (Copy copy)) priced (few h count (λ e. subst (λ n. n < 8 * width_of h) (sym (count_right e)) (f e))) in
+  costs : (limit : ℕ) → most_of (price (Copy copy)) (lay 512) (task_of h) count ≤ limit → quiet_cost g price inside run.count s ≤ limit
+  costs limit a =
       let b : gone.cost + price (Copy copy) result.at ≤ most_of (price (Copy copy)) (lay 512) (task_of h) count = gone.few in
       let c : quiet_cost g price inside run.count s ≡ gone.cost + price (Copy copy) result.at = ap (quiet_cost g price inside run.count) from ∙ run.cost in
       omega arith
 
+  cheap : (is_shift h ≡ true → right % 256 < 8 * width_of h) → quiet_cost g price inside run.count s ≤ 2048
+  cheap f =
+      costs 2048 (most_within h root copy 512 count at (price (Copy copy)) priced (most_rounds h) 2048
+      (few h count (λ e. subst (λ n. n < 8 * width_of h) (sym (count_right e)) (f e))) (parts h root copy).small)
+
+  always : quiet_cost g price inside run.count s ≤ routine_most
+  always =
+      costs routine_most (most_within h root copy 512 count at (price (Copy copy)) priced (all_rounds h) routine_most
+      (few_always h count (called.bytes (at (Frame copy (width_of h + 0))))) (parts h root copy).always)
+
   went : direct_run g inside run.count s ≡ Some (returned g inside (IsOwnOne inside copy (frame_size h)) quiet price (Copy copy) all s.thread idle next stack (place result.at result.out))
   went = ap (direct_run g inside run.count) from ∙ run.run
 
-  pub answered : (end : wanted.Answers h copy g price inside next stack left right s) × (end.end.thread.rest ≡ None) × (direct_run g inside end.count s ≡ Some end.end)
+  pub answered : (end : wanted.Answers h copy g price inside next stack left right s) × (end.end.thread.rest ≡ None) × (direct_run g inside end.count s ≡ Some end.end) × (quiet_cost g price inside end.count s ≤ routine_most)
   answered = (
     record {
       count = run.count;
@@ -379,6 +407,7 @@ module _ (h : Helper) (copy : ℕ) (g : Setting) (price : BlockName → ℕ → 
     },
     idle,
     went,
+    always,
   )
 
 -- each routine answers

@@ -10,6 +10,7 @@ use Rattle.math_helpers.specs.Shape.{most_words}
 use Rattle.sym_code.specs.declared.code.Sym.{Sym}
 use Rattle.select_trace.specs.Helpers.{Layout, Value, Left, Right, Remainder, Spare, Answer}
 use Rattle.select_trace.specs.Positions.{dues}
+use Rattle.select_trace.specs.Promises.{routine_most}
 use Rattle.select_trace.specs.Silent.{plain_code}
 use Rattle.select_trace.specs.Wanted.{width_of, task_of, task_code}
 use Rattle.select_trace.proofs.Answers.{most_of}
@@ -112,6 +113,16 @@ most_rounds Shl4 = 31
 most_rounds Shru4 = 31
 most_rounds Shrs4 = 31
 
+-- .. and at most for all operands, since a count is a byte
+abbrev pub all_rounds : Helper → ℕ
+all_rounds Shl2 = 255
+all_rounds Shru2 = 255
+all_rounds Shrs2 = 255
+all_rounds Shl4 = 255
+all_rounds Shru4 = 255
+all_rounds Shrs4 = 255
+all_rounds h = most_rounds h
+
 abbrev pub start_of : Helper → Root → ℕ → List Sym
 start_of h root copy = take (start_length h) (helper_code h root copy)
 
@@ -168,21 +179,22 @@ pub record Parts (h : Helper) (root : Root) (copy : ℕ) : Type 0 where
   pub body_fits : fit false (body_of h root copy) ≡ true
   pub end_fits : fit false (end_of h root copy) ≡ true
   pub small : most_words (start_of h root copy) + most_rounds h * most_words (body_of h root copy) + most_words (end_of h root copy) ≤ 2048
+  pub always : most_words (start_of h root copy) + all_rounds h * most_words (body_of h root copy) + most_words (end_of h root copy) ≤ routine_most
 
 pub parts : (h : Helper) (root : Root) (copy : ℕ) → Parts h root copy
-parts Mul2 root copy = record { start_there = refl; body_there = refl; start_fits = refl; body_fits = refl; end_fits = refl; small = lit≤ tt }
-parts Mul4 root copy = record { start_there = refl; body_there = refl; start_fits = refl; body_fits = refl; end_fits = refl; small = lit≤ tt }
-parts Divu2 root copy = record { start_there = refl; body_there = refl; start_fits = refl; body_fits = refl; end_fits = refl; small = lit≤ tt }
-parts Divs2 root copy = record { start_there = refl; body_there = refl; start_fits = refl; body_fits = refl; end_fits = refl; small = lit≤ tt }
-parts Remu2 root copy = record { start_there = refl; body_there = refl; start_fits = refl; body_fits = refl; end_fits = refl; small = lit≤ tt }
-parts Rems2 root copy = record { start_there = refl; body_there = refl; start_fits = refl; body_fits = refl; end_fits = refl; small = lit≤ tt }
-parts Divu4 root copy = record { start_there = refl; body_there = refl; start_fits = refl; body_fits = refl; end_fits = refl; small = lit≤ tt }
-parts Divs4 root copy = record { start_there = refl; body_there = refl; start_fits = refl; body_fits = refl; end_fits = refl; small = lit≤ tt }
-parts Remu4 root copy = record { start_there = refl; body_there = refl; start_fits = refl; body_fits = refl; end_fits = refl; small = lit≤ tt }
-parts Rems4 root copy = record { start_there = refl; body_there = refl; start_fits = refl; body_fits = refl; end_fits = refl; small = lit≤ tt }
-parts Shl2 root copy = record { start_there = refl; body_there = refl; start_fits = refl; body_fits = refl; end_fits = refl; small = lit≤ tt }
-parts Shru2 root copy = record { start_there = refl; body_there = refl; start_fits = refl; body_fits = refl; end_fits = refl; small = lit≤ tt }
-parts Shrs2 root copy = record { start_there = refl; body_there = refl; start_fits = refl; body_fits = refl; end_fits = refl; small = lit≤ tt }
-parts Shl4 root copy = record { start_there = refl; body_there = refl; start_fits = refl; body_fits = refl; end_fits = refl; small = lit≤ tt }
-parts Shru4 root copy = record { start_there = refl; body_there = refl; start_fits = refl; body_fits = refl; end_fits = refl; small = lit≤ tt }
-parts Shrs4 root copy = record { start_there = refl; body_there = refl; start_fits = refl; body_fits = refl; end_fits = refl; small = lit≤ tt }
+parts Mul2 root copy = record { start_there = refl; body_there = refl; start_fits = refl; body_fits = refl; end_fits = refl; small = lit≤ tt; always = lit≤ tt }
+parts Mul4 root copy = record { start_there = refl; body_there = refl; start_fits = refl; body_fits = refl; end_fits = refl; small = lit≤ tt; always = lit≤ tt }
+parts Divu2 root copy = record { start_there = refl; body_there = refl; start_fits = refl; body_fits = refl; end_fits = refl; small = lit≤ tt; always = lit≤ tt }
+parts Divs2 root copy = record { start_there = refl; body_there = refl; start_fits = refl; body_fits = refl; end_fits = refl; small = lit≤ tt; always = lit≤ tt }
+parts Remu2 root copy = record { start_there = refl; body_there = refl; start_fits = refl; body_fits = refl; end_fits = refl; small = lit≤ tt; always = lit≤ tt }
+parts Rems2 root copy = record { start_there = refl; body_there = refl; start_fits = refl; body_fits = refl; end_fits = refl; small = lit≤ tt; always = lit≤ tt }
+parts Divu4 root copy = record { start_there = refl; body_there = refl; start_fits = refl; body_fits = refl; end_fits = refl; small = lit≤ tt; always = lit≤ tt }
+parts Divs4 root copy = record { start_there = refl; body_there = refl; start_fits = refl; body_fits = refl; end_fits = refl; small = lit≤ tt; always = lit≤ tt }
+parts Remu4 root copy = record { start_there = refl; body_there = refl; start_fits = refl; body_fits = refl; end_fits = refl; small = lit≤ tt; always = lit≤ tt }
+parts Rems4 root copy = record { start_there = refl; body_there = refl; start_fits = refl; body_fits = refl; end_fits = refl; small = lit≤ tt; always = lit≤ tt }
+parts Shl2 root copy = record { start_there = refl; body_there = refl; start_fits = refl; body_fits = refl; end_fits = refl; small = lit≤ tt; always = lit≤ tt }
+parts Shru2 root copy = record { start_there = refl; body_there = refl; start_fits = refl; body_fits = refl; end_fits = refl; small = lit≤ tt; always = lit≤ tt }
+parts Shrs2 root copy = record { start_there = refl; body_there = refl; start_fits = refl; body_fits = refl; end_fits = refl; small = lit≤ tt; always = lit≤ tt }
+parts Shl4 root copy = record { start_there = refl; body_there = refl; start_fits = refl; body_fits = refl; end_fits = refl; small = lit≤ tt; always = lit≤ tt }
+parts Shru4 root copy = record { start_there = refl; body_there = refl; start_fits = refl; body_fits = refl; end_fits = refl; small = lit≤ tt; always = lit≤ tt }
+parts Shrs4 root copy = record { start_there = refl; body_there = refl; start_fits = refl; body_fits = refl; end_fits = refl; small = lit≤ tt; always = lit≤ tt }

@@ -5,8 +5,8 @@ ghost use Rattle.select_trace.specs.Promises.{HelpersAnswer};
 ghost use Rattle.select_trace.specs.Operators.{BinaryRuns, UnaryRuns, ConvertRuns, CopiesRun, TestRuns, StraightRuns};
 
 /// Each of the sixteen routines, called from main or from the handler, answers: without an event it returns to where the caller
-/// goes on, with the answer that C defines for the operands in its frame, and where there is one in 2,048 instructions at most,
-/// whatever selects it needs.
+/// goes on, with the answer that C defines for the operands in its frame. That takes 4,096 instructions at most, whatever the
+/// operands and whatever selects it needs, and 2,048 where C defines an answer.
 pub fn routines_answer()
     ensures called { HelpersAnswer }
 {}
