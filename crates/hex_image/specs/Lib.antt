@@ -4,3 +4,4 @@ pub mod Marks
 pub mod Reading
 pub mod Answers
 pub mod Filling
+pub mod Faults

@@ -1,7 +1,7 @@
 //! Intel HEX files of program memory.
 //!
 //! In: an image, or the text of a HEX file. Out: the text of the image's HEX file; the image of the file, or where the text
-//! first breaks the format.
+//! first breaks the format, and what is printed of that.
 //! The promise: what is written is the one fixed form of that image, and by the rules of the format it is a file of that
 //! image and of no other. A text is read exactly where it is a HEX file, and what is read is its image.
 #![tactic(auto)]
@@ -13,9 +13,11 @@ ghost use Rattle.hex_image.specs.HexText as spec;
 ghost use Rattle.text_lines.specs.Text.{hex_pairs};
 ghost use Rattle.pic_chip.specs.Words.{AreWords};
 
+mod fault;
 mod given;
 mod read;
 
+pub use fault::{fault_line, fault_text};
 use pic_chip::Image;
 use pic_chip::image::BLANK;
 pub use read::{HexError, read_hex};
