@@ -110,7 +110,7 @@ abbrev pub type_rule : Specified → Outline → Bool → List ℕ → ℕ → R
 type_rule said o begun name line = do
   known ← known_here
   _ ← tried (type_tests known said o begun name) line
-  bind name (TypeNamed (object_type o.declared) o.incomplete)
+  bind name (TypeNamed (object_type o.declared) o.waiting)
 
 abbrev pub declared_as : Specified → Outline → Option InitTree → List ℕ → ℕ → Rule Known
 declared_as said o init name line =

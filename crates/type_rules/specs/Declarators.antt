@@ -135,7 +135,7 @@ unfoldable mutual
   field (tree.Declares pointers n ss) said number = do
     base ← with_pointers pointers said.ty
     made ← suffixes ss false
-    o ← outlined made (object_outline base said.incomplete)
+    o ← outlined made (object_outline base said.waiting)
     member_rule number o n.bytes (declarator_line pointers n)
 
   -- Suffixes are tried first, from left to right.
@@ -171,13 +171,13 @@ unfoldable mutual
     said ← specified s (of_param bodies)
     base ← with_pointers pointers said.ty
     made ← suffixes ss bodies
-    o ← param_outlined made (object_outline base said.incomplete)
+    o ← param_outlined made (object_outline base said.waiting)
     param_rule before said o n.bytes (declarator_line pointers n)
   param (tree.Unnamed s pointers ss) bodies before = do
     said ← specified s (of_param bodies)
     base ← with_pointers pointers said.ty
     made ← suffixes ss bodies
-    o ← param_outlined made (object_outline base said.incomplete)
+    o ← param_outlined made (object_outline base said.waiting)
     param_rule before said o [] said.line
 
 -- What a declarator makes of what its specifiers say.
@@ -185,7 +185,7 @@ abbrev pub outline_of : DeclaratorTree → Specified → Bool → Rule Outline
 outline_of (tree.Declares pointers n ss) said bodies = do
   base ← with_pointers pointers said.ty
   made ← suffixes ss bodies
-  outlined made (object_outline base said.incomplete)
+  outlined made (object_outline base said.waiting)
 
 abbrev pub name_in : DeclaratorTree → List ℕ
 name_in (tree.Declares pointers n ss) = n.bytes

@@ -30,7 +30,7 @@ abbrev pub named_term : Binding → ℕ → Term
 named_term (ObjectName object ty fixed) line = place_term (typed.Name object ty line) (unreached fixed) line
 named_term (BitName register bit) line = place_term (typed.Bit register bit line) (unreached true) line
 named_term (FunctionName number) line = record { form = FunctionForm number true; null = false; line = line; start = line; into = None; listed = [] }
-named_term (TypeNamed ty incomplete) line = record { form = TypeForm; null = false; line = line; start = line; into = None; listed = [] }
+named_term (TypeNamed ty waiting) line = record { form = TypeForm; null = false; line = line; start = line; into = None; listed = [] }
 named_term (EnumeratorName n) line = value_term (typed.Constant (record { ty = int.Int; number = n }) line) line
 
 abbrev pub name_rule : List ℕ → ℕ → Rule Term

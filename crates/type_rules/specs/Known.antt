@@ -1,5 +1,5 @@
 -- What is known of a unit at a place of its text, and rules: what a part of the text is there, or the first rule that it breaks.
-use Rattle.std.specs.Prelude.{ℕ, ℤ, Bool, List, [], ◌∷◌, Option, Some, None, Result, Ok, Err}
+use Rattle.std.specs.Prelude.{ℕ, ℤ, Bool, true, false, List, [], ◌∷◌, Option, Some, None, Result, Ok, Err}
 use Rattle.c_typed.specs.Trees.{StaticTree, VariableTree}
 use Rattle.c_typed.specs.declared.expression.Object.{Object}
 use Rattle.c_typed.specs.declared.types.Qualified.{Qualified}
@@ -7,14 +7,34 @@ use Rattle.c_typed.specs.declared.types.Ty.{Ty}
 use Rattle.c_typed.specs.declared.types.Ty.TheVariants.{Void}
 use Rattle.type_rules.specs.Faults.{Kind, Fault, Tests, first_broken}
 
+-- What is still to be made of a type whose element isn't complete so far: nothing, an array of so many of it, an array of arrays, the outer number
+-- first, or what can't be made any more: deeper arrays, and what points to an array that waits.
+pub data Waiting : Type 0 where
+  Whole : Waiting
+  OneArray : ℕ → Waiting
+  TwoArrays : ℕ → ℕ → Waiting
+  Never : Waiting
+
+abbrev pub is_waiting : Waiting → Bool
+is_waiting Whole = false
+is_waiting (OneArray n) = true
+is_waiting (TwoArrays n m) = true
+is_waiting Never = true
+
+-- An array more, round those that wait.
+abbrev pub waits : ℕ → Waiting → Waiting
+waits n Whole = OneArray n
+waits n (OneArray m) = TwoArrays n m
+waits n (TwoArrays m k) = Never
+waits n Never = Never
+
 -- What a name stands for (ISO/IEC 9899:1990, 6.1.2): an object or a register of the device, of which `fixed` says that no address can
--- be taken; a bit of a register; a function, by its number among those that are declared; a type, of which `incomplete` says that it has arrays of what
--- wasn't complete where it was named (6.5.6); a number (6.5.2.2).
+-- be taken; a bit of a register; a function, by its number among those that are declared; a type, with what it waits for (6.5.6); a number (6.5.2.2).
 pub data Binding : Type 0 where
   ObjectName : Object → Qualified → Bool → Binding
   BitName : ℕ → ℕ → Binding
   FunctionName : ℕ → Binding
-  TypeNamed : Qualified → Bool → Binding
+  TypeNamed : Qualified → Waiting → Binding
   EnumeratorName : ℤ → Binding
 
 -- names, and what each stands for

@@ -13,7 +13,7 @@ use Rattle.c_typed.specs.declared.types.Ty.{Ty}
 use Rattle.c_typed.specs.declared.types.Ty.TheVariants.{Array}
 use Rattle.type_rules.specs.Faults as kind
 use Rattle.type_rules.specs.Faults.{Tests}
-use Rattle.type_rules.specs.Known.{ObjectName, Known, Rule, given, broken, known_here, learn, tried, wanted, ◌>>=◌}
+use Rattle.type_rules.specs.Known.{is_waiting, ObjectName, Known, Rule, given, broken, known_here, learn, tried, wanted, ◌>>=◌}
 use Rattle.type_rules.specs.Names.{bind}
 use Rattle.type_rules.specs.Rows.{like, target_of, array_of, bytes_of, is_complete, changed_at}
 use Rattle.type_rules.specs.Specifiers.{Specified}
@@ -27,7 +27,7 @@ abbrev pub object_tests : Known → Specified → Outline → Bool → Tests
 object_tests known said o begun =
     (o.bad || (is_function o.declared || said.interrupt), kind.Declare) ∷
     (nat_lt 65535 (bytes_of known (object_type o.declared).ty), kind.Size) ∷
-    (o.incomplete || not ((begun && is_array (object_type o.declared).ty) || is_complete known (object_type o.declared).ty), kind.Incomplete) ∷ []
+    (is_waiting o.waiting || not ((begun && is_array (object_type o.declared).ty) || is_complete known (object_type o.declared).ty), kind.Incomplete) ∷ []
 
 abbrev pub object_rule : Specified → Outline → Bool → ℕ → Rule Qualified
 object_rule said o begun line = do

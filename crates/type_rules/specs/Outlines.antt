@@ -5,10 +5,10 @@ use Rattle.c_typed.specs.Sameness.{is_void, is_array, is_struct}
 use Rattle.c_typed.specs.declared.expression.Object.TheVariants as object
 use Rattle.c_typed.specs.declared.types.Qualified.{Qualified}
 use Rattle.c_typed.specs.declared.types.Ty.{Ty}
-use Rattle.c_typed.specs.declared.types.Ty.TheVariants.{Array}
+use Rattle.c_typed.specs.declared.types.Ty.TheVariants.{Pointer, Array}
 use Rattle.type_rules.specs.Faults as kind
 use Rattle.type_rules.specs.Faults.{Tests}
-use Rattle.type_rules.specs.Known.{ObjectName, Scope, Known, Rule, given, known_here, tried, ◌>>=◌}
+use Rattle.type_rules.specs.Known.{Waiting, Whole, OneArray, TwoArrays, Never, is_waiting, waits, ObjectName, Scope, Known, Rule, given, known_here, tried, ◌>>=◌}
 use Rattle.type_rules.specs.Names.{entry_of, is_declared, bind}
 use Rattle.type_rules.specs.Rows.{plain, like, pointer_to, target_of, array_of, is_complete, fields_of, add_member}
 use Rattle.type_rules.specs.Specifiers.{Specified}
@@ -29,19 +29,27 @@ pub data Declared : Type 0 where
   ObjectDeclared : Qualified → Declared
   FunctionDeclared : Qualified → List Param → Scope → Declared
 
--- What is declared; `bad` says that no declaration has such a type, `incomplete` that it has parts of a type that isn't complete.
+-- What is declared, where `bad` says that no declaration has such a type; of a type that waits for arrays it has the element.
 pub record Outline : Type 0 where
   pub declared : Declared
   pub bad : Bool
-  pub incomplete : Bool
+  pub waiting : Waiting
 
-abbrev pub object_outline : Qualified → Bool → Outline
-object_outline ty incomplete = record { declared = ObjectDeclared ty; bad = false; incomplete = incomplete }
+-- The element of what waits isn't complete, so a pointer in its place is one to what waits.
+abbrev pub lost : Waiting → Waiting
+lost Whole = Whole
+lost _ = Never
 
--- An array of functions or of void is none. One of what isn't complete isn't complete, and no type is made of it: it would have the wrong size once its
--- element is complete.
+abbrev pub waiting_for : Ty → Waiting → Waiting
+waiting_for (Pointer row) waiting = lost waiting
+waiting_for _ waiting = waiting
+
+abbrev pub object_outline : Qualified → Waiting → Outline
+object_outline ty waiting = record { declared = ObjectDeclared ty; bad = false; waiting = waiting_for ty.ty waiting }
+
+-- An array of functions or of void is none. One of what isn't complete waits, since it would have the wrong size once its element is complete.
 abbrev pub array_or_part : Bool → ℕ → Outline → Qualified → Rule Outline
-array_or_part false count o element = given (record o { bad = o.bad || is_void element.ty; incomplete = true })
+array_or_part false count o element = given (record o { bad = o.bad || is_void element.ty; waiting = waits count o.waiting })
 array_or_part true count o element = do
   ty ← array_of element count
   given (record o { declared = ObjectDeclared ty; bad = o.bad || is_void element.ty })
@@ -52,9 +60,9 @@ array_behind count o (ObjectDeclared element) = do
   array_or_part (is_complete known element.ty) count o element
 array_behind count o (FunctionDeclared result params scope) = given (record o { declared = ObjectDeclared result; bad = true })
 
--- A function with an array, a structure or a function as its result is none, nor is one with a result that has arrays of what isn't complete.
+-- A function with an array, a structure or a function as its result is none, nor is one with a result that waits.
 abbrev pub function_behind : List Param → Scope → Outline → Declared → Outline
-function_behind params scope o (ObjectDeclared result) = record o { declared = FunctionDeclared result params scope; bad = o.bad || (o.incomplete || (is_array result.ty || is_struct result.ty)) }
+function_behind params scope o (ObjectDeclared result) = record o { declared = FunctionDeclared result params scope; bad = o.bad || (is_waiting o.waiting || (is_array result.ty || is_struct result.ty)) }
 function_behind params scope o (FunctionDeclared result inner names) = record o { declared = FunctionDeclared result params scope; bad = true }
 
 abbrev pub behind : Made → Outline → Rule Outline
@@ -68,15 +76,15 @@ outlined (m ∷ ms) o = do
   inner ← outlined ms o
   behind m inner
 
--- ---- a parameter that is written as an array is a pointer to its element (6.7.1)
+-- ---- a parameter that is written as an array is a pointer to its element, which is no void (6.7.1)
 
 abbrev pub pointer_outline : Outline → Declared → Rule Outline
 pointer_outline o (ObjectDeclared element) = do
   ty ← pointer_to element
-  given (record o { declared = ObjectDeclared (plain ty) })
+  given (record o { declared = ObjectDeclared (plain ty); bad = o.bad || is_void element.ty })
 pointer_outline o (FunctionDeclared result params scope) = given (record o { declared = ObjectDeclared result; bad = true })
 
--- It may be an array by the name of its type, too.
+-- It may be an array by the name of its type, too, also one that waits.
 abbrev pub started : Outline → Qualified → Ty → Rule Outline
 started o whole (Array row count size) = do
   known ← known_here
@@ -84,8 +92,14 @@ started o whole (Array row count size) = do
   given (record o { declared = ObjectDeclared (plain ty) })
 started o whole _ = given o
 
+abbrev pub started_by : Waiting → Outline → Qualified → Rule Outline
+started_by (OneArray n) o element = do
+  ty ← pointer_to element
+  given (record o { declared = ObjectDeclared (plain ty); waiting = Whole })
+started_by _ o whole = started o whole whole.ty
+
 abbrev pub array_started : Outline → Declared → Rule Outline
-array_started o (ObjectDeclared ty) = started o ty ty.ty
+array_started o (ObjectDeclared ty) = started_by o.waiting o ty
 array_started o (FunctionDeclared result params scope) = given o
 
 abbrev pub param_outlined : List Made → Outline → Rule Outline
@@ -115,7 +129,7 @@ abbrev pub param_tests : Known → List ℕ → Outline → Tests
 param_tests known name o =
     (is_again known name, kind.Again) ∷
     (o.bad || (is_function o.declared || is_struct (object_type o.declared).ty), kind.Declare) ∷
-    (o.incomplete || not (is_complete known (object_type o.declared).ty), kind.Incomplete) ∷ []
+    (is_waiting o.waiting || not (is_complete known (object_type o.declared).ty), kind.Incomplete) ∷ []
 
 -- It is in scope from here on.
 abbrev pub bind_param : List ℕ → ℕ → Qualified → Bool → Rule Known
@@ -135,7 +149,7 @@ abbrev pub member_tests : Known → ℕ → List ℕ → Outline → Tests
 member_tests known number name o =
     (is_some (entry_of (fields_of known number) name), kind.Again) ∷
     (o.bad || (is_function o.declared || (object_type o.declared).constant), kind.Declare) ∷
-    (o.incomplete || not (is_complete known (object_type o.declared).ty), kind.Incomplete) ∷ []
+    (is_waiting o.waiting || not (is_complete known (object_type o.declared).ty), kind.Incomplete) ∷ []
 
 abbrev pub member_rule : ℕ → Outline → List ℕ → ℕ → Rule Known
 member_rule number o name line = do

@@ -14,9 +14,9 @@ use Rattle.c_typed.specs.declared.types.Qualified.{Qualified}
 use Rattle.c_typed.specs.declared.types.Ty.{Ty}
 use Rattle.c_typed.specs.declared.types.Ty.TheVariants.{Void, Int, Struct}
 use Rattle.type_rules.specs.Faults as kind
-use Rattle.type_rules.specs.Known.{Binding, TypeNamed, Known, Rule, given, known_here, tried, wanted, ◌>>=◌}
+use Rattle.type_rules.specs.Known.{Waiting, Whole, OneArray, TwoArrays, Never, is_waiting, waits, Binding, TypeNamed, Known, Rule, given, known_here, tried, wanted, ◌>>=◌}
 use Rattle.type_rules.specs.Names.{meaning_of, in_file}
-use Rattle.type_rules.specs.Rows.{plain}
+use Rattle.type_rules.specs.Rows.{plain, array_of, is_complete}
 
 -- where specifiers stand
 pub data Site : Type 0 where
@@ -30,7 +30,7 @@ pub data Site : Type 0 where
 pub data Base : Type 0 where
   StructBase : ℕ → Base
   EnumBase : Base
-  NamedBase : Qualified → Bool → Base
+  NamedBase : Qualified → Waiting → Base
 
 -- The specifiers of a list: the words, and what names a type without a word.
 pub record Gathered : Type 0 where
@@ -104,18 +104,18 @@ of_words ws =
     else if has_int_word ws then of_int (int_type ws)
     else None
 
--- The type that specifiers name: with its own qualifiers, and whether it has arrays of what wasn't complete.
+-- The type that specifiers name: with its own qualifiers, and what it waits for.
 pub record Named : Type 0 where
   pub ty : Qualified
-  pub incomplete : Bool
+  pub waiting : Waiting
 
 abbrev pub plainly : Ty → Named
-plainly ty = record { ty = plain ty; incomplete = false }
+plainly ty = record { ty = plain ty; waiting = Whole }
 
 abbrev pub named_by : Base → Named
 named_by (StructBase number) = plainly (Struct number)
 named_by EnumBase = plainly (Int int.Int)
-named_by (NamedBase ty incomplete) = record { ty = ty; incomplete = incomplete }
+named_by (NamedBase ty waiting) = record { ty = ty; waiting = waiting }
 
 abbrev pub by_words : Option Ty → Option Named
 by_words None = None
@@ -141,11 +141,11 @@ may_stand known OfMember ws = nat_eq (storage_words ws) 0 && not (has ws words.I
 may_stand known OfParam ws = not (has ws words.Typedef || (has ws words.Static || has ws words.Auto)) && not (has ws words.Interrupt)
 may_stand known OfTypeName ws = not (has ws words.Typedef || has ws words.Static) && (not (has ws words.Interrupt) && not (is_automatic ws && in_file known))
 
--- What specifiers say: a type, whether it has arrays of what wasn't complete, whether `typedef` stands there, whether it is static or `register`, whether
+-- What specifiers say: a type, what it waits for, whether `typedef` stands there, whether it is static or `register`, whether
 -- `interrupt` stands there, and the line of the first.
 pub record Specified : Type 0 where
   pub ty : Qualified
-  pub incomplete : Bool
+  pub waiting : Waiting
   pub is_typedef : Bool
   pub fixed : Bool
   pub register : Bool
@@ -157,7 +157,28 @@ abbrev pub qualified_by : List Keyword → Qualified → Qualified
 qualified_by ws ty = record ty { constant = has ws words.Const || ty.constant; volatile = has ws words.Volatile || ty.volatile }
 
 abbrev pub said : List Keyword → Named → ℕ → Specified
-said ws named line = record { ty = qualified_by ws named.ty; incomplete = named.incomplete; is_typedef = has ws words.Typedef; fixed = has ws words.Static; register = has ws words.Register; interrupt = has ws words.Interrupt; line = line }
+said ws named line = record { ty = qualified_by ws named.ty; waiting = named.waiting; is_typedef = has ws words.Typedef; fixed = has ws words.Static; register = has ws words.Register; interrupt = has ws words.Interrupt; line = line }
+
+-- An array of this, where that is complete by now; otherwise it waits.
+abbrev pub grown_by : Bool → ℕ → Named → Rule Named
+grown_by false n inner = given (record inner { waiting = waits n inner.waiting })
+grown_by true n inner = do
+  ty ← array_of inner.ty n
+  given (record { ty = ty; waiting = Whole })
+
+abbrev pub grown : ℕ → Named → Rule Named
+grown n inner = do
+  known ← known_here
+  grown_by (not (is_waiting inner.waiting) && is_complete known (inner.ty).ty) n inner
+
+-- Arrays that wait are tried again, the inner one first.
+abbrev pub remade : Qualified → Waiting → Rule Named
+remade ty Whole = given (record { ty = ty; waiting = Whole })
+remade ty (OneArray n) = grown n (record { ty = ty; waiting = Whole })
+remade ty (TwoArrays n m) = do
+  inner ← grown m (record { ty = ty; waiting = Whole })
+  grown n inner
+remade ty Never = given (record { ty = ty; waiting = Never })
 
 -- The rule of a list of specifiers at a site.
 abbrev pub specifiers : Site → Gathered → ℕ → Rule Specified
@@ -165,11 +186,12 @@ specifiers site g line = do
   known ← known_here
   named ← wanted kind.Declare line (base_type g.words g.bases)
   _ ← tried ((not (is_orderly g && (qualifies_once g.words named.ty && may_stand known site g.words)), kind.Declare) ∷ []) line
-  given (said g.words named line)
+  whole ← remade named.ty named.waiting
+  given (said g.words whole line)
 
 -- A marked name is that of a type that is declared.
 abbrev pub named_base : Option Binding → Option Base
-named_base (Some (TypeNamed ty incomplete)) = Some (NamedBase ty incomplete)
+named_base (Some (TypeNamed ty waiting)) = Some (NamedBase ty waiting)
 named_base _ = None
 
 abbrev pub type_name_rule : Symbol → Gathered → Rule Gathered

@@ -9,7 +9,7 @@ use Rattle.c_nodes.specs.Words.{Symbol, Symbols}
 use Rattle.c_typed.specs.declared.types.Qualified.{Qualified}
 use Rattle.type_rules.specs.Faults as kind
 use Rattle.type_rules.specs.Faults.{Kind}
-use Rattle.type_rules.specs.Known.{Tag, StructTag, EnumTag, Known, Rule, given, broken, known_here, tried, ◌>>=◌}
+use Rattle.type_rules.specs.Known.{is_waiting, Tag, StructTag, EnumTag, Known, Rule, given, broken, known_here, tried, ◌>>=◌}
 use Rattle.type_rules.specs.Rows.{plain, pointer_to, tagged, is_absent, progress_of}
 use Rattle.type_rules.specs.Specifiers.{OfTypeName, Base, EnumBase, Gathered, nothing_gathered, with_word_of, with_base, type_name_rule, specifiers, specs_line}
 
@@ -89,10 +89,10 @@ named_specs (tree.Specified s ss) = do
   first ← named_spec s nothing_gathered
   more_named_specs ss first
 
--- A type with arrays of what wasn't complete is none that anything is measured or converted by.
+-- A type that waits is none that anything is measured or converted by.
 abbrev pub type_named : TypeTree → Rule Qualified
 type_named (tree.TypeOf specs pointers) = do
   gathered ← named_specs specs
   base ← specifiers OfTypeName gathered (specs_line specs)
-  _ ← tried ((base.incomplete, kind.Incomplete) ∷ []) base.line
+  _ ← tried ((is_waiting base.waiting, kind.Incomplete) ∷ []) base.line
   with_pointers pointers base.ty
