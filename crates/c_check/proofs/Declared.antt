@@ -153,7 +153,7 @@ module _ (said : Specified) (o : Outline) (begun : Bool) (name : List ℕ) (line
   no_type = o.bad || (is_function o.declared || (begun || said.interrupt))
 
   abbrev type_bound : Rule Known
-  type_bound = bind name (TypeNamed (object_type o.declared) o.incomplete)
+  type_bound = bind name (TypeNamed (object_type o.declared) o.waiting)
 
   pub named_again : (e : CheckError) → Refuses e (tests_of_new known name line known) → Refuses e (rule.type_rule said o begun name line known)
   named_again e h = type_first line known type_bound (is_declared known name) no_type e h

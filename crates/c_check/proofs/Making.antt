@@ -14,7 +14,7 @@ use Rattle.c_typed.specs.declared.types.Qualified.{Qualified}
 use Rattle.c_typed.specs.declared.types.Ty.TheVariants.{Array}
 use Rattle.type_rules.specs.Faults as kind
 use Rattle.type_rules.specs.Faults.{Fault}
-use Rattle.type_rules.specs.Known.{ObjectName, Known, Rule, go_on, given, tried, ◌>>=◌}
+use Rattle.type_rules.specs.Known.{is_waiting, ObjectName, Known, Rule, go_on, given, tried, ◌>>=◌}
 use Rattle.type_rules.specs.Initializers.{begins}
 use Rattle.type_rules.specs.Names.{bind}
 use Rattle.type_rules.specs.Objects as rule
@@ -38,8 +38,8 @@ module _ (known : Known) (said : Specified) (o : Outline) (begun : Bool) (line :
   right : (o.bad || (is_function o.declared || said.interrupt)) ≡ false
   right = ap (λ b. b || (is_function o.declared || said.interrupt)) good ∙ ap (λ d. is_function d || said.interrupt) object_is ∙ plain
 
-  behind_first : tried (rule.object_tests known said o begun) line known ≡ tried ((nat_lt 65535 (bytes_of known (object_type o.declared).ty), kind.Size) ∷ (o.incomplete || not ((begun && is_array (object_type o.declared).ty) || is_complete known (object_type o.declared).ty), kind.Incomplete) ∷ []) line known
-  behind_first = tried_false (o.bad || (is_function o.declared || said.interrupt)) kind.Declare ((nat_lt 65535 (bytes_of known (object_type o.declared).ty), kind.Size) ∷ (o.incomplete || not ((begun && is_array (object_type o.declared).ty) || is_complete known (object_type o.declared).ty), kind.Incomplete) ∷ []) line known right
+  behind_first : tried (rule.object_tests known said o begun) line known ≡ tried ((nat_lt 65535 (bytes_of known (object_type o.declared).ty), kind.Size) ∷ (is_waiting o.waiting || not ((begun && is_array (object_type o.declared).ty) || is_complete known (object_type o.declared).ty), kind.Incomplete) ∷ []) line known
+  behind_first = tried_false (o.bad || (is_function o.declared || said.interrupt)) kind.Declare ((nat_lt 65535 (bytes_of known (object_type o.declared).ty), kind.Size) ∷ (is_waiting o.waiting || not ((begun && is_array (object_type o.declared).ty) || is_complete known (object_type o.declared).ty), kind.Incomplete) ∷ []) line known right
 
   size_of : (large : Bool) → large ≡ nat_lt 65535 (bytes_of known ty.ty) → nat_lt 65535 (bytes_of known (object_type o.declared).ty) ≡ large
   size_of large is = ap (λ d. nat_lt 65535 (bytes_of known (object_type d).ty)) object_is ∙ sym is
@@ -47,22 +47,22 @@ module _ (known : Known) (said : Specified) (o : Outline) (begun : Bool) (line :
   pub object_large : (result : Result Qualified CheckError) (large : Bool) → large ≡ nat_lt 65535 (bytes_of known ty.ty) → large ≡ true → result ≡ Err (errors.Kind kinds.Size line) → Answers (λ t. t) result known (rule.object_rule said o begun line known)
   object_large result large is so answer =
       refused_as (λ t. t) result known (rule.object_rule said o begun line known) (errors.Kind kinds.Size line) answer
-      (ap (go_on (λ _. given (object_type o.declared))) (behind_first ∙ tried_true (nat_lt 65535 (bytes_of known (object_type o.declared).ty)) kind.Size ((o.incomplete || not ((begun && is_array (object_type o.declared).ty) || is_complete known (object_type o.declared).ty), kind.Incomplete) ∷ []) line known (size_of large is ∙ so)))
+      (ap (go_on (λ _. given (object_type o.declared))) (behind_first ∙ tried_true (nat_lt 65535 (bytes_of known (object_type o.declared).ty)) kind.Size ((is_waiting o.waiting || not ((begun && is_array (object_type o.declared).ty) || is_complete known (object_type o.declared).ty), kind.Incomplete) ∷ []) line known (size_of large is ∙ so)))
 
-  behind_second : (large : Bool) → large ≡ nat_lt 65535 (bytes_of known ty.ty) → large ≡ false → tried (rule.object_tests known said o begun) line known ≡ tried ((o.incomplete || not ((begun && is_array (object_type o.declared).ty) || is_complete known (object_type o.declared).ty), kind.Incomplete) ∷ []) line known
-  behind_second large is so = behind_first ∙ tried_false (nat_lt 65535 (bytes_of known (object_type o.declared).ty)) kind.Size ((o.incomplete || not ((begun && is_array (object_type o.declared).ty) || is_complete known (object_type o.declared).ty), kind.Incomplete) ∷ []) line known (size_of large is ∙ so)
+  behind_second : (large : Bool) → large ≡ nat_lt 65535 (bytes_of known ty.ty) → large ≡ false → tried (rule.object_tests known said o begun) line known ≡ tried ((is_waiting o.waiting || not ((begun && is_array (object_type o.declared).ty) || is_complete known (object_type o.declared).ty), kind.Incomplete) ∷ []) line known
+  behind_second large is so = behind_first ∙ tried_false (nat_lt 65535 (bytes_of known (object_type o.declared).ty)) kind.Size ((is_waiting o.waiting || not ((begun && is_array (object_type o.declared).ty) || is_complete known (object_type o.declared).ty), kind.Incomplete) ∷ []) line known (size_of large is ∙ so)
 
-  missing_is : (missing : Bool) → missing ≡ (o.incomplete || not ((begun && is_array ty.ty) || is_complete known ty.ty)) → (o.incomplete || not ((begun && is_array (object_type o.declared).ty) || is_complete known (object_type o.declared).ty)) ≡ missing
-  missing_is missing is = ap (λ d. o.incomplete || not ((begun && is_array (object_type d).ty) || is_complete known (object_type d).ty)) object_is ∙ sym is
+  missing_is : (missing : Bool) → missing ≡ (is_waiting o.waiting || not ((begun && is_array ty.ty) || is_complete known ty.ty)) → (is_waiting o.waiting || not ((begun && is_array (object_type o.declared).ty) || is_complete known (object_type o.declared).ty)) ≡ missing
+  missing_is missing is = ap (λ d. is_waiting o.waiting || not ((begun && is_array (object_type d).ty) || is_complete known (object_type d).ty)) object_is ∙ sym is
 
-  pub object_missing : (result : Result Qualified CheckError) (large missing : Bool) → large ≡ nat_lt 65535 (bytes_of known ty.ty) → large ≡ false → missing ≡ (o.incomplete || not ((begun && is_array ty.ty) || is_complete known ty.ty)) → missing ≡ true → result ≡ Err (errors.Kind kinds.Incomplete line) → Answers (λ t. t) result known (rule.object_rule said o begun line known)
+  pub object_missing : (result : Result Qualified CheckError) (large missing : Bool) → large ≡ nat_lt 65535 (bytes_of known ty.ty) → large ≡ false → missing ≡ (is_waiting o.waiting || not ((begun && is_array ty.ty) || is_complete known ty.ty)) → missing ≡ true → result ≡ Err (errors.Kind kinds.Incomplete line) → Answers (λ t. t) result known (rule.object_rule said o begun line known)
   object_missing result large missing is so tested wrong answer =
       refused_as (λ t. t) result known (rule.object_rule said o begun line known) (errors.Kind kinds.Incomplete line) answer
-      (ap (go_on (λ _. given (object_type o.declared))) (behind_second large is so ∙ tried_true (o.incomplete || not ((begun && is_array (object_type o.declared).ty) || is_complete known (object_type o.declared).ty)) kind.Incomplete [] line known (missing_is missing tested ∙ wrong)))
+      (ap (go_on (λ _. given (object_type o.declared))) (behind_second large is so ∙ tried_true (is_waiting o.waiting || not ((begun && is_array (object_type o.declared).ty) || is_complete known (object_type o.declared).ty)) kind.Incomplete [] line known (missing_is missing tested ∙ wrong)))
 
-  pub object_whole : (large missing : Bool) → large ≡ nat_lt 65535 (bytes_of known ty.ty) → large ≡ false → missing ≡ (o.incomplete || not ((begun && is_array ty.ty) || is_complete known ty.ty)) → missing ≡ false → rule.object_rule said o begun line known ≡ Ok (ty, known)
+  pub object_whole : (large missing : Bool) → large ≡ nat_lt 65535 (bytes_of known ty.ty) → large ≡ false → missing ≡ (is_waiting o.waiting || not ((begun && is_array ty.ty) || is_complete known ty.ty)) → missing ≡ false → rule.object_rule said o begun line known ≡ Ok (ty, known)
   object_whole large missing is so tested there =
-      ap (go_on (λ _. given (object_type o.declared))) (behind_second large is so ∙ tried_false (o.incomplete || not ((begun && is_array (object_type o.declared).ty) || is_complete known (object_type o.declared).ty)) kind.Incomplete [] line known (missing_is missing tested ∙ there))
+      ap (go_on (λ _. given (object_type o.declared))) (behind_second large is so ∙ tried_false (is_waiting o.waiting || not ((begun && is_array (object_type o.declared).ty) || is_complete known (object_type o.declared).ty)) kind.Incomplete [] line known (missing_is missing tested ∙ there))
       ∙ ap (λ d. Ok (object_type d, known)) object_is
 
 -- ---- an array whose initializer gives its length

@@ -262,10 +262,10 @@ fn named_type(
         return refused(Kind::Declare, line);
     }
     let ty = type_of(&outline.declared);
-    let incomplete = outline.incomplete;
+    let waiting = outline.waiting;
     checker
         .scopes
-        .bind(name, Binding::TypeName { ty, incomplete })
+        .bind(name, Binding::TypeName { ty, waiting })
 }
 
 fn file_declarator(

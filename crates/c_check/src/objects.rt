@@ -26,7 +26,7 @@ use c_outline::slot::Slot;
 use c_outline::specifiers::{Specified, Storage};
 use c_tables::checker::Checker;
 use c_tables::error::{CheckError, Kind, refused};
-use c_tables::scope::{Binding, Scopes};
+use c_tables::scope::{Binding, Scopes, is_waiting};
 use c_tables::types::{Types, like};
 use c_typed::{Object, Qualified, TExpr, TItem, TPlace, TStmt, Ty, is_array, is_scalar};
 use itoa::Buffer;
@@ -78,7 +78,7 @@ pub(crate) fn object_type(
     if is_large(types, ty.ty) {
         return refused(Kind::Size, line);
     }
-    if is_missing(types, ty.ty, outline.incomplete, given) {
+    if is_missing(types, ty.ty, is_waiting(outline.waiting), given) {
         return refused(Kind::Incomplete, line);
     }
     Ok(ty)

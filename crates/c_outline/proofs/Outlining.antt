@@ -9,7 +9,7 @@ use Rattle.c_tables.specs.declared.error.CheckError.{CheckError}
 use Rattle.c_tables.specs.declared.error.CheckError.TheVariants as errors
 use Rattle.type_rules.specs.Faults as kind
 use Rattle.type_rules.specs.Faults.{Fault}
-use Rattle.type_rules.specs.Known.{Known, Rule, given, go_on, tried}
+use Rattle.type_rules.specs.Known.{is_waiting, Known, Rule, given, go_on, tried}
 use Rattle.type_rules.specs.Names.{entry_of}
 use Rattle.type_rules.specs.Outlines.{Param, Made, ArrayMade, FunctionMade, Declared, ObjectDeclared, FunctionDeclared, Outline, array_or_part, behind, started, array_started, outlined, pointer_outline, param_outlined, param_tests, bind_param, param_rule, member_tests, member_rule, is_again, is_function, object_type}
 use Rattle.type_rules.specs.Rows.{plain, like, target_of, pointer_to, array_of, is_complete, fields_of, add_member}
@@ -120,10 +120,10 @@ param_function known name o line a f = rw (a, f, or_true o.bad)
 pub param_bad : (known : Known) (name : List ℕ) (o : Outline) (ty : Qualified) (line : ℕ) → is_again known name ≡ false → o.declared ≡ ObjectDeclared ty → o.bad || is_struct ty.ty ≡ true → tried (param_tests known name o) line known ≡ Err (record { kind = kind.Declare; line = line })
 param_bad known name o ty line a d b = rw (a, d, b)
 
-pub param_incomplete : (known : Known) (name : List ℕ) (o : Outline) (ty : Qualified) (line : ℕ) → is_again known name ≡ false → o.declared ≡ ObjectDeclared ty → o.bad || is_struct ty.ty ≡ false → o.incomplete || not (is_complete known ty.ty) ≡ true → tried (param_tests known name o) line known ≡ Err (record { kind = kind.Incomplete; line = line })
+pub param_incomplete : (known : Known) (name : List ℕ) (o : Outline) (ty : Qualified) (line : ℕ) → is_again known name ≡ false → o.declared ≡ ObjectDeclared ty → o.bad || is_struct ty.ty ≡ false → is_waiting o.waiting || not (is_complete known ty.ty) ≡ true → tried (param_tests known name o) line known ≡ Err (record { kind = kind.Incomplete; line = line })
 param_incomplete known name o ty line a d b i = rw (a, d, b, i)
 
-pub param_good : (known : Known) (name : List ℕ) (o : Outline) (ty : Qualified) (line : ℕ) → is_again known name ≡ false → o.declared ≡ ObjectDeclared ty → o.bad || is_struct ty.ty ≡ false → o.incomplete || not (is_complete known ty.ty) ≡ false → tried (param_tests known name o) line known ≡ Ok (known, known)
+pub param_good : (known : Known) (name : List ℕ) (o : Outline) (ty : Qualified) (line : ℕ) → is_again known name ≡ false → o.declared ≡ ObjectDeclared ty → o.bad || is_struct ty.ty ≡ false → is_waiting o.waiting || not (is_complete known ty.ty) ≡ false → tried (param_tests known name o) line known ≡ Ok (known, known)
 param_good known name o ty line a d b i = rw (a, d, b, i)
 
 -- ---- the tests of a member
@@ -137,10 +137,10 @@ member_function known number name o line a f = rw (a, f, or_true o.bad)
 pub member_bad : (known : Known) (number : ℕ) (name : List ℕ) (o : Outline) (ty : Qualified) (line : ℕ) → is_some (entry_of (fields_of known number) name) ≡ false → o.declared ≡ ObjectDeclared ty → o.bad || ty.constant ≡ true → tried (member_tests known number name o) line known ≡ Err (record { kind = kind.Declare; line = line })
 member_bad known number name o ty line a d b = rw (a, d, b)
 
-pub member_incomplete : (known : Known) (number : ℕ) (name : List ℕ) (o : Outline) (ty : Qualified) (line : ℕ) → is_some (entry_of (fields_of known number) name) ≡ false → o.declared ≡ ObjectDeclared ty → o.bad || ty.constant ≡ false → o.incomplete || not (is_complete known ty.ty) ≡ true → tried (member_tests known number name o) line known ≡ Err (record { kind = kind.Incomplete; line = line })
+pub member_incomplete : (known : Known) (number : ℕ) (name : List ℕ) (o : Outline) (ty : Qualified) (line : ℕ) → is_some (entry_of (fields_of known number) name) ≡ false → o.declared ≡ ObjectDeclared ty → o.bad || ty.constant ≡ false → is_waiting o.waiting || not (is_complete known ty.ty) ≡ true → tried (member_tests known number name o) line known ≡ Err (record { kind = kind.Incomplete; line = line })
 member_incomplete known number name o ty line a d b i = rw (a, d, b, i)
 
-pub member_good : (known : Known) (number : ℕ) (name : List ℕ) (o : Outline) (ty : Qualified) (line : ℕ) → is_some (entry_of (fields_of known number) name) ≡ false → o.declared ≡ ObjectDeclared ty → o.bad || ty.constant ≡ false → o.incomplete || not (is_complete known ty.ty) ≡ false → tried (member_tests known number name o) line known ≡ Ok (known, known)
+pub member_good : (known : Known) (number : ℕ) (name : List ℕ) (o : Outline) (ty : Qualified) (line : ℕ) → is_some (entry_of (fields_of known number) name) ≡ false → o.declared ≡ ObjectDeclared ty → o.bad || ty.constant ≡ false → is_waiting o.waiting || not (is_complete known ty.ty) ≡ false → tried (member_tests known number name o) line known ≡ Ok (known, known)
 member_good known number name o ty line a d b i = rw (a, d, b, i)
 
 -- ---- a parameter and a member that stand

@@ -5,11 +5,15 @@ use Rattle.c_ints.specs.declared.types.IntTy.TheVariants as int
 use Rattle.c_token.specs.declared.token.Keyword.{Keyword}
 use Rattle.c_token.specs.declared.token.Keyword.TheVariants as words
 use Rattle.c_tables.specs.Answers.{Refuses}
+use Rattle.c_tables.specs.Tables.{waiting_of}
 use Rattle.c_tables.specs.declared.error.CheckError.{CheckError}
+use Rattle.c_tables.specs.declared.scope.Waiting.{Waiting}
+use Rattle.c_tables.specs.declared.scope.Waiting.TheVariants as waitings
 use Rattle.c_typed.specs.declared.types.Qualified.{Qualified}
 use Rattle.c_typed.specs.declared.types.Ty.{Ty}
 use Rattle.c_typed.specs.declared.types.Ty.TheVariants.{Void}
 use Rattle.type_rules.specs.Faults.{Fault}
+use Rattle.type_rules.specs.Known as rule_known
 use Rattle.type_rules.specs.Known.{Known}
 use Rattle.type_rules.specs.Specifiers as rule
 use Rattle.type_rules.specs.Specifiers.{Gathered, has, is_orderly, of_int}
@@ -47,19 +51,25 @@ storage_in (w ∷ ws) = storage_after w (storage_in ws)
 abbrev pub base_of : Base → rule.Base
 base_of (bases.Structure number) = rule.StructBase number
 base_of bases.Enumeration = rule.EnumBase
-base_of (bases.Named ty incomplete) = rule.NamedBase ty incomplete
+base_of (bases.Named ty waiting) = rule.NamedBase ty (waiting_of waiting)
+
+abbrev pub waiting_kept : rule_known.Waiting → Waiting
+waiting_kept rule_known.Whole = waitings.Whole
+waiting_kept (rule_known.OneArray n) = waitings.OneArray n
+waiting_kept (rule_known.TwoArrays n m) = waitings.TwoArrays n m
+waiting_kept rule_known.Never = waitings.Never
 
 abbrev pub base_kept : rule.Base → Base
 base_kept (rule.StructBase number) = bases.Structure number
 base_kept rule.EnumBase = bases.Enumeration
-base_kept (rule.NamedBase ty incomplete) = bases.Named ty incomplete
+base_kept (rule.NamedBase ty waiting) = bases.Named ty (waiting_kept waiting)
 
 abbrev pub first_of : List rule.Base → Option Base
 first_of [] = None
 first_of (b ∷ bs) = Some (base_kept b)
 
 abbrev pub named_of : NamedType → rule.Named
-named_of n = record { ty = n.ty; incomplete = n.incomplete }
+named_of n = record { ty = n.ty; waiting = waiting_of n.waiting }
 
 -- What is kept of the specifiers so far.
 abbrev pub kept_of : Gathered → Words

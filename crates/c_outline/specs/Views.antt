@@ -2,7 +2,7 @@
 use Rattle.std.specs.Prelude.{Bool, true, false, map}
 use Rattle.type_rules.specs.Outlines as rule
 use Rattle.type_rules.specs.Specifiers as rule_specifiers
-use Rattle.c_tables.specs.Tables.{scope_of}
+use Rattle.c_tables.specs.Tables.{scope_of, waiting_of}
 use Rattle.c_outline.specs.declared.outline.Declared.{Declared}
 use Rattle.c_outline.specs.declared.outline.Declared.TheVariants as declared
 use Rattle.c_outline.specs.declared.outline.Made.{Made}
@@ -37,7 +37,7 @@ is_register storages.Register = true
 is_register _ = false
 
 abbrev pub specified_of : Specified → rule_specifiers.Specified
-specified_of s = record { ty = s.ty; incomplete = s.incomplete; is_typedef = is_typedef s.storage; fixed = is_static s.storage; register = is_register s.storage; interrupt = s.interrupt; line = s.line }
+specified_of s = record { ty = s.ty; waiting = waiting_of s.waiting; is_typedef = is_typedef s.storage; fixed = is_static s.storage; register = is_register s.storage; interrupt = s.interrupt; line = s.line }
 
 -- ---- declarators
 
@@ -53,4 +53,4 @@ declared_of (declared.Object ty) = rule.ObjectDeclared ty
 declared_of (declared.Function result params names) = rule.FunctionDeclared result (map param_of params.items) (scope_of names)
 
 abbrev pub outline_of : Outline → rule.Outline
-outline_of o = record { declared = declared_of o.declared; bad = o.bad; incomplete = o.incomplete }
+outline_of o = record { declared = declared_of o.declared; bad = o.bad; waiting = waiting_of o.waiting }

@@ -2,18 +2,18 @@
 
 ghost use Rattle.std.specs.Prelude.{◌≡◌, ◌||◌, true, [], map, IfOk};
 ghost use Rattle.c_tables.specs.Answers.{Answers, Learns};
-ghost use Rattle.c_tables.specs.Tables.{known_of, scope_of, scopes_in, types_in};
+ghost use Rattle.c_tables.specs.Tables.{known_of, scope_of, scopes_in, types_in, waiting_of};
 ghost use Rattle.c_typed.specs.Sameness as sameness;
 ghost use Rattle.type_rules.specs.Known.{Known, tried};
 ghost use Rattle.type_rules.specs.Outlines as rule;
 ghost use Rattle.type_rules.specs.Rows.{is_complete};
-ghost use Rattle.c_outline.specs.Lists.{Lists, array_of_declared, outermost};
+ghost use Rattle.c_outline.specs.Lists.{Lists, array_of_declared, by_array, outermost, pointer_instead, waiting_element};
 ghost use Rattle.c_outline.specs.Views.{declared_of, made_of, outline_of, param_of, specified_of};
 
-use crate::specifiers::{Specified, is_register};
+use crate::specifiers::{Specified, is_register, waits};
 use c_tables::checker::Checker;
 use c_tables::error::{CheckError, Kind, copied, refused};
-use c_tables::scope::{Binding, Names, Scopes};
+use c_tables::scope::{Binding, Names, Scopes, Waiting, is_waiting};
 use c_tables::types::{Types, like, plain};
 use c_typed::{Object, Qualified, Ty, is_void};
 use std::alloc::Global;
@@ -52,13 +52,12 @@ pub enum Declared {
     },
 }
 
-/// What is declared, whether no declaration has such a type, and whether it has parts of a type that
-/// isn't complete.
+/// What is declared, and whether no declaration has such a type; of a type that waits for arrays it has the element.
 #[derive(Drop)]
 pub struct Outline {
     pub declared: Declared,
     pub bad: bool,
-    pub incomplete: bool,
+    pub waiting: Waiting,
 }
 
 impl ParamList {
@@ -105,11 +104,11 @@ fn no_object(ty: Qualified, outline: &Outline) -> Outline
     Outline {
         declared: Declared::Object(ty),
         bad: true,
-        incomplete: outline.incomplete,
+        waiting: outline.waiting,
     }
 }
 
-// The array of an element. Of what isn't complete no type is made: it would have the wrong size once its element is complete.
+// The array of an element. One of what isn't complete waits: it would have the wrong size once its element is complete.
 fn array_or_part(
     types: &mut Types,
     length: u32,
@@ -124,13 +123,13 @@ fn array_or_part(
         Ok(Outline {
             declared: Declared::Object(ty),
             bad,
-            incomplete: outline.incomplete,
+            waiting: outline.waiting,
         })
     } else {
         Ok(Outline {
             declared: Declared::Object(element),
             bad,
-            incomplete: true,
+            waiting: waits(length, outline.waiting),
         })
     }
 }
@@ -157,9 +156,9 @@ fn function_outline(list: ParamList, outline: &Outline) -> Outline
             },
             bad: either(
                 outline.bad,
-                either(outline.incomplete, has_no_result(result.ty)),
+                either(is_waiting(outline.waiting), has_no_result(result.ty)),
             ),
-            incomplete: outline.incomplete,
+            waiting: outline.waiting,
         },
         Declared::Function { result, .. } => Outline {
             declared: Declared::Function {
@@ -168,7 +167,7 @@ fn function_outline(list: ParamList, outline: &Outline) -> Outline
                 names,
             },
             bad: true,
-            incomplete: outline.incomplete,
+            waiting: outline.waiting,
         },
     }
 }
@@ -183,14 +182,33 @@ fn behind(types: &mut Types, suffix: Made, outline: &Outline) -> Result<Outline,
     }
 }
 
-/// An object of a type, which may have arrays of what wasn't complete.
-pub fn object(ty: Qualified, incomplete: bool) -> Outline
-    ensures { outline_of result ≡ rule.object_outline ty incomplete }
+fn lost(waiting: Waiting) -> Waiting
+    ensures { waiting_of result ≡ rule.lost (waiting_of waiting) }
+{
+    match waiting {
+        Waiting::Whole => Waiting::Whole,
+        Waiting::OneArray(_) | Waiting::TwoArrays(..) | Waiting::Never => Waiting::Never,
+    }
+}
+
+// The element of what waits isn't complete, so a pointer in its place is one to what waits.
+fn waiting_for(ty: Ty, waiting: Waiting) -> Waiting
+    ensures { waiting_of result ≡ rule.waiting_for ty (waiting_of waiting) }
+{
+    match ty {
+        Ty::Pointer(_) => lost(waiting),
+        Ty::Void | Ty::Int(_) | Ty::Array { .. } | Ty::Struct(_) => waiting,
+    }
+}
+
+/// An object of a type, with what that waits for.
+pub fn object(ty: Qualified, waiting: Waiting) -> Outline
+    ensures { outline_of result ≡ rule.object_outline ty (waiting_of waiting) }
 {
     Outline {
         declared: Declared::Object(ty),
         bad: false,
-        incomplete,
+        waiting: waiting_for(ty.ty, waiting),
     }
 }
 
@@ -215,8 +233,8 @@ fn pointer_outline(types: &mut Types, element: &Outline) -> Result<Outline, Chec
             let to = types.pointer_to(*ty)?;
             Ok(Outline {
                 declared: Declared::Object(plain(to)),
-                bad: element.bad,
-                incomplete: element.incomplete,
+                bad: either(element.bad, is_void(ty.ty)),
+                waiting: element.waiting,
             })
         }
         Declared::Function { result, .. } => Ok(no_object(*result, element)),
@@ -250,9 +268,47 @@ fn array_in(declared: &Declared) -> Option<(Qualified, usize)>
     }
 }
 
-// A parameter without suffixes, which may be an array by the name of its type.
+// The element of what waits for one array.
+fn waiting_in(outline: &Outline) -> Option<Qualified>
+    ensures { result ≡ waiting_element (outline_of outline.now).waiting (outline_of outline.now).declared }
+{
+    match outline.waiting {
+        Waiting::OneArray(_) => match &outline.declared {
+            Declared::Object(element) => Some(*element),
+            Declared::Function { .. } => None,
+        },
+        Waiting::Whole | Waiting::TwoArrays(..) | Waiting::Never => None,
+    }
+}
+
+// A parameter without suffixes, which may be an array by the name of its type, also one that waits.
 fn array_started(types: &mut Types, outline: Outline) -> Result<Outline, CheckError>
     ensures { (known : Known) → Answers outline_of result (types_in types.new known) (rule.array_started (outline_of outline) (outline_of outline).declared (types_in types.old known)) }
+{
+    match waiting_in(&outline) {
+        Some(element) => element_started(types, &outline, element),
+        None => whole_started(types, outline),
+    }
+}
+
+// A pointer to the element of an array that waits.
+fn element_started(
+    types: &mut Types,
+    outline: &Outline,
+    element: Qualified,
+) -> Result<Outline, CheckError>
+    ensures { (known : Known) → Answers outline_of result (types_in types.new known) (pointer_instead (outline_of outline.now) element (types_in types.old known)) }
+{
+    let to = types.pointer_to(element)?;
+    Ok(Outline {
+        declared: Declared::Object(plain(to)),
+        bad: outline.bad,
+        waiting: Waiting::Whole,
+    })
+}
+
+fn whole_started(types: &mut Types, outline: Outline) -> Result<Outline, CheckError>
+    ensures { (known : Known) → Answers outline_of result (types_in types.new known) (by_array (outline_of outline) (array_of_declared (outline_of outline).declared) (types_in types.old known)) }
 {
     let Some((whole, element)) = array_in(&outline.declared) else {
         return Ok(outline);
@@ -262,7 +318,7 @@ fn array_started(types: &mut Types, outline: Outline) -> Result<Outline, CheckEr
     Ok(Outline {
         declared: Declared::Object(plain(to)),
         bad: outline.bad,
-        incomplete: outline.incomplete,
+        waiting: outline.waiting,
     })
 }
 
@@ -311,7 +367,7 @@ fn param_type(
     if either(outline.bad, is_structure(ty.ty)) {
         return refused(Kind::Declare, line);
     }
-    if either(outline.incomplete, !checker.types.is_complete(ty.ty)) {
+    if either(is_waiting(outline.waiting), !checker.types.is_complete(ty.ty)) {
         return refused(Kind::Incomplete, line);
     }
     Ok(*ty)
@@ -380,7 +436,7 @@ fn member_type(
     if either(outline.bad, ty.constant) {
         return refused(Kind::Declare, line);
     }
-    if either(outline.incomplete, !types.is_complete(ty.ty)) {
+    if either(is_waiting(outline.waiting), !types.is_complete(ty.ty)) {
         return refused(Kind::Incomplete, line);
     }
     Ok(*ty)

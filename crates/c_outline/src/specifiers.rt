@@ -3,8 +3,11 @@
 ghost use Rattle.std.specs.Prelude.{◌≡◌, ◌&&◌, ◌||◌, not};
 ghost use Rattle.std.specs.Option.{option_map};
 ghost use Rattle.c_tables.specs.Answers.{Answers};
+ghost use Rattle.c_tables.specs.Tables.{types_in, waiting_of};
+ghost use Rattle.type_rules.specs.Known as rule_known;
 ghost use Rattle.type_rules.specs.Known.{Known};
 ghost use Rattle.type_rules.specs.Names as names;
+ghost use Rattle.type_rules.specs.Rows.{is_complete};
 ghost use Rattle.type_rules.specs.Specifiers as rule;
 ghost use Rattle.type_rules.specs.Specifiers.{Gathered};
 ghost use Rattle.c_outline.specs.Gathering as gathering;
@@ -13,7 +16,8 @@ ghost use Rattle.c_outline.specs.Views as views;
 
 use c_ints::IntTy;
 use c_tables::error::{CheckError, Kind, refused};
-use c_tables::types::plain;
+use c_tables::scope::{Waiting, is_waiting};
+use c_tables::types::{Types, plain};
 use c_token::Keyword;
 use c_typed::{Qualified, Ty};
 
@@ -37,13 +41,12 @@ pub enum Storage {
     Register,
 }
 
-/// What names a type without a word: the structure of a number, an enumeration, or the name of a type, of which `incomplete` says that
-/// it has arrays of what wasn't complete.
+/// What names a type without a word: the structure of a number, an enumeration, or the name of a type, with what that waits for.
 #[derive(Clone, Copy)]
 pub enum Base {
     Structure(usize),
     Enumeration,
-    Named { ty: Qualified, incomplete: bool },
+    Named { ty: Qualified, waiting: Waiting },
 }
 
 /// The specifiers that were read so far. `bad` says that no declaration has them.
@@ -64,12 +67,12 @@ pub struct Words {
     bad: bool,
 }
 
-/// What specifiers say: a type, whether it has arrays of what wasn't complete, a word on storage, and whether `interrupt` stands among
-/// them. `line` is that of the first.
+/// What specifiers say: a type, what it waits for, a word on storage, and whether `interrupt` stands among them. `line` is that of the
+/// first.
 #[derive(Clone, Copy)]
 pub struct Specified {
     pub ty: Qualified,
-    pub incomplete: bool,
+    pub waiting: Waiting,
     pub storage: Storage,
     pub interrupt: bool,
     pub line: u32,
@@ -130,20 +133,26 @@ fn of_int(ty: Option<IntTy>) -> Option<Ty>
     }
 }
 
-// The type that specifiers name: with its own qualifiers, and whether it has arrays of what wasn't complete.
+// The type that specifiers name: with its own qualifiers, and what it waits for.
 #[derive(Clone, Copy)]
 struct NamedType {
     ty: Qualified,
-    incomplete: bool,
+    waiting: Waiting,
+}
+
+fn wholly(ty: Qualified) -> NamedType
+    ensures { named_of result ≡ record { ty = ty; waiting = rule_known.Whole } }
+{
+    NamedType {
+        ty,
+        waiting: Waiting::Whole,
+    }
 }
 
 fn plainly(ty: Ty) -> NamedType
     ensures { named_of result ≡ rule.plainly ty }
 {
-    NamedType {
-        ty: plain(ty),
-        incomplete: false,
-    }
+    wholly(plain(ty))
 }
 
 fn named_by(base: Base) -> NamedType
@@ -152,7 +161,53 @@ fn named_by(base: Base) -> NamedType
     match base {
         Base::Structure(number) => plainly(Ty::Struct(number)),
         Base::Enumeration => plainly(Ty::Int(IntTy::Int)),
-        Base::Named { ty, incomplete } => NamedType { ty, incomplete },
+        Base::Named { ty, waiting } => NamedType { ty, waiting },
+    }
+}
+
+/// An array more, round those that wait.
+pub fn waits(count: u32, waiting: Waiting) -> Waiting
+    ensures { waiting_of result ≡ rule_known.waits count (waiting_of waiting) }
+{
+    match waiting {
+        Waiting::Whole => Waiting::OneArray(count),
+        Waiting::OneArray(inner) => Waiting::TwoArrays(count, inner),
+        Waiting::TwoArrays(..) | Waiting::Never => Waiting::Never,
+    }
+}
+
+// Whether an array can be made of this.
+fn is_element(types: &Types, inner: NamedType) -> bool
+    ensures { (known : Known) → result ≡ (not (rule_known.is_waiting (waiting_of inner.waiting)) && is_complete (types_in types.now known) inner.ty.ty) }
+{
+    !is_waiting(inner.waiting) && types.is_complete(inner.ty.ty)
+}
+
+// An array of this, where that is complete by now; otherwise it waits.
+fn grown(types: &mut Types, count: u32, inner: NamedType) -> Result<NamedType, CheckError>
+    ensures { (known : Known) → Answers named_of result (types_in types.new known) (rule.grown count (named_of inner) (types_in types.old known)) }
+{
+    if !is_element(types, inner) {
+        return Ok(NamedType {
+            ty: inner.ty,
+            waiting: waits(count, inner.waiting),
+        });
+    }
+    let ty = types.array_of(inner.ty, count)?;
+    Ok(wholly(ty))
+}
+
+// Arrays that wait are tried again, the inner one first.
+fn remade(types: &mut Types, named: NamedType) -> Result<NamedType, CheckError>
+    ensures { (known : Known) → Answers named_of result (types_in types.new known) (rule.remade named.ty (waiting_of named.waiting) (types_in types.old known)) }
+{
+    match named.waiting {
+        Waiting::Whole | Waiting::Never => Ok(named),
+        Waiting::OneArray(count) => grown(types, count, wholly(named.ty)),
+        Waiting::TwoArrays(outer, inner) => {
+            let element = grown(types, inner, wholly(named.ty))?;
+            grown(types, outer, element)
+        }
     }
 }
 
@@ -376,19 +431,25 @@ impl Words {
 
     /// What the specifiers say at a site. `line` is that of the first of them, and `in_file` says that no
     /// block is open.
-    pub fn finished(self, site: Site, in_file: bool, line: u32) -> Result<Specified, CheckError>
-        ensures { (g : Gathered) (known : Known) → self ≡ kept_of g → in_file ≡ names.in_file known → Answers views.specified_of result known (rule.specifiers (views.site_of site) g line known) }
+    pub fn finished(
+        self,
+        types: &mut Types,
+        site: Site,
+        in_file: bool,
+        line: u32,
+    ) -> Result<Specified, CheckError>
+        ensures { (g : Gathered) (known : Known) → self ≡ kept_of g → in_file ≡ names.in_file known → Answers views.specified_of result (types_in types.new known) (rule.specifiers (views.site_of site) g line (types_in types.old known)) }
     {
         let Some(named) = self.named() else {
             return refused(Kind::Declare, line);
         };
-        let NamedType { ty, incomplete } = named;
-        if self.is_refused(ty, site, in_file) {
+        if self.is_refused(named.ty, site, in_file) {
             return refused(Kind::Declare, line);
         }
+        let whole = remade(types, named)?;
         Ok(Specified {
-            ty: self.qualified(ty),
-            incomplete,
+            ty: self.qualified(whole.ty),
+            waiting: whole.waiting,
             storage: self.storage,
             interrupt: self.interrupt,
             line,

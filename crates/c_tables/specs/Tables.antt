@@ -13,6 +13,8 @@ use Rattle.c_tables.specs.declared.scope.Binding.{Binding}
 use Rattle.c_tables.specs.declared.scope.Binding.TheVariants as bindings
 use Rattle.c_tables.specs.declared.scope.Names.{Names}
 use Rattle.c_tables.specs.declared.scope.Scopes.{Scopes}
+use Rattle.c_tables.specs.declared.scope.Waiting.{Waiting}
+use Rattle.c_tables.specs.declared.scope.Waiting.TheVariants as waitings
 use Rattle.c_tables.specs.declared.statics.Statics.{Statics}
 use Rattle.c_tables.specs.declared.types.Field.{Field}
 use Rattle.c_tables.specs.declared.types.Progress.{Progress}
@@ -45,11 +47,17 @@ types_in t known = record known { targets = t.targets.keys; shapes = map shape_o
 
 -- ---- names
 
+abbrev pub waiting_of : Waiting → rule.Waiting
+waiting_of waitings.Whole = rule.Whole
+waiting_of (waitings.OneArray n) = rule.OneArray n
+waiting_of (waitings.TwoArrays n m) = rule.TwoArrays n m
+waiting_of waitings.Never = rule.Never
+
 abbrev pub binding_of : Binding → rule.Binding
 binding_of (bindings.Object object ty fixed) = rule.ObjectName object ty fixed
 binding_of (bindings.Bit register bit) = rule.BitName register bit
 binding_of (bindings.Function number) = rule.FunctionName number
-binding_of (bindings.TypeName ty incomplete) = rule.TypeNamed ty incomplete
+binding_of (bindings.TypeName ty waiting) = rule.TypeNamed ty (waiting_of waiting)
 binding_of (bindings.Enumerator bits) = rule.EnumeratorName (cut int.Int (pos bits))
 
 abbrev pub scope_of : Names → Scope

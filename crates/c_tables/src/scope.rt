@@ -2,16 +2,37 @@
 
 ghost use Rattle.std.specs.Prelude.{◌≡◌, ◌-◌, Ok, [], length, map};
 ghost use Rattle.std.specs.Option.{option_map};
+ghost use Rattle.type_rules.specs.Known as known;
 ghost use Rattle.type_rules.specs.Known.{Known};
 ghost use Rattle.type_rules.specs.Names as names;
 ghost use Rattle.c_tables.specs.Answers.{Learns};
-ghost use Rattle.c_tables.specs.Tables.{binding_of, scope_of, scopes_of, scopes_in};
+ghost use Rattle.c_tables.specs.Tables.{binding_of, waiting_of, scope_of, scopes_of, scopes_in};
 
 use crate::error::{CheckError, Kind, copied, refused};
 use c_ints::IntTy;
 use c_typed::{Object, Qualified, Ty};
 use indexmap::IndexMap;
 use std::alloc::Global;
+
+/// What is still to be made of a type whose element isn't complete so far: nothing, an array of so many of it, an array of arrays,
+/// the outer number first, or what can't be made any more.
+#[derive(Clone, Copy, PartialEq, Eq)]
+pub enum Waiting {
+    Whole,
+    OneArray(u32),
+    TwoArrays(u32, u32),
+    Never,
+}
+
+/// Whether anything is still to be made.
+pub fn is_waiting(waiting: Waiting) -> bool
+    ensures { result ≡ known.is_waiting (waiting_of waiting) }
+{
+    match waiting {
+        Waiting::Whole => false,
+        Waiting::OneArray(_) | Waiting::TwoArrays(..) | Waiting::Never => true,
+    }
+}
 
 /// What a name stands for.
 #[derive(Clone, Copy, PartialEq, Eq)]
@@ -30,10 +51,10 @@ pub enum Binding {
     },
     /// The function of this number among those that are declared.
     Function(usize),
-    /// A type. `incomplete` says that it has arrays of what wasn't complete where it was named.
+    /// A type, with what it waits for.
     TypeName {
         ty: Qualified,
-        incomplete: bool,
+        waiting: Waiting,
     },
     /// The number of type int that has these bits, 0 to 65,535.
     Enumerator(u32),

@@ -17,7 +17,7 @@ use Rattle.type_rules.specs.Declarators.{Context, of_member, of_param, body_open
 use Rattle.type_rules.specs.Declarators as rule
 use Rattle.type_rules.specs.Faults as kind
 use Rattle.type_rules.specs.Faults.{Fault}
-use Rattle.type_rules.specs.Known.{Scope, Known, Rule, Open, Closed, given, tried, go_on}
+use Rattle.type_rules.specs.Known.{is_waiting, Scope, Known, Rule, Open, Closed, given, tried, go_on}
 use Rattle.type_rules.specs.Names.{enter_list, leave_list}
 use Rattle.type_rules.specs.Outlines.{Param, Made, ArrayMade, FunctionMade, Outline, object_outline, outlined, param_outlined, param_rule, member_rule, declarator_line}
 use Rattle.type_rules.specs.Rows.{is_absent, progress_of, set_progress}
@@ -99,7 +99,7 @@ specs_end xs i context le g k = at_end spec_of (λ l. rest_specs l context g k) 
 -- ---- specifiers of names of types
 
 abbrev pub after_named : Symbols → Specified → Rule Qualified
-after_named pointers base = λ k. go_on (λ (x : Known). with_pointers pointers base.ty) (tried ((base.incomplete, kind.Incomplete) ∷ []) base.line k)
+after_named pointers base = λ k. go_on (λ (x : Known). with_pointers pointers base.ty) (tried ((is_waiting base.waiting, kind.Incomplete) ∷ []) base.line k)
 
 abbrev pub finish_name : SpecTrees → Symbols → Gathered → Rule Qualified
 finish_name t pointers g = λ known. go_on (after_named pointers) (specifiers OfTypeName g (specs_line t) known)
@@ -221,10 +221,10 @@ fields_end xs i s number said here le goes = goes ∙ at_end next_declarator_of 
 pub field_split : (pointers : Symbols) (n : Symbol) (ss : SuffixTrees) (s : Specified) (number : ℕ) (known : Known) → field (tree.Declares pointers n ss) s number known ≡ go_on (λ (o : Outline). member_rule number o n.bytes (declarator_line pointers n)) (outline_of (tree.Declares pointers n ss) s false known)
 unfolding field
 field_split pointers n ss s number known = by_base (with_pointers pointers s.ty known) where
-  by_made : (base : Qualified) (said : Result (List Made × Known) Fault) → go_on (λ (made : List Made) (k : Known). go_on (λ (o : Outline). member_rule number o n.bytes (declarator_line pointers n)) (outlined made (object_outline base s.incomplete) k)) said ≡ go_on (λ (o : Outline). member_rule number o n.bytes (declarator_line pointers n)) (go_on (λ (made : List Made). outlined made (object_outline base s.incomplete)) said)
-  by_made base said = sym (go_on_both (λ (made : List Made). outlined made (object_outline base s.incomplete)) (λ (o : Outline). member_rule number o n.bytes (declarator_line pointers n)) said)
+  by_made : (base : Qualified) (said : Result (List Made × Known) Fault) → go_on (λ (made : List Made) (k : Known). go_on (λ (o : Outline). member_rule number o n.bytes (declarator_line pointers n)) (outlined made (object_outline base s.waiting) k)) said ≡ go_on (λ (o : Outline). member_rule number o n.bytes (declarator_line pointers n)) (go_on (λ (made : List Made). outlined made (object_outline base s.waiting)) said)
+  by_made base said = sym (go_on_both (λ (made : List Made). outlined made (object_outline base s.waiting)) (λ (o : Outline). member_rule number o n.bytes (declarator_line pointers n)) said)
 
-  by_base : (said : Result (Qualified × Known) Fault) → go_on (λ (base : Qualified) (j : Known). go_on (λ (made : List Made) (k : Known). go_on (λ (o : Outline). member_rule number o n.bytes (declarator_line pointers n)) (outlined made (object_outline base s.incomplete) k)) (suffixes ss false j)) said ≡ go_on (λ (o : Outline). member_rule number o n.bytes (declarator_line pointers n)) (go_on (λ (base : Qualified) (j : Known). go_on (λ (made : List Made). outlined made (object_outline base s.incomplete)) (suffixes ss false j)) said)
+  by_base : (said : Result (Qualified × Known) Fault) → go_on (λ (base : Qualified) (j : Known). go_on (λ (made : List Made) (k : Known). go_on (λ (o : Outline). member_rule number o n.bytes (declarator_line pointers n)) (outlined made (object_outline base s.waiting) k)) (suffixes ss false j)) said ≡ go_on (λ (o : Outline). member_rule number o n.bytes (declarator_line pointers n)) (go_on (λ (base : Qualified) (j : Known). go_on (λ (made : List Made). outlined made (object_outline base s.waiting)) (suffixes ss false j)) said)
   by_base (Err fault) = refl
   by_base (Ok x) = by_made x.0 (suffixes ss false x.1)
 
@@ -241,14 +241,14 @@ field_refused t pointers n ss s number known e is h = subst (λ t. Refuses e (fi
 abbrev pub after_base : SuffixTrees → Bool → Bool → Qualified → Rule Outline
 after_base ss bodies incomplete base = λ k. go_on (λ (made : List Made). outlined made (object_outline base incomplete)) (suffixes ss bodies k)
 
-pub outline_ends : (t : DeclaratorTree) (pointers : Symbols) (n : Symbol) (ss : SuffixTrees) (s : Specified) (bodies : Bool) (base : Qualified) (made : List Made) (known mid here : Known) → t ≡ tree.Declares pointers n ss → with_pointers pointers s.ty known ≡ Ok (base, mid) → suffixes ss bodies mid ≡ Ok (made, here) → outline_of t s bodies known ≡ outlined made (object_outline base s.incomplete) here
-outline_ends t pointers n ss s bodies base made known mid here e p m = ap (λ t. outline_of t s bodies known) e ∙ ap (go_on (after_base ss bodies s.incomplete)) p ∙ ap (go_on (λ (made : List Made). outlined made (object_outline base s.incomplete))) m
+pub outline_ends : (t : DeclaratorTree) (pointers : Symbols) (n : Symbol) (ss : SuffixTrees) (s : Specified) (bodies : Bool) (base : Qualified) (made : List Made) (known mid here : Known) → t ≡ tree.Declares pointers n ss → with_pointers pointers s.ty known ≡ Ok (base, mid) → suffixes ss bodies mid ≡ Ok (made, here) → outline_of t s bodies known ≡ outlined made (object_outline base s.waiting) here
+outline_ends t pointers n ss s bodies base made known mid here e p m = ap (λ t. outline_of t s bodies known) e ∙ ap (go_on (after_base ss bodies s.incomplete)) p ∙ ap (go_on (λ (made : List Made). outlined made (object_outline base s.waiting))) m
 
 pub outline_unpointed : (t : DeclaratorTree) (pointers : Symbols) (n : Symbol) (ss : SuffixTrees) (s : Specified) (bodies : Bool) (known : Known) (e : CheckError) → t ≡ tree.Declares pointers n ss → Refuses e (with_pointers pointers s.ty known) → Refuses e (outline_of t s bodies known)
 outline_unpointed t pointers n ss s bodies known e is h = subst (λ t. Refuses e (outline_of t s bodies known)) (sym is) (refused_through e (after_base ss bodies s.incomplete) (with_pointers pointers s.ty known) h)
 
 pub outline_unmade : (t : DeclaratorTree) (pointers : Symbols) (n : Symbol) (ss : SuffixTrees) (s : Specified) (bodies : Bool) (base : Qualified) (known mid : Known) (e : CheckError) → t ≡ tree.Declares pointers n ss → with_pointers pointers s.ty known ≡ Ok (base, mid) → Refuses e (suffixes ss bodies mid) → Refuses e (outline_of t s bodies known)
-outline_unmade t pointers n ss s bodies base known mid e is p h = subst (λ t. Refuses e (outline_of t s bodies known)) (sym is) (subst (Refuses e) (sym (ap (go_on (after_base ss bodies s.incomplete)) p)) (refused_through e (λ (made : List Made). outlined made (object_outline base s.incomplete)) (suffixes ss bodies mid) h))
+outline_unmade t pointers n ss s bodies base known mid e is p h = subst (λ t. Refuses e (outline_of t s bodies known)) (sym is) (subst (Refuses e) (sym (ap (go_on (after_base ss bodies s.incomplete)) p)) (refused_through e (λ (made : List Made). outlined made (object_outline base s.waiting)) (suffixes ss bodies mid) h))
 
 -- ---- suffixes
 
@@ -379,7 +379,7 @@ abbrev pub param_ends : Shape → List Param → Specified → Outline → Rule 
 param_ends p before said o = param_rule before said o p.name (p.line said)
 
 abbrev pub param_made : Shape → List Param → Specified → Qualified → List Made → Rule (List Param)
-param_made p before said base made = λ k. go_on (param_ends p before said) (param_outlined made (object_outline base said.incomplete) k)
+param_made p before said base made = λ k. go_on (param_ends p before said) (param_outlined made (object_outline base said.waiting) k)
 
 abbrev pub param_pointed : Shape → Bool → List Param → Specified → Qualified → Rule (List Param)
 param_pointed p bodies before said base = λ k. go_on (param_made p before said base) (suffixes p.suffixed bodies k)
@@ -404,7 +404,7 @@ pub param_unnamed : (s : SpecTrees) (pointers : Symbols) (ss : SuffixTrees) (bod
 unfolding param
 param_unnamed s pointers ss bodies before k = refl
 
-pub param_whole : (p : Shape) (bodies : Bool) (before : List Param) (said : Specified) (base : Qualified) (made : List Made) (o : Outline) (known one two three four : Known) → specified p.specs (of_param bodies) known ≡ Ok (said, one) → with_pointers p.pointers said.ty one ≡ Ok (base, two) → suffixes p.suffixed bodies two ≡ Ok (made, three) → param_outlined made (object_outline base said.incomplete) three ≡ Ok (o, four) → shaped p bodies before known ≡ param_rule before said o p.name (p.line said) four
+pub param_whole : (p : Shape) (bodies : Bool) (before : List Param) (said : Specified) (base : Qualified) (made : List Made) (o : Outline) (known one two three four : Known) → specified p.specs (of_param bodies) known ≡ Ok (said, one) → with_pointers p.pointers said.ty one ≡ Ok (base, two) → suffixes p.suffixed bodies two ≡ Ok (made, three) → param_outlined made (object_outline base said.waiting) three ≡ Ok (o, four) → shaped p bodies before known ≡ param_rule before said o p.name (p.line said) four
 param_whole p bodies before said base made o known one two three four a b c d = ap (go_on (param_said p bodies before)) a ∙ ap (go_on (param_pointed p bodies before said)) b ∙ ap (go_on (param_made p before said base)) c ∙ ap (go_on (param_ends p before said)) d
 
 pub param_unsaid : (p : Shape) (bodies : Bool) (before : List Param) (known : Known) (e : CheckError) → Refuses e (specified p.specs (of_param bodies) known) → Refuses e (shaped p bodies before known)
@@ -416,8 +416,8 @@ param_unpointed p bodies before said known one e a h = subst (Refuses e) (sym (a
 pub param_unmade : (p : Shape) (bodies : Bool) (before : List Param) (said : Specified) (base : Qualified) (known one two : Known) (e : CheckError) → specified p.specs (of_param bodies) known ≡ Ok (said, one) → with_pointers p.pointers said.ty one ≡ Ok (base, two) → Refuses e (suffixes p.suffixed bodies two) → Refuses e (shaped p bodies before known)
 param_unmade p bodies before said base known one two e a b h = subst (Refuses e) (sym (ap (go_on (param_said p bodies before)) a ∙ ap (go_on (param_pointed p bodies before said)) b)) (refused_through e (param_made p before said base) (suffixes p.suffixed bodies two) h)
 
-pub param_unlined : (p : Shape) (bodies : Bool) (before : List Param) (said : Specified) (base : Qualified) (made : List Made) (known one two three : Known) (e : CheckError) → specified p.specs (of_param bodies) known ≡ Ok (said, one) → with_pointers p.pointers said.ty one ≡ Ok (base, two) → suffixes p.suffixed bodies two ≡ Ok (made, three) → Refuses e (param_outlined made (object_outline base said.incomplete) three) → Refuses e (shaped p bodies before known)
-param_unlined p bodies before said base made known one two three e a b c h = subst (Refuses e) (sym (ap (go_on (param_said p bodies before)) a ∙ ap (go_on (param_pointed p bodies before said)) b ∙ ap (go_on (param_made p before said base)) c)) (refused_through e (param_ends p before said) (param_outlined made (object_outline base said.incomplete) three) h)
+pub param_unlined : (p : Shape) (bodies : Bool) (before : List Param) (said : Specified) (base : Qualified) (made : List Made) (known one two three : Known) (e : CheckError) → specified p.specs (of_param bodies) known ≡ Ok (said, one) → with_pointers p.pointers said.ty one ≡ Ok (base, two) → suffixes p.suffixed bodies two ≡ Ok (made, three) → Refuses e (param_outlined made (object_outline base said.waiting) three) → Refuses e (shaped p bodies before known)
+param_unlined p bodies before said base made known one two three e a b c h = subst (Refuses e) (sym (ap (go_on (param_said p bodies before)) a ∙ ap (go_on (param_pointed p bodies before said)) b ∙ ap (go_on (param_made p before said base)) c)) (refused_through e (param_ends p before said) (param_outlined made (object_outline base said.waiting) three) h)
 
 -- ---- a body that opens
 

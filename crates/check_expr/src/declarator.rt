@@ -151,7 +151,8 @@ pub fn specified(
         words = specifier(spec, checker, context, words)?;
     }
     let in_file = checker.scopes.is_file();
-    words.finished(context.site, in_file, specs_line(specs))
+    let line = specs_line(specs);
+    words.finished(&mut checker.types, context.site, in_file, line)
 }
 
 #[cycle(declarator)]
@@ -245,7 +246,7 @@ pub fn outline(
 {
     let base = type_name::pointers(&declarator.pointers, checker, specified.ty)?;
     let made = suffixes(&declarator.suffixes, checker, bodies)?;
-    outlined(&mut checker.types, object(base, specified.incomplete), made)
+    outlined(&mut checker.types, object(base, specified.waiting), made)
 }
 
 #[cycle(declarator)]
@@ -314,7 +315,7 @@ fn param(
             let specified = specified(specs, checker, param_context(bodies))?;
             let base = type_name::pointers(&declarator.pointers, checker, specified.ty)?;
             let made = self::suffixes(&declarator.suffixes, checker, bodies)?;
-            let object = object(base, specified.incomplete);
+            let object = object(base, specified.waiting);
             let outline = param_outlined(&mut checker.types, object, made)?;
             let line = declarator_line(declarator);
             let name = &declarator.name.bytes;
@@ -328,7 +329,7 @@ fn param(
             let specified = specified(specs, checker, param_context(bodies))?;
             let base = type_name::pointers(pointers, checker, specified.ty)?;
             let made = self::suffixes(suffixes, checker, bodies)?;
-            let object = object(base, specified.incomplete);
+            let object = object(base, specified.waiting);
             let outline = param_outlined(&mut checker.types, object, made)?;
             add_param(checker, list, specified, &outline, &[], specified.line)
         }

@@ -26,7 +26,7 @@ use c_operate::places::size_of_type;
 use c_outline::specifiers::{Base, Site, Words};
 use c_tables::checker::Checker;
 use c_tables::error::{CheckError, Kind, refused};
-use c_tables::scope::{Binding, Scopes};
+use c_tables::scope::{Binding, Scopes, is_waiting};
 use c_tables::types::{Tag, Types, plain};
 use c_terms::term::Term;
 use c_token::Keyword;
@@ -120,7 +120,7 @@ pub(crate) fn base_named(name: &Name, scopes: &Scopes) -> Result<Base, CheckErro
     ensures { (known : Known) → Answers base_of result (scopes_in scopes.now known) (wanted faults.Name name.now.line (named_base (meaning_of (scopes_in scopes.now known) name.now.bytes.items)) (scopes_in scopes.now known)) }
 {
     match scopes.find(&name.bytes) {
-        Some(Binding::TypeName { ty, incomplete }) => Ok(Base::Named { ty, incomplete }),
+        Some(Binding::TypeName { ty, waiting }) => Ok(Base::Named { ty, waiting }),
         _ => refused(Kind::Name, name.line),
     }
 }
@@ -169,8 +169,9 @@ pub(crate) fn type_named(name: &TypeName, checker: &mut Checker) -> Result<Quali
         words = type_word(spec, checker, words)?;
     }
     let in_file = checker.scopes.is_file();
-    let base = words.finished(Site::TypeName, in_file, specs_line(&name.0))?;
-    if base.incomplete {
+    let line = specs_line(&name.0);
+    let base = words.finished(&mut checker.types, Site::TypeName, in_file, line)?;
+    if is_waiting(base.waiting) {
         return refused(Kind::Incomplete, base.line);
     }
     pointers(&name.1, checker, base.ty)

@@ -92,7 +92,7 @@ mutual
   field_stays : (d : DeclaratorTree) (whose : List ℕ) (said : Specified) (number : ℕ) (known : Known) → Held whose known → Stays whose (field d said number known)
   field_stays (tree.Declares pointers n ss) whose said number known held = stays_on _ _ _ (pointers_stays pointers whose said.ty known held)
       (λ base k c. stays_on _ _ _ (suffixes_stays ss whose false k c)
-      (λ made k2 c2. stays_on _ _ _ (outlined_stays whose made (object_outline base said.incomplete) k2 c2)
+      (λ made k2 c2. stays_on _ _ _ (outlined_stays whose made (object_outline base said.waiting) k2 c2)
       (λ o k3 c3. member_stays whose number o n.bytes (declarator_line pointers n) k3 c3)))
 
   suffixes_stays : (ss : SuffixTrees) (whose : List ℕ) (bodies : Bool) (known : Known) → Held whose known → Stays whose (suffixes ss bodies known)
@@ -120,16 +120,16 @@ mutual
   params_stays (tree.Named s (tree.Declares pointers n ss)) whose bodies before known held = stays_on _ _ _ (specified_stays s whose (of_param bodies) known held)
       (λ said k c. stays_on _ _ _ (pointers_stays pointers whose said.ty k c)
       (λ base k2 c2. stays_on _ _ _ (suffixes_stays ss whose bodies k2 c2)
-      (λ made k3 c3. stays_on _ _ _ (param_outlined_stays whose made (object_outline base said.incomplete) k3 c3)
+      (λ made k3 c3. stays_on _ _ _ (param_outlined_stays whose made (object_outline base said.waiting) k3 c3)
       (λ o k4 c4. param_stays whose before said o n.bytes (declarator_line pointers n) k4 c4))))
   params_stays (tree.Unnamed s pointers ss) whose bodies before known held = stays_on _ _ _ (specified_stays s whose (of_param bodies) known held)
       (λ said k c. stays_on _ _ _ (pointers_stays pointers whose said.ty k c)
       (λ base k2 c2. stays_on _ _ _ (suffixes_stays ss whose bodies k2 c2)
-      (λ made k3 c3. stays_on _ _ _ (param_outlined_stays whose made (object_outline base said.incomplete) k3 c3)
+      (λ made k3 c3. stays_on _ _ _ (param_outlined_stays whose made (object_outline base said.waiting) k3 c3)
       (λ o k4 c4. param_stays whose before said o [] said.line k4 c4))))
 
 -- What a declarator makes of what its specifiers say.
 pub outline_stays : (whose : List ℕ) (d : DeclaratorTree) (said : Specified) (bodies : Bool) (known : Known) → Held whose known → Stays whose (outline_of d said bodies known)
 outline_stays whose (tree.Declares pointers n ss) said bodies known held = stays_on _ _ _ (pointers_stays pointers whose said.ty known held)
     (λ base k c. stays_on _ _ _ (suffixes_stays ss whose bodies k c)
-    (λ made k2 c2. outlined_stays whose made (object_outline base said.incomplete) k2 c2))
+    (λ made k2 c2. outlined_stays whose made (object_outline base said.waiting) k2 c2))

@@ -3,8 +3,8 @@ use Rattle.std.proofs.Common.{ℕ, Bool, true, false, List, [], ◌∷◌}
 use Rattle.c_typed.specs.declared.types.Qualified.{Qualified}
 use Rattle.c_typed.specs.declared.types.Ty.{Ty}
 use Rattle.c_typed.specs.declared.types.Ty.TheVariants.{Array}
-use Rattle.type_rules.specs.Known.{Known}
-use Rattle.type_rules.specs.Outlines.{Param, Made, ArrayMade, FunctionMade, Declared, ObjectDeclared, FunctionDeclared, Outline, array_or_part, array_behind, behind, outlined, pointer_outline, started, array_started, param_outlined, param_tests, param_rule, member_tests, member_rule}
+use Rattle.type_rules.specs.Known.{Waiting, Whole, OneArray, TwoArrays, Never, Known}
+use Rattle.type_rules.specs.Outlines.{Param, Made, ArrayMade, FunctionMade, Declared, ObjectDeclared, FunctionDeclared, Outline, array_or_part, array_behind, behind, outlined, pointer_outline, started, started_by, array_started, param_outlined, param_tests, param_rule, member_tests, member_rule}
 use Rattle.type_rules.specs.Rows.{is_complete}
 use Rattle.type_rules.specs.Specifiers.{Specified}
 use Rattle.program_laws.specs.Named.{Held, Stays}
@@ -41,8 +41,14 @@ started_stays : (whose : List ℕ) (o : Outline) (whole : Qualified) (ty : Ty) (
 started_stays whose o whole (Array row count size) known held = stays_given _ _ held
 started_stays whose o whole _ known held = stays_given _ _ held
 
+started_by_stays : (whose : List ℕ) (w : Waiting) (o : Outline) (whole : Qualified) (known : Known) → Held whose known → Stays whose (started_by w o whole known)
+started_by_stays whose (OneArray n) o whole known held = stays_given _ _ held
+started_by_stays whose Whole o whole known held = started_stays whose o whole whole.ty known held
+started_by_stays whose (TwoArrays n m) o whole known held = started_stays whose o whole whole.ty known held
+started_by_stays whose Never o whole known held = started_stays whose o whole whole.ty known held
+
 array_started_stays : (whose : List ℕ) (o : Outline) (declared : Declared) (known : Known) → Held whose known → Stays whose (array_started o declared known)
-array_started_stays whose o (ObjectDeclared ty) known held = started_stays whose o ty ty.ty known held
+array_started_stays whose o (ObjectDeclared ty) known held = started_by_stays whose o.waiting o ty known held
 array_started_stays whose o (FunctionDeclared result params scope) known held = stays_given o known held
 
 pub param_outlined_stays : (whose : List ℕ) (ms : List Made) (o : Outline) (known : Known) → Held whose known → Stays whose (param_outlined ms o known)

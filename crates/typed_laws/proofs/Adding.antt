@@ -46,7 +46,7 @@ named_more params before after statics locals (ObjectName (object.Local n) q fix
 named_more params before after statics locals (ObjectName (object.Register n) q fixed) h = h
 named_more params before after statics locals (BitName register bit) h = h
 named_more params before after statics locals (FunctionName n) h = h
-named_more params before after statics locals (TypeNamed q incomplete) h = h
+named_more params before after statics locals (TypeNamed q waiting) h = h
 named_more params before after statics locals (EnumeratorName n) h = h
 
 pub names_more : (params : List VariableTree) (before after : Known) → ((n : ℕ) (s : StaticTree) → slice_get before.statics n ≡ Some s → slice_get after.statics n ≡ Some s)

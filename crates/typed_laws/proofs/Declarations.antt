@@ -12,7 +12,7 @@ use Rattle.type_rules.specs.Declarations.{init_in, block_object, block_declarato
 use Rattle.type_rules.specs.Declarators.{in_block, name_in, line_in}
 use Rattle.type_rules.specs.Faults as kind
 use Rattle.type_rules.specs.Faults.{Kind, Fault}
-use Rattle.type_rules.specs.Known.{Known, Rule, given, tried, go_on, Body}
+use Rattle.type_rules.specs.Known.{is_waiting, Known, Rule, given, tried, go_on, Body}
 use Rattle.type_rules.specs.Names.{is_declared}
 use Rattle.type_rules.specs.Objects.{object_rule, static_rule, block_name, local_rule}
 use Rattle.type_rules.specs.Outlines.{Declared, ObjectDeclared, FunctionDeclared, Outline, is_function, object_type}
@@ -91,7 +91,7 @@ refused_tests true b c k l m line second known h = tt
 refused_tests false b c k l m line second known h = absurd (false≢true h)
 
 pub object_refused : (said : Specified) (o : Outline) (begun : Bool) (line : ℕ) (known : Known) → Doomed o → IsRefused (object_rule said o begun line known)
-object_refused said o begun line known d = refused_tests (o.bad || (is_function o.declared || said.interrupt)) (nat_lt 65535 (bytes_of known (object_type o.declared).ty)) (o.incomplete || not ((begun && is_array (object_type o.declared).ty) || is_complete known (object_type o.declared).ty)) kind.Declare kind.Size kind.Incomplete line _ known (or_left o.bad (is_function o.declared || said.interrupt) d)
+object_refused said o begun line known d = refused_tests (o.bad || (is_function o.declared || said.interrupt)) (nat_lt 65535 (bytes_of known (object_type o.declared).ty)) (is_waiting o.waiting || not ((begun && is_array (object_type o.declared).ty) || is_complete known (object_type o.declared).ty)) kind.Declare kind.Size kind.Incomplete line _ known (or_left o.bad (is_function o.declared || said.interrupt) d)
 
 pub declared_as : (known : Known) (begun interrupt : Bool) (declared : Declared) → IsDeclared known declared → (is_function declared || interrupt) ≡ false → nat_lt 65535 (bytes_of known (object_type declared).ty) ≡ false
     → ((begun && is_array (object_type declared).ty) || is_complete known (object_type declared).ty) ≡ true → IsDeclaredAs known begun (object_type declared)
@@ -104,12 +104,12 @@ declared_as known begun interrupt (ObjectDeclared q) h object small whole = reco
 module _ (params : List VariableTree) where
   pub object_runs : (inner : Bool) (said : Specified) (o : Outline) (begun : Bool) (line : ℕ) (known : Known) → Steady params known → IsDeclared known o.declared → Steps inner params known (λ q k. IsDeclaredAs k begun q) (object_rule said o begun line known)
   object_runs inner said o begun line known y h =
-      steps_test params inner _ known (o.bad || (is_function o.declared || said.interrupt)) kind.Declare ((nat_lt 65535 (bytes_of known (object_type o.declared).ty), kind.Size) ∷ (o.incomplete || not ((begun && is_array (object_type o.declared).ty) || is_complete known (object_type o.declared).ty), kind.Incomplete) ∷ []) line (λ u. given (object_type o.declared)) (λ e1.
-      steps_test params inner _ known (nat_lt 65535 (bytes_of known (object_type o.declared).ty)) kind.Size ((o.incomplete || not ((begun && is_array (object_type o.declared).ty) || is_complete known (object_type o.declared).ty), kind.Incomplete) ∷ []) line (λ u. given (object_type o.declared)) (λ e2.
-      steps_test params inner _ known (o.incomplete || not ((begun && is_array (object_type o.declared).ty) || is_complete known (object_type o.declared).ty)) kind.Incomplete [] line (λ u. given (object_type o.declared)) (λ e3.
+      steps_test params inner _ known (o.bad || (is_function o.declared || said.interrupt)) kind.Declare ((nat_lt 65535 (bytes_of known (object_type o.declared).ty), kind.Size) ∷ (is_waiting o.waiting || not ((begun && is_array (object_type o.declared).ty) || is_complete known (object_type o.declared).ty), kind.Incomplete) ∷ []) line (λ u. given (object_type o.declared)) (λ e1.
+      steps_test params inner _ known (nat_lt 65535 (bytes_of known (object_type o.declared).ty)) kind.Size ((is_waiting o.waiting || not ((begun && is_array (object_type o.declared).ty) || is_complete known (object_type o.declared).ty), kind.Incomplete) ∷ []) line (λ u. given (object_type o.declared)) (λ e2.
+      steps_test params inner _ known (is_waiting o.waiting || not ((begun && is_array (object_type o.declared).ty) || is_complete known (object_type o.declared).ty)) kind.Incomplete [] line (λ u. given (object_type o.declared)) (λ e3.
       steps_given params inner _ known (object_type o.declared) y
       (declared_as known begun said.interrupt o.declared h (or_parts o.bad (is_function o.declared || said.interrupt) e1).1 e2
-      (not_false ((begun && is_array (object_type o.declared).ty) || is_complete known (object_type o.declared).ty) (or_parts o.incomplete (not ((begun && is_array (object_type o.declared).ty) || is_complete known (object_type o.declared).ty)) e3).1)))))
+      (not_false ((begun && is_array (object_type o.declared).ty) || is_complete known (object_type o.declared).ty) (or_parts (is_waiting o.waiting) (not ((begun && is_array (object_type o.declared).ty) || is_complete known (object_type o.declared).ty)) e3).1)))))
 
   -- ---- in blocks
 

@@ -92,7 +92,7 @@ mutual
   field_met : (d : DeclaratorTree) (h : ℕ) (said : Specified) (number : ℕ) (known : Known) → held known ≤ h → Met (Costs h 0 nothing) (field d said number known)
   field_met (tree.Declares pointers n ss) h said number known within = met_on (Costs h 0 nothing) _ _ _ (pointers_met pointers h said.ty known within)
       (λ base k c. met_on (Costs h (length (spelled_suffixes ss)) all_params) _ _ _ (suffixes_met ss h false k c.within)
-      (λ made k2 c2. met_on (Costs h (all_params made + 0) outline_params) _ _ _ (outlined_met h made (object_outline base said.incomplete) k2 c2.within)
+      (λ made k2 c2. met_on (Costs h (all_params made + 0) outline_params) _ _ _ (outlined_met h made (object_outline base said.waiting) k2 c2.within)
       (λ o k3 c3. member_met h number o n.bytes (declarator_line pointers n) k3 c3.within)))
 
   suffixes_met : (ss : SuffixTrees) (h : ℕ) (bodies : Bool) (known : Known) → held known ≤ h → Met (Costs h (length (spelled_suffixes ss)) all_params) (suffixes ss bodies known)
@@ -120,12 +120,12 @@ mutual
   params_met (tree.Named s (tree.Declares pointers n ss)) h bodies before known within = met_on (Costs h 0 nothing) _ _ _ (specified_met s h (of_param bodies) known within)
       (λ said k c. met_on (Costs h 0 nothing) _ _ _ (pointers_met pointers h said.ty k c.within)
       (λ base k2 c2. met_on (Costs h (length (spelled_suffixes ss)) all_params) _ _ _ (suffixes_met ss h bodies k2 c2.within)
-      (λ made k3 c3. met_on (Costs h 0 nothing) _ _ _ (param_outlined_met h made (object_outline base said.incomplete) k3 c3.within)
+      (λ made k3 c3. met_on (Costs h 0 nothing) _ _ _ (param_outlined_met h made (object_outline base said.waiting) k3 c3.within)
       (λ o k4 c4. param_met h before said o n.bytes (declarator_line pointers n) k4 c4.within))))
   params_met (tree.Unnamed s pointers ss) h bodies before known within = met_on (Costs h 0 nothing) _ _ _ (specified_met s h (of_param bodies) known within)
       (λ said k c. met_on (Costs h 0 nothing) _ _ _ (pointers_met pointers h said.ty k c.within)
       (λ base k2 c2. met_on (Costs h (length (spelled_suffixes ss)) all_params) _ _ _ (suffixes_met ss h bodies k2 c2.within)
-      (λ made k3 c3. met_on (Costs h 0 nothing) _ _ _ (param_outlined_met h made (object_outline base said.incomplete) k3 c3.within)
+      (λ made k3 c3. met_on (Costs h 0 nothing) _ _ _ (param_outlined_met h made (object_outline base said.waiting) k3 c3.within)
       (λ o k4 c4. param_met h before said o [] said.line k4 c4.within))))
 
 -- What a declarator makes of what its specifiers say.
@@ -133,4 +133,4 @@ pub outline_met : (h : ℕ) (d : DeclaratorTree) (said : Specified) (bodies : Bo
 outline_met h (tree.Declares pointers n ss) said bodies known within = met_on (Costs h 0 nothing) _ _ _ (pointers_met pointers h said.ty known within)
     (λ base k c. met_on (Costs h (length (spelled_suffixes ss)) all_params) _ _ _ (suffixes_met ss h bodies k c.within)
     (λ made k2 c2. met_weaker (Costs h (all_params made + 0) outline_params) _ _ (λ o k3 c3. record { light = omega (arith, length-append pointers (n ∷ spelled_suffixes ss)); within = c3.within })
-    (outlined_met h made (object_outline base said.incomplete) k2 c2.within)))
+    (outlined_met h made (object_outline base said.waiting) k2 c2.within)))

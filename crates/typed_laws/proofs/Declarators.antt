@@ -188,7 +188,7 @@ list_on known (Ok x) second g more = more x.0 x.1 g.spreads g.orderly g.holds
 base_later : (before after : Known) → Grows before after → Orderly before → (base : Base) → IsNamedBase before base → IsNamedBase after base
 base_later before after g o (StructBase n) h = there_grows before after g n h
 base_later before after g o EnumBase h = tt
-base_later before after g o (NamedBase q incomplete) h = stands_grows before after g o q.ty h
+base_later before after g o (NamedBase q waiting) h = stands_grows before after g o q.ty h
 
 bases_later : (before after : Known) → Grows before after → Orderly before → (bases : List Base) → Each (IsNamedBase before) bases → Each (IsNamedBase after) bases
 bases_later before after g o bases all = all_more bases (base_later before after g o) all
@@ -250,7 +250,7 @@ mutual
   pub field_run : (d : DeclaratorTree) (said : Specified) (number : ℕ) (some : Bool) (known : Known) → Orderly known → IsBase known said.ty → IsOpen some known number → Runs (Some number) false known (λ x k. IsOpen true k number × IsBase k said.ty) (field d said number known)
   field_run (tree.Declares pointers n ss) said number some known o base h = runs_first (Some number) false (λ q k. IsBase k q) _ known _ _ (from_goes (λ q k. IsBase k q) known _ (pointers_go known pointers known.targets o said.ty base))
       (λ q mid s1 o1 hq. runs_first (Some number) false (λ ms k. Each (IsMade k) ms) _ mid _ _ (suffixes_run ss false mid o1)
-      (λ made after s2 o2 all. fates_on (Some number) false Doomed (λ x k. IsDeclared k x.declared) _ after _ _ (outlined_fates made (object_outline q said.incomplete) after o2 (stands_grows mid after s2.grows o1 q.ty hq) all)
+      (λ made after s2 o2 all. fates_on (Some number) false Doomed (λ x k. IsDeclared k x.declared) _ after _ _ (outlined_fates made (object_outline q said.waiting) after o2 (stands_grows mid after s2.grows o1 q.ty hq) all)
       (λ x last d. member_refused number x n.bytes (declarator_line pointers n) last d)
       (λ x last s3 o3 declared. and_base said number last _ o3 (base_grows after last s3.grows o2 said.ty (base_grows mid after s2.grows o1 said.ty (base_grows known mid s1.grows o said.ty base)))
       (member_rule_runs number some x n.bytes (declarator_line pointers n) last o3 (open_kept some after last number s3 (open_kept some mid after number s2 (open_kept some known mid number s1 h))) declared))))
@@ -278,14 +278,14 @@ mutual
   param_runs (tree.Named s (tree.Declares pointers n ss)) bodies before known o all = runs_first None true (λ s k. IsBase k s.ty) _ known _ _ (specified_runs s (of_param bodies) known o)
       (λ said mid s1 o1 base. runs_first None true (λ q k. IsBase k q) _ mid _ _ (from_goes (λ q k. IsBase k q) mid _ (pointers_go mid pointers mid.targets o1 said.ty base))
       (λ q mid2 s2 o2 hq. runs_first None true (λ ms k. Each (IsMade k) ms) _ mid2 _ _ (suffixes_run ss bodies mid2 o2)
-      (λ made after s3 o3 made_all. fates_on None true IsNoParam (λ x k. IsParamDeclared k x.declared) _ after _ _ (param_fates made q said.incomplete after o3 (base_grows mid2 after s3.grows o2 q hq) made_all)
+      (λ made after s3 o3 made_all. fates_on None true IsNoParam (λ x k. IsParamDeclared k x.declared) _ after _ _ (param_fates made q said.waiting after o3 (base_grows mid2 after s3.grows o2 q hq) made_all)
       (λ x last d. param_refused before said x n.bytes (declarator_line pointers n) last d)
       (λ x last s4 o4 declared. param_rule_runs before said x n.bytes (declarator_line pointers n) last o4 declared
       (params_spread after last s4 o3 before (params_spread mid2 after s3 o2 before (params_spread mid mid2 s2 o1 before (params_spread known mid s1 o before all))))))))
   param_runs (tree.Unnamed s pointers ss) bodies before known o all = runs_first None true (λ s k. IsBase k s.ty) _ known _ _ (specified_runs s (of_param bodies) known o)
       (λ said mid s1 o1 base. runs_first None true (λ q k. IsBase k q) _ mid _ _ (from_goes (λ q k. IsBase k q) mid _ (pointers_go mid pointers mid.targets o1 said.ty base))
       (λ q mid2 s2 o2 hq. runs_first None true (λ ms k. Each (IsMade k) ms) _ mid2 _ _ (suffixes_run ss bodies mid2 o2)
-      (λ made after s3 o3 made_all. fates_on None true IsNoParam (λ x k. IsParamDeclared k x.declared) _ after _ _ (param_fates made q said.incomplete after o3 (base_grows mid2 after s3.grows o2 q hq) made_all)
+      (λ made after s3 o3 made_all. fates_on None true IsNoParam (λ x k. IsParamDeclared k x.declared) _ after _ _ (param_fates made q said.waiting after o3 (base_grows mid2 after s3.grows o2 q hq) made_all)
       (λ x last d. param_refused before said x [] said.line last d)
       (λ x last s4 o4 declared. param_rule_runs before said x [] said.line last o4 declared
       (params_spread after last s4 o3 before (params_spread mid2 after s3 o2 before (params_spread mid mid2 s2 o1 before (params_spread known mid s1 o before all))))))))
@@ -294,4 +294,4 @@ mutual
 pub outline_fates : (d : DeclaratorTree) (said : Specified) (bodies : Bool) (known : Known) → Orderly known → IsBase known said.ty → Fates known Doomed (λ x k. IsDeclared k x.declared) (outline_of d said bodies known)
 outline_fates (tree.Declares pointers n ss) said bodies known o base = fates_after (λ q k. IsBase k q) _ _ known _ _ (from_goes (λ q k. IsBase k q) known _ (pointers_go known pointers known.targets o said.ty base))
     (λ q mid s1 o1 hq. fates_after (λ ms k. Each (IsMade k) ms) _ _ mid _ _ (suffixes_run ss bodies mid o1)
-    (λ made after s2 o2 all. outlined_fates made (object_outline q said.incomplete) after o2 (stands_grows mid after s2.grows o1 q.ty hq) all))
+    (λ made after s2 o2 all. outlined_fates made (object_outline q said.waiting) after o2 (stands_grows mid after s2.grows o1 q.ty hq) all))

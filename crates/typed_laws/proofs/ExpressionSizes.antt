@@ -32,7 +32,7 @@ use Rattle.typed_laws.proofs.WriteSizes.{assignment_met, stepped_met, called_met
 binding_is : (h : ℕ) (b : Binding) (line : ℕ) (k : Known) → held k ≤ h → IsTerm h 3 (named_term b line) k
 unfolding nodes_in nodes_of_all nodes_at
 binding_is h (FunctionName n) line k within = record { form_light = omega arith; listed_light = omega arith; within = within }
-binding_is h (TypeNamed q incomplete) line k within = record { form_light = omega arith; listed_light = omega arith; within = within }
+binding_is h (TypeNamed q waiting) line k within = record { form_light = omega arith; listed_light = omega arith; within = within }
 binding_is h (EnumeratorName n) line k within = value_is h 3 (typed.Constant (record { ty = int.Int; number = n }) line) line k (omega arith) within
 binding_is h (BitName register bit) line k within = place_is h 3 (typed.Bit register bit line) (unreached true) line k (omega arith) within
 binding_is h (ObjectName object q fixed) line k within = place_is h 3 (typed.Name object q line) (unreached fixed) line k (omega arith) within

@@ -27,12 +27,12 @@ use Rattle.c_typed.specs.declared.types.Ty.{Ty}
 use Rattle.c_typed.specs.declared.types.Ty.TheVariants.{Void, Int, Pointer}
 use Rattle.type_rules.specs.Expressions.{named_term, name_rule, constant_term, leaf, bracketed_form, bracketed, with_value, signed, selected, step_behind, one_at_least, listed_by, arguments_in, judged, judged_behind, value_of}
 use Rattle.type_rules.specs.Faults as kind
-use Rattle.type_rules.specs.Known.{Binding, ObjectName, BitName, FunctionName, TypeNamed, EnumeratorName, Tag, StructTag, EnumTag, Known, Rule, given, go_on}
+use Rattle.type_rules.specs.Known.{is_waiting, Binding, ObjectName, BitName, FunctionName, TypeNamed, EnumeratorName, Tag, StructTag, EnumTag, Known, Rule, given, go_on}
 use Rattle.type_rules.specs.Names.{meaning_of}
 use Rattle.type_rules.specs.Operators.{arithmetic, negation}
 use Rattle.type_rules.specs.Places.{dereference}
 use Rattle.type_rules.specs.Rows.{plain, pointer_to, tagged}
-use Rattle.type_rules.specs.Specifiers.{Site, OfTypeName, Base, StructBase, EnumBase, NamedBase, Gathered, nothing_gathered, with_word_of, with_base, of_int, char_type, int_type, of_words, Named, plainly, named_by, by_words, base_type, has, has_int_word, is_orderly, qualifies_once, may_stand, specifiers, named_base, type_name_rule, specs_line}
+use Rattle.type_rules.specs.Specifiers.{Site, OfTypeName, Base, StructBase, EnumBase, NamedBase, Gathered, nothing_gathered, with_word_of, with_base, of_int, char_type, int_type, of_words, Named, plainly, named_by, by_words, base_type, has, has_int_word, is_orderly, qualifies_once, may_stand, specifiers, named_base, type_name_rule, specs_line, remade, said}
 use Rattle.type_rules.specs.Terms.{Reach, Form, ValueForm, PlaceForm, FunctionForm, TypeForm, Operand, Term, number_of_type}
 use Rattle.type_rules.specs.TypeNames.{with_pointers, enum_of, enum_rule, named_spec, more_named_specs, named_specs, type_named}
 use Rattle.typed_laws.specs.Going.{Goes}
@@ -41,6 +41,7 @@ use Rattle.typed_laws.specs.Terms.{IsForm, IsOperand, IsTerm}
 use Rattle.typed_laws.proofs.Lists.{none_is}
 use Rattle.typed_laws.proofs.Elements.{before_goes, element_goes}
 use Rattle.typed_laws.proofs.Growing.{pointer_goes, stands_more, operand_more, term_more}
+use Rattle.typed_laws.proofs.Remaking.{remade_goes}
 use Rattle.typed_laws.proofs.Operators.{between_goes, choice_goes, cast_goes, arithmetic_goes, negation_goes}
 use Rattle.typed_laws.proofs.Places.{goes_no_table, used_goes, dereference_goes, address_goes, member_goes, pointed_member_goes, size_of_type_goes, size_of_term_goes, constant_is, number_is}
 use Rattle.typed_laws.proofs.Making.{value_is}
@@ -72,7 +73,7 @@ named_from known (Some ty) named stands h = subst (λ (z : Named). Stands known 
 named_stands : (known : Known) (base : Base) → IsNamedBase known base → Stands known ((named_by base).ty).ty
 named_stands known (StructBase number) h = h
 named_stands known EnumBase h = tt
-named_stands known (NamedBase q incomplete) h = h
+named_stands known (NamedBase q waiting) h = h
 
 named_alone : (known : Known) (b : Bool) (base : Base) (named : Named) → IsNamedBase known base → (if b then None else Some (named_by base)) ≡ Some named → Stands known (named.ty).ty
 named_alone known true base named h is = absurd (none_is is)
@@ -84,7 +85,7 @@ base_stands known ws (base ∷ bases) named all h = named_alone known (has ws wo
 
 -- a marked name is that of a type that is there
 named_there : (known : Known) (found : Option Binding) (base : Base) → ((b : Binding) → found ≡ Some b → IsBound known b) → named_base found ≡ Some base → IsNamedBase known base
-named_there known (Some (TypeNamed q incomplete)) base bound h = subst (IsNamedBase known) (same_Some (NamedBase q incomplete) base h) (bound (TypeNamed q incomplete) refl)
+named_there known (Some (TypeNamed q waiting)) base bound h = subst (IsNamedBase known) (same_Some (NamedBase q waiting) base h) (bound (TypeNamed q waiting) refl)
 named_there known _ base bound h = absurd (none_is h)
 
 module _ (known : Known) where
@@ -92,7 +93,8 @@ module _ (known : Known) where
   pub specifiers_goes : (ts : List Qualified) → Orderly (at known ts) → (site : Site) (g : Gathered) (line : ℕ) → Each (IsNamedBase (at known ts)) g.bases → Goes known ts (λ us s. IsBase (at known us) s.ty) (specifiers site g line (at known ts))
   specifiers_goes ts o site g line all = goes_wanted known _ ts (base_type g.words g.bases) kind.Declare line _
       (λ named is. goes_test known _ ts (not (is_orderly g && (qualifies_once g.words named.ty && may_stand (at known ts) site g.words))) kind.Declare line _
-      (λ h. goes_given known _ _ ts o (base_stands (at known ts) g.words g.bases named all is)))
+      (λ h. goes_on known (λ us w. Stands (at known us) (w.ty).ty) _ ts (remade named.ty named.waiting (at known ts)) (λ whole. given (said g.words whole line)) (remade_goes known ts o named.ty named.waiting (base_stands (at known ts) g.words g.bases named all is))
+      (λ whole us adds ordered stands. goes_given known _ _ us ordered stands)))
 
   pub pointers_go : (ss : Symbols) (ts : List Qualified) → Orderly (at known ts) → (ty : Qualified) → IsBase (at known ts) ty → Goes known ts (λ us q. IsBase (at known us) q) (with_pointers ss ty (at known ts))
   pointers_go [] ts o ty stands = goes_given known _ _ ts o stands
@@ -142,7 +144,7 @@ module _ (known : Known) where
   pub type_goes : (t : TypeTree) (ts : List Qualified) → Orderly (at known ts) → Goes known ts (λ us q. IsBase (at known us) q) (type_named t (at known ts))
   type_goes (tree.TypeOf specs pointers) ts o = goes_on known _ _ ts _ _ (named_go specs ts o)
       (λ g us adds ordered all. goes_on known _ _ us _ _ (specifiers_goes us ordered OfTypeName g (specs_line specs) all)
-      (λ base vs adds2 ordered2 stands. goes_test known _ vs base.incomplete kind.Incomplete base.line _ (λ e. pointers_go pointers vs ordered2 base.ty stands)))
+      (λ base vs adds2 ordered2 stands. goes_test known _ vs (is_waiting base.waiting) kind.Incomplete base.line _ (λ e. pointers_go pointers vs ordered2 base.ty stands)))
 
 -- ---- names and constants
 
@@ -169,7 +171,7 @@ module _ (known : Known) (ts : List Qualified) (o : Orderly (at known ts)) where
 
   binding_is : (name : List ℕ) (b : Binding) (line : ℕ) → meaning_of (at known ts) name ≡ Some b → IsBound (at known ts) b → ((p : Program) (f : FunctionTree) → Leads (at known ts) p f → BindingFits p f b) → IsTerm (at known ts) (named_term b line)
   binding_is name (FunctionName n) line is h fitting = record { form = tt; list = tt }
-  binding_is name (TypeNamed q incomplete) line is h fitting = record { form = tt; list = tt }
+  binding_is name (TypeNamed q waiting) line is h fitting = record { form = tt; list = tt }
   binding_is name (EnumeratorName n) line is h fitting = value_is (at known ts) _ line (constant_is known ts o (record { ty = int.Int; number = n }) line)
   binding_is name (BitName register bit) line is h fitting = record {
     form = (

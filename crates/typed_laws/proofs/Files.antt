@@ -15,7 +15,7 @@ use Rattle.type_rules.specs.Declarations.{param_types, same_types, definition_fr
 use Rattle.type_rules.specs.Declarators.{in_file, name_in, line_in}
 use Rattle.type_rules.specs.Faults as kind
 use Rattle.type_rules.specs.Faults.{Kind, Fault, Tests}
-use Rattle.type_rules.specs.Known.{Binding, ObjectName, BitName, FunctionName, TypeNamed, EnumeratorName, Scope, Signature, Known, Rule, given, tried, go_on, broken}
+use Rattle.type_rules.specs.Known.{is_waiting, Binding, ObjectName, BitName, FunctionName, TypeNamed, EnumeratorName, Scope, Signature, Known, Rule, given, tried, go_on, broken}
 use Rattle.type_rules.specs.Names.{entry_of, with_entry, innermost_in, is_declared, bound_in, bind}
 use Rattle.type_rules.specs.Objects.{object_rule, static_rule}
 use Rattle.type_rules.specs.Outlines.{Param, Declared, ObjectDeclared, FunctionDeclared, Outline, is_function, object_type}
@@ -399,7 +399,7 @@ module _ (names : List (List ℕ)) (done : List FunctionTree) where
       no_other : (b : Bool) → (b || true) ≡ false → ⊥
       no_other true h = true≢false h
       no_other false h = true≢false h
-  found_turns (Some (TypeNamed q incomplete)) known y name result params bad defines e stands all h = absurd (no_other bad h)
+  found_turns (Some (TypeNamed q waiting)) known y name result params bad defines e stands all h = absurd (no_other bad h)
     where
       no_other : (b : Bool) → (b || true) ≡ false → ⊥
       no_other true h = true≢false h
@@ -458,13 +458,13 @@ module _ (names : List (List ℕ)) (done : List FunctionTree) where
 
   object_is : (said : Specified) (o : Outline) (begun : Bool) (line : ℕ) (known : Known) → IsDeclared known o.declared → Turns (λ q k. (k ≡ known) × IsDeclaredAs known begun q) (object_rule said o begun line known)
   object_is said o begun line known declared =
-      turns_test _ known (o.bad || (is_function o.declared || said.interrupt)) kind.Declare ((nat_lt 65535 (bytes_of known (object_type o.declared).ty), kind.Size) ∷ (o.incomplete || not ((begun && is_array (object_type o.declared).ty) || is_complete known (object_type o.declared).ty), kind.Incomplete) ∷ []) line (λ u. given (object_type o.declared)) (λ e1.
-      turns_test _ known (nat_lt 65535 (bytes_of known (object_type o.declared).ty)) kind.Size ((o.incomplete || not ((begun && is_array (object_type o.declared).ty) || is_complete known (object_type o.declared).ty), kind.Incomplete) ∷ []) line (λ u. given (object_type o.declared)) (λ e2.
-      turns_test _ known (o.incomplete || not ((begun && is_array (object_type o.declared).ty) || is_complete known (object_type o.declared).ty)) kind.Incomplete [] line (λ u. given (object_type o.declared)) (λ e3.
+      turns_test _ known (o.bad || (is_function o.declared || said.interrupt)) kind.Declare ((nat_lt 65535 (bytes_of known (object_type o.declared).ty), kind.Size) ∷ (is_waiting o.waiting || not ((begun && is_array (object_type o.declared).ty) || is_complete known (object_type o.declared).ty), kind.Incomplete) ∷ []) line (λ u. given (object_type o.declared)) (λ e1.
+      turns_test _ known (nat_lt 65535 (bytes_of known (object_type o.declared).ty)) kind.Size ((is_waiting o.waiting || not ((begun && is_array (object_type o.declared).ty) || is_complete known (object_type o.declared).ty), kind.Incomplete) ∷ []) line (λ u. given (object_type o.declared)) (λ e2.
+      turns_test _ known (is_waiting o.waiting || not ((begun && is_array (object_type o.declared).ty) || is_complete known (object_type o.declared).ty)) kind.Incomplete [] line (λ u. given (object_type o.declared)) (λ e3.
       turns_given _ (object_type o.declared) known (
         refl,
         declared_as known begun said.interrupt o.declared declared (or_parts o.bad (is_function o.declared || said.interrupt) e1).1 e2
-            (not_false ((begun && is_array (object_type o.declared).ty) || is_complete known (object_type o.declared).ty) (or_parts o.incomplete (not ((begun && is_array (object_type o.declared).ty) || is_complete known (object_type o.declared).ty)) e3).1),
+            (not_false ((begun && is_array (object_type o.declared).ty) || is_complete known (object_type o.declared).ty) (or_parts (is_waiting o.waiting) (not ((begun && is_array (object_type o.declared).ty) || is_complete known (object_type o.declared).ty)) e3).1),
       ))))
 
   turns_of_steps : {A : Type 0} (P Q : A → Known → Type 0) (known : Known) (r : Result (A × Known) Fault) → Steps true [] known P r → ((x : A) (k : Known) → Moves true [] known k → Steady [] k → P x k → Q x k) → Turns Q r
@@ -514,12 +514,12 @@ module _ (names : List (List ℕ)) (done : List FunctionTree) where
 
   type_turns : (said : Specified) (o : Outline) (begun : Bool) (name : List ℕ) (line : ℕ) (known : Known) → Files names done known → IsDeclared known o.declared → IsBase known said.ty → Turns (λ u k. Files names done k × IsBase k said.ty) (type_rule said o begun name line known)
   type_turns said o begun name line known y h base =
-      turns_test _ known (is_declared known name) kind.Again ((o.bad || (is_function o.declared || (begun || said.interrupt)), kind.Declare) ∷ []) line (λ u. bind name (TypeNamed (object_type o.declared) o.incomplete)) (λ new.
-      turns_test _ known (o.bad || (is_function o.declared || (begun || said.interrupt))) kind.Declare [] line (λ u. bind name (TypeNamed (object_type o.declared) o.incomplete)) (λ e.
+      turns_test _ known (is_declared known name) kind.Again ((o.bad || (is_function o.declared || (begun || said.interrupt)), kind.Declare) ∷ []) line (λ u. bind name (TypeNamed (object_type o.declared) o.waiting)) (λ new.
+      turns_test _ known (o.bad || (is_function o.declared || (begun || said.interrupt))) kind.Declare [] line (λ u. bind name (TypeNamed (object_type o.declared) o.waiting)) (λ e.
       turns_given _ _ _ (
-        files_bound known name (TypeNamed (object_type o.declared) o.incomplete) y new (λ n e. absurd (cc e))
+        files_bound known name (TypeNamed (object_type o.declared) o.waiting) y new (λ n e. absurd (cc e))
             (declared_type known o.declared h (or_parts (is_function o.declared) (begun || said.interrupt) (or_parts o.bad (is_function o.declared || (begun || said.interrupt)) e).1).0) tt,
-        base_grows known _ (scoped_grows known (bound_in known.scopes name (TypeNamed (object_type o.declared) o.incomplete)) known.lists) (y.steady).orderly said.ty base,
+        base_grows known _ (scoped_grows known (bound_in known.scopes name (TypeNamed (object_type o.declared) o.waiting)) known.lists) (y.steady).orderly said.ty base,
       )))
 
   -- ---- declarators, whether of a typedef or not

@@ -53,7 +53,7 @@ listed_named ps known (ObjectName object q fixed) h = object_named ps known obje
 listed_named ps known (EnumeratorName n) h = tt
 listed_named ps known (BitName r n) h = absurd h
 listed_named ps known (FunctionName n) h = absurd h
-listed_named ps known (TypeNamed q incomplete) h = absurd h
+listed_named ps known (TypeNamed q waiting) h = absurd h
 
 -- ---- names of the file in a function
 
@@ -64,7 +64,7 @@ file_named params a b idle statics (ObjectName (object.Local n) q fixed) h = abs
 file_named params a b idle statics (ObjectName (object.Register n) q fixed) h = h
 file_named params a b idle statics (BitName r n) h = h
 file_named params a b idle statics (FunctionName n) h = h
-file_named params a b idle statics (TypeNamed q incomplete) h = h
+file_named params a b idle statics (TypeNamed q waiting) h = h
 file_named params a b idle statics (EnumeratorName n) h = h
 
 files_named : (params : List VariableTree) (a b : Known) → a.body ≡ no_body → ((n : ℕ) (s : StaticTree) → slice_get a.statics n ≡ Some s → slice_get b.statics n ≡ Some s) → (scopes : List Scope) → Each (AreNamed [] a) scopes → Each (AreNamed params b) scopes

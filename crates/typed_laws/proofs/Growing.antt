@@ -43,7 +43,7 @@ module _ (known : Known) (ts us : List Qualified) (adds : Adds ts us) where
   bound_more (ObjectName object q fixed) h = record { stands = stands_more q.ty h.stands; whole = h.whole; register = h.register; static = h.static }
   bound_more (BitName register bit) h = tt
   bound_more (FunctionName number) h = tt
-  bound_more (TypeNamed q incomplete) h = stands_more q.ty h
+  bound_more (TypeNamed q waiting) h = stands_more q.ty h
   bound_more (EnumeratorName n) h = tt
 
   tag_more : (tag : Tag) → IsTag (at known ts) tag → IsTag (at known us) tag

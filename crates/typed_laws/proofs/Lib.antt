@@ -17,6 +17,7 @@ pub mod Elements
 pub mod Expressions
 pub mod Spreading
 pub mod Structures
+pub mod Remaking
 pub mod Outlines
 pub mod Enumerators
 pub mod Declarators

@@ -42,7 +42,7 @@ binding_fits params known p f l (ObjectName (object.Local n) q fixed) h = let w 
 binding_fits params known p f l (ObjectName (object.Register n) q fixed) h = ap (λ b. is_named false (if◌then◌else◌ b (Some register_type) None) q) h.0 ∙ named_as false register_type q (sym h.1)
 binding_fits params known p f l (BitName register bit) h = h
 binding_fits params known p f l (FunctionName n) h = tt
-binding_fits params known p f l (TypeNamed q incomplete) h = tt
+binding_fits params known p f l (TypeNamed q waiting) h = tt
 binding_fits params known p f l (EnumeratorName n) h = tt
 
 module _ (params : List VariableTree) (known : Known) where

@@ -3,8 +3,8 @@ use Rattle.std.proofs.Common.{◌≡◌, ℕ, ◌+◌, ◌≤◌, Bool, true, fa
 use Rattle.c_typed.specs.declared.types.Qualified.{Qualified}
 use Rattle.c_typed.specs.declared.types.Ty.{Ty}
 use Rattle.c_typed.specs.declared.types.Ty.TheVariants.{Array}
-use Rattle.type_rules.specs.Known.{Scope, Known}
-use Rattle.type_rules.specs.Outlines.{Param, Made, ArrayMade, FunctionMade, Declared, ObjectDeclared, FunctionDeclared, Outline, array_or_part, array_behind, function_behind, behind, outlined, pointer_outline, started, array_started, param_outlined, param_tests, param_rule, member_tests, member_rule}
+use Rattle.type_rules.specs.Known.{Waiting, Whole, OneArray, TwoArrays, Never, Scope, Known}
+use Rattle.type_rules.specs.Outlines.{Param, Made, ArrayMade, FunctionMade, Declared, ObjectDeclared, FunctionDeclared, Outline, array_or_part, array_behind, function_behind, behind, outlined, pointer_outline, started, started_by, array_started, param_outlined, param_tests, param_rule, member_tests, member_rule}
 use Rattle.type_rules.specs.Rows.{is_complete}
 use Rattle.type_rules.specs.Specifiers.{Specified}
 use Rattle.typed_laws.specs.Weights.{Met, held, Costs, nothing, made_params, all_params, outline_params}
@@ -45,8 +45,14 @@ started_met : (h : ℕ) (o : Outline) (whole : Qualified) (ty : Ty) (known : Kno
 started_met h o whole (Array row count size) known within = met_kept h _ _ within
 started_met h o whole _ known within = met_kept h _ _ within
 
+started_by_met : (h : ℕ) (w : Waiting) (o : Outline) (whole : Qualified) (known : Known) → held known ≤ h → Met (Costs h 0 nothing) (started_by w o whole known)
+started_by_met h (OneArray n) o whole known within = met_kept h _ _ within
+started_by_met h Whole o whole known within = started_met h o whole whole.ty known within
+started_by_met h (TwoArrays n m) o whole known within = started_met h o whole whole.ty known within
+started_by_met h Never o whole known within = started_met h o whole whole.ty known within
+
 array_started_met : (h : ℕ) (o : Outline) (declared : Declared) (known : Known) → held known ≤ h → Met (Costs h 0 nothing) (array_started o declared known)
-array_started_met h o (ObjectDeclared ty) known within = started_met h o ty ty.ty known within
+array_started_met h o (ObjectDeclared ty) known within = started_by_met h o.waiting o ty known within
 array_started_met h o (FunctionDeclared result params scope) known within = met_kept h o known within
 
 pub param_outlined_met : (h : ℕ) (ms : List Made) (o : Outline) (known : Known) → held known ≤ h → Met (Costs h 0 nothing) (param_outlined ms o known)

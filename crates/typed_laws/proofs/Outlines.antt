@@ -9,9 +9,9 @@ use Rattle.c_typed.specs.declared.types.Ty.{Ty}
 use Rattle.c_typed.specs.declared.types.Ty.TheVariants.{Void, Int, Pointer, Array, Struct}
 use Rattle.type_rules.specs.Faults as kind
 use Rattle.type_rules.specs.Faults.{Kind, Fault}
-use Rattle.type_rules.specs.Known.{Binding, ObjectName, BitName, FunctionName, TypeNamed, EnumeratorName, Scope, Known, Rule, given, go_on, tried}
+use Rattle.type_rules.specs.Known.{Waiting, Whole, OneArray, TwoArrays, Never, is_waiting, Binding, ObjectName, BitName, FunctionName, TypeNamed, EnumeratorName, Scope, Known, Rule, given, go_on, tried}
 use Rattle.type_rules.specs.Names.{entry_of, bind, bound_in, first_scope}
-use Rattle.type_rules.specs.Outlines.{Param, Made, ArrayMade, FunctionMade, Declared, ObjectDeclared, FunctionDeclared, Outline, object_outline, array_or_part, array_behind, function_behind, behind, outlined, pointer_outline, started, param_outlined, is_function, object_type, is_again, bind_param, param_rule, member_rule}
+use Rattle.type_rules.specs.Outlines.{Param, Made, ArrayMade, FunctionMade, Declared, ObjectDeclared, FunctionDeclared, Outline, object_outline, array_or_part, array_behind, function_behind, behind, outlined, pointer_outline, waiting_for, started, started_by, param_outlined, is_function, object_type, is_again, bind_param, param_rule, member_rule}
 use Rattle.type_rules.specs.Rows.{plain, like, pointer_to, target_of, is_complete, fields_of, add_member}
 use Rattle.type_rules.specs.Specifiers.{Specified}
 use Rattle.typed_laws.specs.Spreading.{Grows, Spreads, Runs, IsRefused, IsOpen, IsParam, IsListedObject, IsListed, AreListed, AreParams, IsList, IsMade, IsDeclared, Doomed, Fates, AllDoomed, IsNoParam, IsParamDeclared}
@@ -88,7 +88,7 @@ array_doomed count o (ObjectDeclared q) mid d = by_test (is_complete mid q.ty)
 array_doomed count o (FunctionDeclared result params scope) mid d = refl
 
 function_doomed : (params : List Param) (scope : Scope) (o : Outline) (declared : Declared) → Doomed o → Doomed (function_behind params scope o declared)
-function_doomed params scope o (ObjectDeclared q) d = or_left o.bad (o.incomplete || (is_array q.ty || is_struct q.ty)) d
+function_doomed params scope o (ObjectDeclared q) d = or_left o.bad (is_waiting o.waiting || (is_array q.ty || is_struct q.ty)) d
 function_doomed params scope o (FunctionDeclared result inner names) d = refl
 
 behind_doomed : (m : Made) (o : Outline) (mid : Known) → Doomed o → AllDoomed Doomed (behind m o mid)
@@ -111,7 +111,7 @@ function_declared : (params : List Param) (scope : Scope) (o : Outline) (declare
 function_declared params scope o (ObjectDeclared result) known ordered h list = by_test (is_array result.ty || is_struct result.ty) refl
   where
     by_test : (b : Bool) → (is_array result.ty || is_struct result.ty) ≡ b → Doomed (function_behind params scope o (ObjectDeclared result)) ⊎ (Orderly known × IsDeclared known (function_behind params scope o (ObjectDeclared result)).declared)
-    by_test true e = inl (or_right o.bad (o.incomplete || (is_array result.ty || is_struct result.ty)) (or_right o.incomplete (is_array result.ty || is_struct result.ty) e))
+    by_test true e = inl (or_right o.bad (is_waiting o.waiting || (is_array result.ty || is_struct result.ty)) (or_right (is_waiting o.waiting) (is_array result.ty || is_struct result.ty) e))
     by_test false e = inr (ordered, (h, e, list))
 function_declared params scope o (FunctionDeclared result inner names) known ordered h list = inl refl
 
@@ -149,17 +149,17 @@ no_param : (o : Outline) → Doomed o → IsNoParam o
 no_param o bad = inl bad
 
 pointer_doomed : (o : Outline) (declared : Declared) (mid : Known) → Doomed o → AllDoomed IsNoParam (pointer_outline o declared mid)
-pointer_doomed o (ObjectDeclared q) mid d = inl d
+pointer_doomed o (ObjectDeclared q) mid d = inl (or_left o.bad (is_void q.ty) d)
 pointer_doomed o (FunctionDeclared result params scope) mid d = inl refl
 
 -- a pointer in the place of an array
-pointer_instead : (o : Outline) (element : Qualified) (known : Known) → Orderly known → Stands known element.ty
-    → Fates known IsNoParam (λ x k. IsParamDeclared k x.declared) (go_on (λ ty. given (record o { declared = ObjectDeclared (plain ty) })) (pointer_to element known))
-pointer_instead o element known ordered h = fates_after _ _ _ known _ (λ ty. given (record o { declared = ObjectDeclared (plain ty) })) (from_goes (λ ty k. (row : ℕ) × (ty ≡ Pointer row) × (slice_get k.targets row ≡ Some element)) known _ (pointer_goes known known.targets element ordered h))
+pointer_instead : (bad : Bool) (waiting : Waiting) (element : Qualified) (known : Known) → Orderly known → Stands known element.ty
+    → Fates known IsNoParam (λ x k. IsParamDeclared k x.declared) (go_on (λ ty. given (record { declared = ObjectDeclared (plain ty); bad = bad; waiting = waiting })) (pointer_to element known))
+pointer_instead bad waiting element known ordered h = fates_after _ _ _ known _ (λ ty. given (record { declared = ObjectDeclared (plain ty); bad = bad; waiting = waiting })) (from_goes (λ ty k. (row : ℕ) × (ty ≡ Pointer row) × (slice_get k.targets row ≡ Some element)) known _ (pointer_goes known known.targets element ordered h))
     (λ ty mid s o2 facts. fates_given _ _ mid _ (inr (o2, (subst (Stands mid) (sym facts.1) (element, facts.2), ap is_array facts.1))))
 
 pointer_fates : (o : Outline) (declared : Declared) (known : Known) → Orderly known → IsDeclared known declared → Fates known IsNoParam (λ x k. IsParamDeclared k x.declared) (pointer_outline o declared known)
-pointer_fates o (ObjectDeclared element) known ordered h = pointer_instead o element known ordered h
+pointer_fates o (ObjectDeclared element) known ordered h = pointer_instead (o.bad || is_void element.ty) o.waiting element known ordered h
 pointer_fates o (FunctionDeclared result params scope) known ordered h = fates_given _ _ known _ (inl (inl refl))
 
 function_param : (params : List Param) (scope : Scope) (o : Outline) (declared : Declared) (known : Known) → IsParamDeclared known (function_behind params scope o declared).declared
@@ -167,19 +167,26 @@ function_param params scope o (ObjectDeclared q) known = tt
 function_param params scope o (FunctionDeclared result inner names) known = tt
 
 -- An array by the name of its type is a pointer to its element, all else stays.
-started_fates : (whole : Qualified) (incomplete : Bool) (ty : Ty) (known : Known) → Orderly known → whole.ty ≡ ty → Stands known ty → Fates known IsNoParam (λ x k. IsParamDeclared k x.declared) (started (object_outline whole incomplete) whole ty known)
-started_fates whole incomplete (Array row count size) known ordered is h = pointer_instead (object_outline whole incomplete) (like whole (target_of known row).ty) known ordered
+started_fates : (whole : Qualified) (waiting : Waiting) (ty : Ty) (known : Known) → Orderly known → whole.ty ≡ ty → Stands known ty → Fates known IsNoParam (λ x k. IsParamDeclared k x.declared) (started (record { declared = ObjectDeclared whole; bad = false; waiting = waiting }) whole ty known)
+started_fates whole waiting (Array row count size) known ordered is h = pointer_instead false waiting (like whole (target_of known row).ty) known ordered
     (subst (λ (z : Qualified). Stands known z.ty) (sym (target_is known row h.0 h.1)) (ordered.rows row h.0 h.1))
-started_fates whole incomplete Void known ordered is h = fates_given _ _ known _ (inr (ordered, (subst (Stands known) (sym is) h, ap is_array is)))
-started_fates whole incomplete (Int i) known ordered is h = fates_given _ _ known _ (inr (ordered, (subst (Stands known) (sym is) h, ap is_array is)))
-started_fates whole incomplete (Pointer row) known ordered is h = fates_given _ _ known _ (inr (ordered, (subst (Stands known) (sym is) h, ap is_array is)))
-started_fates whole incomplete (Struct number) known ordered is h = fates_given _ _ known _ (inr (ordered, (subst (Stands known) (sym is) h, ap is_array is)))
+started_fates whole waiting Void known ordered is h = fates_given _ _ known _ (inr (ordered, (subst (Stands known) (sym is) h, ap is_array is)))
+started_fates whole waiting (Int i) known ordered is h = fates_given _ _ known _ (inr (ordered, (subst (Stands known) (sym is) h, ap is_array is)))
+started_fates whole waiting (Pointer row) known ordered is h = fates_given _ _ known _ (inr (ordered, (subst (Stands known) (sym is) h, ap is_array is)))
+started_fates whole waiting (Struct number) known ordered is h = fates_given _ _ known _ (inr (ordered, (subst (Stands known) (sym is) h, ap is_array is)))
 
-pub param_fates : (ms : List Made) (base : Qualified) (incomplete : Bool) (known : Known) → Orderly known → IsBase known base → Each (IsMade known) ms → Fates known IsNoParam (λ x k. IsParamDeclared k x.declared) (param_outlined ms (object_outline base incomplete) known)
-param_fates [] base incomplete known ordered h all = started_fates base incomplete base.ty known ordered refl h
-param_fates (ArrayMade count ∷ ms) base incomplete known ordered h all = fates_then Doomed (λ x k. IsDeclared k x.declared) _ _ known _ _ (outlined_fates ms (object_outline base incomplete) known ordered h all.1)
+-- So it is where it waits.
+started_by_fates : (w : Waiting) (whole : Qualified) (waiting : Waiting) (known : Known) → Orderly known → Stands known whole.ty → Fates known IsNoParam (λ x k. IsParamDeclared k x.declared) (started_by w (record { declared = ObjectDeclared whole; bad = false; waiting = waiting }) whole known)
+started_by_fates (OneArray n) whole waiting known ordered h = pointer_instead false Whole whole known ordered h
+started_by_fates Whole whole waiting known ordered h = started_fates whole waiting whole.ty known ordered refl h
+started_by_fates (TwoArrays n m) whole waiting known ordered h = started_fates whole waiting whole.ty known ordered refl h
+started_by_fates Never whole waiting known ordered h = started_fates whole waiting whole.ty known ordered refl h
+
+pub param_fates : (ms : List Made) (base : Qualified) (waiting : Waiting) (known : Known) → Orderly known → IsBase known base → Each (IsMade known) ms → Fates known IsNoParam (λ x k. IsParamDeclared k x.declared) (param_outlined ms (object_outline base waiting) known)
+param_fates [] base waiting known ordered h all = started_by_fates (waiting_for base.ty waiting) base (waiting_for base.ty waiting) known ordered h
+param_fates (ArrayMade count ∷ ms) base waiting known ordered h all = fates_then Doomed (λ x k. IsDeclared k x.declared) _ _ known _ _ (outlined_fates ms (object_outline base waiting) known ordered h all.1)
     (λ x mid d. pointer_doomed x x.declared mid d) (λ x mid s o2 declared. pointer_fates x x.declared mid o2 declared)
-param_fates (FunctionMade params scope ∷ ms) base incomplete known ordered h all = fates_then Doomed (λ x k. IsDeclared k x.declared) _ _ known _ _ (outlined_fates ms (object_outline base incomplete) known ordered h all.1)
+param_fates (FunctionMade params scope ∷ ms) base waiting known ordered h all = fates_then Doomed (λ x k. IsDeclared k x.declared) _ _ known _ _ (outlined_fates ms (object_outline base waiting) known ordered h all.1)
     (λ x mid d. no_param (function_behind params scope x x.declared) (function_doomed params scope x x.declared d)) (λ x mid s o2 declared. fates_given _ _ mid _ (inr (o2, function_param params scope x x.declared mid)))
 
 pub scalar_is : (known : Known) (ty : Ty) → is_complete known ty ≡ true → is_array ty ≡ false → is_struct ty ≡ false → is_scalar ty ≡ true
@@ -240,16 +247,16 @@ refused_tests false false true k l m line second known h = tt
 refused_tests false false false k l m line second known (inl h) = absurd (false≢true h)
 refused_tests false false false k l m line second known (inr h) = absurd (false≢true h)
 
-doomed_tests : (o : Outline) (x y : Bool) → IsNoParam o → ((o.bad || x) ≡ true) ⊎ ((o.incomplete || y) ≡ true)
+doomed_tests : (o : Outline) (x y : Bool) → IsNoParam o → ((o.bad || x) ≡ true) ⊎ ((is_waiting o.waiting || y) ≡ true)
 doomed_tests o x y (inl bad) = inl (or_left o.bad x bad)
-doomed_tests o x y (inr incomplete) = inr (or_left o.incomplete y incomplete)
+doomed_tests o x y (inr waiting) = inr (or_left (is_waiting o.waiting) y waiting)
 
 pub param_refused : (before : List Param) (said : Specified) (o : Outline) (name : List ℕ) (line : ℕ) (known : Known) → IsNoParam o → IsRefused (param_rule before said o name line known)
-param_refused before said o name line known h = refused_tests (is_again known name) (o.bad || (is_function o.declared || is_struct (object_type o.declared).ty)) (o.incomplete || not (is_complete known (object_type o.declared).ty)) kind.Again kind.Declare kind.Incomplete line _ known
+param_refused before said o name line known h = refused_tests (is_again known name) (o.bad || (is_function o.declared || is_struct (object_type o.declared).ty)) (is_waiting o.waiting || not (is_complete known (object_type o.declared).ty)) kind.Again kind.Declare kind.Incomplete line _ known
     (doomed_tests o (is_function o.declared || is_struct (object_type o.declared).ty) (not (is_complete known (object_type o.declared).ty)) h)
 
 pub member_refused : (number : ℕ) (o : Outline) (name : List ℕ) (line : ℕ) (known : Known) → Doomed o → IsRefused (member_rule number o name line known)
-member_refused number o name line known h = refused_tests (is_some (entry_of (fields_of known number) name)) (o.bad || (is_function o.declared || (object_type o.declared).constant)) (o.incomplete || not (is_complete known (object_type o.declared).ty)) kind.Again kind.Declare kind.Incomplete line _ known
+member_refused number o name line known h = refused_tests (is_some (entry_of (fields_of known number) name)) (o.bad || (is_function o.declared || (object_type o.declared).constant)) (is_waiting o.waiting || not (is_complete known (object_type o.declared).ty)) kind.Again kind.Declare kind.Incomplete line _ known
     (doomed_tests o (is_function o.declared || (object_type o.declared).constant) (not (is_complete known (object_type o.declared).ty)) (no_param o h))
 
 param_last : (known : Known) (ps : List Param) (p : Param) → Each (IsParam known) ps → IsParam known p → Each (IsParam known) (ps ++ p ∷ [])
@@ -268,7 +275,7 @@ binding_last ps p (ObjectName object q fixed) h = object_last ps p object q h
 binding_last ps p (EnumeratorName n) h = tt
 binding_last ps p (BitName register bit) h = absurd h
 binding_last ps p (FunctionName n) h = absurd h
-binding_last ps p (TypeNamed q incomplete) h = absurd h
+binding_last ps p (TypeNamed q waiting) h = absurd h
 
 param_declared : (before : List Param) (said : Specified) (o : Outline) (declared : Declared) (name : List ℕ) (line : ℕ) (known : Known) → o.declared ≡ declared → Orderly known → IsParamDeclared known declared → AreParams known before
     → (is_function declared || is_struct (object_type declared).ty) ≡ false → is_complete known (object_type declared).ty ≡ true
@@ -288,11 +295,11 @@ param_behind before said o name line = λ u. λ k. go_on (λ x. given (before ++
 
 pub param_rule_runs : (before : List Param) (said : Specified) (o : Outline) (name : List ℕ) (line : ℕ) (known : Known) → Orderly known → IsParamDeclared known o.declared → AreParams known before → Runs None true known (λ ps k. AreParams k ps) (param_rule before said o name line known)
 param_rule_runs before said o name line known ordered h all =
-    runs_test None true _ known (is_again known name) kind.Again ((o.bad || (is_function o.declared || is_struct (object_type o.declared).ty), kind.Declare) ∷ (o.incomplete || not (is_complete known (object_type o.declared).ty), kind.Incomplete) ∷ []) line (param_behind before said o name line) (λ e1.
-    runs_test None true _ known (o.bad || (is_function o.declared || is_struct (object_type o.declared).ty)) kind.Declare ((o.incomplete || not (is_complete known (object_type o.declared).ty), kind.Incomplete) ∷ []) line (param_behind before said o name line) (λ e2.
-    runs_test None true _ known (o.incomplete || not (is_complete known (object_type o.declared).ty)) kind.Incomplete [] line (param_behind before said o name line) (λ e3.
+    runs_test None true _ known (is_again known name) kind.Again ((o.bad || (is_function o.declared || is_struct (object_type o.declared).ty), kind.Declare) ∷ (is_waiting o.waiting || not (is_complete known (object_type o.declared).ty), kind.Incomplete) ∷ []) line (param_behind before said o name line) (λ e1.
+    runs_test None true _ known (o.bad || (is_function o.declared || is_struct (object_type o.declared).ty)) kind.Declare ((is_waiting o.waiting || not (is_complete known (object_type o.declared).ty), kind.Incomplete) ∷ []) line (param_behind before said o name line) (λ e2.
+    runs_test None true _ known (is_waiting o.waiting || not (is_complete known (object_type o.declared).ty)) kind.Incomplete [] line (param_behind before said o name line) (λ e3.
     param_declared before said o o.declared name line known refl ordered h all (or_parts o.bad (is_function o.declared || is_struct (object_type o.declared).ty) e2).1
-    (not_false (is_complete known (object_type o.declared).ty) (or_parts o.incomplete (not (is_complete known (object_type o.declared).ty)) e3).1))))
+    (not_false (is_complete known (object_type o.declared).ty) (or_parts (is_waiting o.waiting) (not (is_complete known (object_type o.declared).ty)) e3).1))))
 
 -- ---- members
 
@@ -307,9 +314,9 @@ member_declared number some (ObjectDeclared q) name known ordered opened h singl
 
 pub member_rule_runs : (number : ℕ) (some : Bool) (o : Outline) (name : List ℕ) (line : ℕ) (known : Known) → Orderly known → IsOpen some known number → IsDeclared known o.declared → Runs (Some number) false known (λ x k. IsOpen true k number) (member_rule number o name line known)
 member_rule_runs number some o name line known ordered opened h =
-    runs_test (Some number) false _ known (is_some (entry_of (fields_of known number) name)) kind.Again ((o.bad || (is_function o.declared || (object_type o.declared).constant), kind.Declare) ∷ (o.incomplete || not (is_complete known (object_type o.declared).ty), kind.Incomplete) ∷ []) line (λ u. add_member number name (object_type o.declared)) (λ e1.
-    runs_test (Some number) false _ known (o.bad || (is_function o.declared || (object_type o.declared).constant)) kind.Declare ((o.incomplete || not (is_complete known (object_type o.declared).ty), kind.Incomplete) ∷ []) line (λ u. add_member number name (object_type o.declared)) (λ e2.
-    runs_test (Some number) false _ known (o.incomplete || not (is_complete known (object_type o.declared).ty)) kind.Incomplete [] line (λ u. add_member number name (object_type o.declared)) (λ e3.
+    runs_test (Some number) false _ known (is_some (entry_of (fields_of known number) name)) kind.Again ((o.bad || (is_function o.declared || (object_type o.declared).constant), kind.Declare) ∷ (is_waiting o.waiting || not (is_complete known (object_type o.declared).ty), kind.Incomplete) ∷ []) line (λ u. add_member number name (object_type o.declared)) (λ e1.
+    runs_test (Some number) false _ known (o.bad || (is_function o.declared || (object_type o.declared).constant)) kind.Declare ((is_waiting o.waiting || not (is_complete known (object_type o.declared).ty), kind.Incomplete) ∷ []) line (λ u. add_member number name (object_type o.declared)) (λ e2.
+    runs_test (Some number) false _ known (is_waiting o.waiting || not (is_complete known (object_type o.declared).ty)) kind.Incomplete [] line (λ u. add_member number name (object_type o.declared)) (λ e3.
     member_declared number some o.declared name known ordered opened h (or_parts o.bad (is_function o.declared || (object_type o.declared).constant) e2).1
-    (not_false (is_complete known (object_type o.declared).ty) (or_parts o.incomplete (not (is_complete known (object_type o.declared).ty)) e3).1)
+    (not_false (is_complete known (object_type o.declared).ty) (or_parts (is_waiting o.waiting) (not (is_complete known (object_type o.declared).ty)) e3).1)
     (nothing_there (entry_of (fields_of known number) name) e1))))

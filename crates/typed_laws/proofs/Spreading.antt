@@ -135,7 +135,7 @@ module _ (before after : Known) (g : Grows before after) where
   }
   bound_grows o (BitName register bit) h = tt
   bound_grows o (FunctionName n) h = tt
-  bound_grows o (TypeNamed q incomplete) h = stands_grows o q.ty h
+  bound_grows o (TypeNamed q waiting) h = stands_grows o q.ty h
   bound_grows o (EnumeratorName n) h = tt
 
   pub scope_grows : (o : Orderly before) (scope : Scope) → AreBound before scope → AreBound after scope

@@ -38,7 +38,7 @@ abbrev pub IsNamed : List VariableTree → Known → Binding → Type 0
 IsNamed params known (ObjectName object q fixed) = IsNamedObject params known object q
 IsNamed params known (BitName register bit) = (is_device register && nat_lt bit 8) ≡ true
 IsNamed params known (FunctionName n) = Unit {0}
-IsNamed params known (TypeNamed q incomplete) = Unit {0}
+IsNamed params known (TypeNamed q waiting) = Unit {0}
 IsNamed params known (EnumeratorName n) = Unit {0}
 
 abbrev pub AreNamed : List VariableTree → Known → Scope → Type 0

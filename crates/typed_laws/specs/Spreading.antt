@@ -6,7 +6,7 @@ use Rattle.c_typed.specs.declared.expression.Object.{Object}
 use Rattle.c_typed.specs.declared.expression.Object.TheVariants as object
 use Rattle.c_typed.specs.declared.types.Qualified.{Qualified}
 use Rattle.type_rules.specs.Faults.{Fault}
-use Rattle.type_rules.specs.Known.{Binding, ObjectName, EnumeratorName, Scope, Field, Shape, Open, Known}
+use Rattle.type_rules.specs.Known.{is_waiting, Binding, ObjectName, EnumeratorName, Scope, Field, Shape, Open, Known}
 use Rattle.type_rules.specs.Names.{innermost_in, bound_in, without_first, first_scope}
 use Rattle.type_rules.specs.Outlines.{Param, Made, ArrayMade, FunctionMade, Declared, ObjectDeclared, FunctionDeclared, Outline}
 use Rattle.type_rules.specs.Rows.{is_closed, is_absent}
@@ -139,7 +139,7 @@ AllDoomed D (Err fault) = Unit {0}
 
 -- what no parameter may have
 abbrev pub IsNoParam : Outline → Type 0
-IsNoParam o = (o.bad ≡ true) ⊎ (o.incomplete ≡ true)
+IsNoParam o = (o.bad ≡ true) ⊎ (is_waiting o.waiting ≡ true)
 
 -- a parameter's outline: no array
 abbrev pub IsParamDeclared : Known → Declared → Type 0

@@ -84,7 +84,7 @@ abbrev pub IsBound : Known → Binding → Type 0
 IsBound known (ObjectName object q fixed) = IsObject known object q fixed
 IsBound known (BitName register bit) = Unit {0}
 IsBound known (FunctionName number) = Unit {0}
-IsBound known (TypeNamed q incomplete) = Stands known q.ty
+IsBound known (TypeNamed q waiting) = Stands known q.ty
 IsBound known (EnumeratorName n) = Unit {0}
 
 abbrev pub AreBound : Known → Scope → Type 0
@@ -103,7 +103,7 @@ IsTag known EnumTag = Unit {0}
 abbrev pub IsNamedBase : Known → Base → Type 0
 IsNamedBase known (StructBase number) = IsThere known number
 IsNamedBase known EnumBase = Unit {0}
-IsNamedBase known (NamedBase q incomplete) = Stands known q.ty
+IsNamedBase known (NamedBase q waiting) = Stands known q.ty
 
 -- ---- tables in order
 
@@ -136,7 +136,7 @@ abbrev pub BindingFits : Program → FunctionTree → Binding → Type 0
 BindingFits p f (ObjectName object q fixed) = is_named (names_local object) (declared_type p f object) q ≡ true
 BindingFits p f (BitName register bit) = (is_device register && nat_lt bit 8) ≡ true
 BindingFits p f (FunctionName number) = Unit {0}
-BindingFits p f (TypeNamed q incomplete) = Unit {0}
+BindingFits p f (TypeNamed q waiting) = Unit {0}
 BindingFits p f (EnumeratorName n) = Unit {0}
 
 pub record Leads (known : Known) (p : Program) (f : FunctionTree) : Type 0 where
