@@ -263,9 +263,7 @@ fn named_type(
     }
     let ty = type_of(&outline.declared);
     let waiting = outline.waiting;
-    checker
-        .scopes
-        .bind(name, Binding::TypeName { ty, waiting })
+    checker.scopes.bind(name, Binding::TypeName { ty, waiting })
 }
 
 fn file_declarator(

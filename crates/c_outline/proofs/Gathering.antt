@@ -1,23 +1,31 @@
 -- What the checker keeps of a list of specifiers is what the rules gather: word by word, and at the end.
-use Rattle.std.proofs.Common.{◌≡◌, ℕ, ◌+◌, ◌≤◌, suc, nat_lt, nat_le, nat_eq, Bool, true, false, not, ◌&&◌, ◌||◌, List, [], ◌∷◌, length, Some, None, Ok, Err, refl, sym, zero, is_some, arith}
+use Rattle.std.proofs.Common.{◌≡◌, ℕ, ◌+◌, ◌≤◌, suc, nat_lt, nat_le, nat_eq, Bool, true, false, not, ◌&&◌, ◌||◌, List, [], ◌∷◌, length, Some, None, Ok, Err, refl, sym, ap, ◌∙◌, zero, is_some, arith}
 use Rattle.std.proofs.lemmas.Bool.{lt-leb, leb-true, true≢false}
 use Rattle.c_token.specs.declared.token.Keyword.{Keyword}
 use Rattle.c_token.specs.declared.token.Keyword.TheVariants as words
 use Rattle.type_rules.specs.Faults as kind
-use Rattle.type_rules.specs.Known.{Known}
+use Rattle.c_tables.specs.Answers.{Refuses}
+use Rattle.c_tables.specs.Tables.{waiting_of}
+use Rattle.c_tables.specs.declared.error.CheckError.{CheckError}
+use Rattle.c_tables.specs.declared.scope.Waiting.{Waiting}
+use Rattle.c_tables.specs.declared.scope.Waiting.TheVariants as waitings
+use Rattle.type_rules.specs.Known as rule_known
+use Rattle.type_rules.specs.Known.{Known, given}
 use Rattle.type_rules.specs.Names.{in_file}
 use Rattle.type_rules.specs.Specifiers as rule
 use Rattle.type_rules.specs.Specifiers.{Gathered, times, has, once_each, single_words, storage_words, is_orderly, qualifies_once, may_stand, specifiers}
 use Rattle.c_outline.specs.Gathering as gathering
-use Rattle.c_outline.specs.Gathering.{is_plain, is_auto, storage_in, base_of, first_of, kept_of, worded, based, base_type, fits}
+use Rattle.c_outline.specs.Gathering.{is_plain, is_auto, storage_in, waiting_kept, base_of, first_of, named_of, kept_of, worded, based, base_type, fits}
 use Rattle.c_outline.specs.Views.{is_typedef, is_static, is_register, site_of, specified_of}
 use Rattle.c_outline.specs.declared.specifiers.Base.{Base}
 use Rattle.c_outline.specs.declared.specifiers.Base.TheVariants as bases
+use Rattle.c_outline.specs.declared.specifiers.NamedType.{NamedType}
 use Rattle.c_outline.specs.declared.specifiers.Site.{Site}
 use Rattle.c_outline.specs.declared.specifiers.Site.TheVariants as sites
 use Rattle.c_outline.specs.declared.specifiers.Storage.{Storage}
 use Rattle.c_outline.specs.declared.specifiers.Storage.TheVariants as storages
 use Rattle.c_outline.specs.declared.specifiers.Words.{Words}
+use Rattle.c_outline.proofs.Outlining.{refused_through}
 
 -- ---- words on storage: how often each stands, and the last one where there is one at most
 
@@ -224,10 +232,16 @@ bad_base base (b ∷ bs) o s = behind_one o _ _ true (behind_one s _ _ true (too
   too_many : (m : ℕ) → not (nat_le (suc (suc m)) 1) ≡ not (nat_le (suc m) 1) || true
   too_many m = rw (lt-leb (suc (suc m)) 1 (omega arith)) (or_true (not (nat_le (suc m) 1)))
 
+kept_back : (w : Waiting) → waiting_kept (waiting_of w) ≡ w
+kept_back waitings.Whole = refl
+kept_back (waitings.OneArray n) = refl
+kept_back (waitings.TwoArrays n m) = refl
+kept_back waitings.Never = refl
+
 pub kept_base : (base : Base) (g : Gathered) → based base (kept_of g) ≡ kept_of (rule.with_base (base_of base) g)
 kept_base (bases.Structure number) g = put (λ (f : Bool) (b : Bool). record (kept_of g) { base = Some (bases.Structure number); void = f; bad = b }) _ _ _ _ refl (bad_base (rule.StructBase number) g.bases (once_each g.words single_words) (nat_le (storage_words g.words) 1))
 kept_base bases.Enumeration g = put (λ (f : Bool) (b : Bool). record (kept_of g) { base = Some bases.Enumeration; void = f; bad = b }) _ _ _ _ refl (bad_base rule.EnumBase g.bases (once_each g.words single_words) (nat_le (storage_words g.words) 1))
-kept_base (bases.Named ty incomplete) g = put (λ (f : Bool) (b : Bool). record (kept_of g) { base = Some (bases.Named ty incomplete); void = f; bad = b }) _ _ _ _ refl (bad_base (rule.NamedBase ty incomplete) g.bases (once_each g.words single_words) (nat_le (storage_words g.words) 1))
+kept_base (bases.Named ty waiting) g = ap (λ (w : Waiting). based (bases.Named ty w) (kept_of g)) (sym (kept_back waiting)) ∙ put (λ (f : Bool) (b : Bool). record (kept_of g) { base = Some (bases.Named ty (waiting_kept (waiting_of waiting))); void = f; bad = b }) _ _ _ _ refl (bad_base (rule.NamedBase ty (waiting_of waiting)) g.bases (once_each g.words single_words) (nat_le (storage_words g.words) 1))
 
 -- ---- the end of a list
 
@@ -235,7 +249,10 @@ base_by : (ws : List Keyword) (bs : List rule.Base) → base_type (kept_of (reco
 base_by ws [] = refl
 base_by ws (rule.StructBase number ∷ bs) = refl
 base_by ws (rule.EnumBase ∷ bs) = refl
-base_by ws (rule.NamedBase ty incomplete ∷ bs) = refl
+base_by ws (rule.NamedBase ty rule_known.Whole ∷ bs) = refl
+base_by ws (rule.NamedBase ty (rule_known.OneArray n) ∷ bs) = refl
+base_by ws (rule.NamedBase ty (rule_known.TwoArrays n m) ∷ bs) = refl
+base_by ws (rule.NamedBase ty rule_known.Never ∷ bs) = refl
 
 not_all : (x q m : Bool) → not (x && (q && m)) ≡ not x || (not q || not m)
 not_all true true m = refl
@@ -309,9 +326,18 @@ ends_badly site g line known w f named e i h b = rw (← base_by g.words g.bases
   by_test : not (is_orderly g) || (not (qualifies_once g.words named.ty) || not (fits (kept_of g) site (in_file known))) ≡ true
   by_test = rw (e, i) at b
 
+-- Arrays that wait can't be made for want of memory.
+pub ends_unmade : (site : Site) (g : Gathered) (line : ℕ) (known : Known) (w : Words) (f : Bool) (named : rule.Named) (e : CheckError) → w ≡ kept_of g → f ≡ in_file known → base_type w w.base ≡ Some named → w.bad || (not (gathering.qualifies_once w named.ty) || not (fits w site f)) ≡ false → Refuses e (rule.remade named.ty named.waiting known) → Refuses e (specifiers (site_of site) g line known)
+ends_unmade site g line known w f named error e i h b r = rw (← base_by g.words g.bases, by_kept, stands site g (qualifies_once g.words named.ty) known, by_test) (refused_through error (λ (whole : rule.Named). given (rule.said g.words whole line)) (rule.remade named.ty named.waiting known) r) where
+  by_kept : base_type (kept_of g) (first_of g.bases) ≡ Some named
+  by_kept = rw e at h
+
+  by_test : not (is_orderly g) || (not (qualifies_once g.words named.ty) || not (fits (kept_of g) site (in_file known))) ≡ false
+  by_test = rw (e, i) at b
+
 -- What they say where they may.
-pub ends_well : (site : Site) (g : Gathered) (line : ℕ) (known : Known) (w : Words) (f : Bool) (named : rule.Named) → w ≡ kept_of g → f ≡ in_file known → base_type w w.base ≡ Some named → w.bad || (not (gathering.qualifies_once w named.ty) || not (fits w site f)) ≡ false → specifiers (site_of site) g line known ≡ Ok (specified_of (record { ty = record { ty = named.ty.ty; constant = w.constant || named.ty.constant; volatile = w.volatile || named.ty.volatile }; incomplete = named.incomplete; storage = w.storage; interrupt = w.interrupt; line = line }), known)
-ends_well site g line known w f named e i h b = rw (← base_by g.words g.bases, by_kept, stands site g (qualifies_once g.words named.ty) known, by_test, e, words_on.0, words_on.1, words_on.2) refl where
+pub ends_well : (site : Site) (g : Gathered) (line : ℕ) (known after : Known) (w : Words) (f : Bool) (named : rule.Named) (whole : NamedType) → w ≡ kept_of g → f ≡ in_file known → base_type w w.base ≡ Some named → w.bad || (not (gathering.qualifies_once w named.ty) || not (fits w site f)) ≡ false → rule.remade named.ty named.waiting known ≡ Ok (named_of whole, after) → specifiers (site_of site) g line known ≡ Ok (specified_of (record { ty = record { ty = whole.ty.ty; constant = w.constant || whole.ty.constant; volatile = w.volatile || whole.ty.volatile }; waiting = whole.waiting; storage = w.storage; interrupt = w.interrupt; line = line }), after)
+ends_well site g line known after w f named whole e i h b r = rw (← base_by g.words g.bases, by_kept, stands site g (qualifies_once g.words named.ty) known, by_test, r, e, words_on.0, words_on.1, words_on.2) refl where
   by_kept : base_type (kept_of g) (first_of g.bases) ≡ Some named
   by_kept = rw e at h
 

@@ -1,5 +1,7 @@
 -- Suffixes, parameters and members: what the rules say step by step, as the calls answer it.
-use Rattle.std.proofs.Common.{◌≡◌, ℕ, ◌+◌, ◌<◌, Bool, true, false, not, ◌||◌, List, [], ◌∷◌, ◌++◌, length, Option, Some, None, is_some, Result, Ok, Err, refl, sym, ap, subst, ◌∙◌, arith}
+use Rattle.std.proofs.Common.{◌≡◌, ℕ, ◌+◌, ◌<◌, Bool, true, false, not, ◌||◌, List, [], ◌∷◌, ◌++◌, length, Option, Some, None, is_some, Result, Ok, Err, refl, sym, ap, subst, ◌∙◌, ⊥, arith}
+use Rattle.std.proofs.lemmas.Bool.{false≢true}
+use Rattle.std.proofs.lemmas.Option.{same_Some}
 use Rattle.c_typed.specs.Sameness.{is_void, is_struct}
 use Rattle.c_typed.specs.declared.types.Qualified.{Qualified}
 use Rattle.c_typed.specs.declared.types.Ty.{Ty}
@@ -9,12 +11,12 @@ use Rattle.c_tables.specs.declared.error.CheckError.{CheckError}
 use Rattle.c_tables.specs.declared.error.CheckError.TheVariants as errors
 use Rattle.type_rules.specs.Faults as kind
 use Rattle.type_rules.specs.Faults.{Fault}
-use Rattle.type_rules.specs.Known.{is_waiting, Known, Rule, given, go_on, tried}
+use Rattle.type_rules.specs.Known.{Waiting, Whole, OneArray, TwoArrays, Never, is_waiting, waits, Known, Rule, given, go_on, tried}
 use Rattle.type_rules.specs.Names.{entry_of}
-use Rattle.type_rules.specs.Outlines.{Param, Made, ArrayMade, FunctionMade, Declared, ObjectDeclared, FunctionDeclared, Outline, array_or_part, behind, started, array_started, outlined, pointer_outline, param_outlined, param_tests, bind_param, param_rule, member_tests, member_rule, is_again, is_function, object_type}
+use Rattle.type_rules.specs.Outlines.{Param, Made, ArrayMade, FunctionMade, Declared, ObjectDeclared, FunctionDeclared, Outline, array_or_part, behind, started, started_by, array_started, outlined, pointer_outline, param_outlined, param_tests, bind_param, param_rule, member_tests, member_rule, is_again, is_function, object_type}
 use Rattle.type_rules.specs.Rows.{plain, like, target_of, pointer_to, array_of, is_complete, fields_of, add_member}
 use Rattle.type_rules.specs.Specifiers.{Specified}
-use Rattle.c_outline.specs.Lists.{outermost, array_of_type, array_of_declared}
+use Rattle.c_outline.specs.Lists.{outermost, array_of_type, array_of_declared, by_array, waiting_element, pointer_instead}
 
 -- ---- one rule behind another
 
@@ -44,23 +46,58 @@ pub array_refused : (count : ℕ) (o : Outline) (element : Qualified) (known : K
 array_refused count o element known e h = refused_through e (λ (made : Qualified). given (record o { declared = ObjectDeclared made; bad = o.bad || is_void element.ty })) (array_of element count known) h
 
 -- what isn't complete
-pub part_made : (count : ℕ) (o : Outline) (element : Qualified) (known : Known) → o.declared ≡ ObjectDeclared element → array_or_part false count o element known ≡ Ok (record { declared = ObjectDeclared element; bad = o.bad || is_void element.ty; incomplete = true }, known)
-part_made count o element known object = ap (λ (d : Declared). Ok (record { declared = d; bad = o.bad || is_void element.ty; incomplete = true }, known)) object
+pub part_made : (count : ℕ) (o : Outline) (element : Qualified) (known : Known) → o.declared ≡ ObjectDeclared element → array_or_part false count o element known ≡ Ok (record { declared = ObjectDeclared element; bad = o.bad || is_void element.ty; waiting = waits count o.waiting }, known)
+part_made count o element known object = ap (λ (d : Declared). Ok (record { declared = d; bad = o.bad || is_void element.ty; waiting = waits count o.waiting }, known)) object
 
 -- a parameter that is an array by the name of its type
-abbrev pub by_array : Outline → Option (Qualified × ℕ) → Rule Outline
-by_array o None known = Ok (o, known)
-by_array o (Some array) known = go_on (λ (made : Ty). given (record o { declared = ObjectDeclared (plain made) })) (pointer_to (like array.0 (target_of known array.1).ty) known)
+none_is : {A : Type 0} {x : A} → None ≡ Some x → ⊥
+none_is h = absurd (false≢true (ap is_some h))
 
-pub started_by : (o : Outline) (d : Declared) (known : Known) → array_started o d known ≡ by_array o (array_of_declared d) known
-started_by o (ObjectDeclared ty) known = by_type ty.ty where
+whole_is : (o : Outline) (ty : Qualified) (known : Known) → started o ty ty.ty known ≡ by_array o (array_of_type ty.ty ty) known
+whole_is o ty known = by_type ty.ty where
   by_type : (t : Ty) → started o ty t known ≡ by_array o (array_of_type t ty) known
   by_type types.Void = refl
   by_type (types.Int i) = refl
   by_type (types.Pointer row) = refl
   by_type (types.Array row count size) = refl
   by_type (types.Struct number) = refl
-started_by o (FunctionDeclared result params scope) known = refl
+
+abbrev started_at : Waiting → Outline → Declared → Rule Outline
+started_at w o (ObjectDeclared ty) = started_by w o ty
+started_at w o (FunctionDeclared result params scope) = given o
+
+start_is : (o : Outline) (d : Declared) (known : Known) → array_started o d known ≡ started_at o.waiting o d known
+start_is o (ObjectDeclared ty) known = refl
+start_is o (FunctionDeclared result params scope) known = refl
+
+element_at : (w : Waiting) (o : Outline) (d : Declared) (element : Qualified) (known : Known) → waiting_element w d ≡ Some element → started_at w o d known ≡ pointer_instead o element known
+element_at (OneArray n) o (ObjectDeclared ty) element known h = ap (λ (t : Qualified). pointer_instead o t known) (same_Some ty element h)
+element_at (OneArray n) o (FunctionDeclared result params scope) element known h = absurd (none_is h)
+element_at Whole o d element known h = absurd (none_is h)
+element_at (TwoArrays n m) o d element known h = absurd (none_is h)
+element_at Never o d element known h = absurd (none_is h)
+
+array_at : (w : Waiting) (o : Outline) (d : Declared) (known : Known) → waiting_element w d ≡ None → started_at w o d known ≡ by_array o (array_of_declared d) known
+array_at (OneArray n) o (ObjectDeclared ty) known h = absurd (none_is (sym h))
+array_at (OneArray n) o (FunctionDeclared result params scope) known h = refl
+array_at Whole o (ObjectDeclared ty) known h = whole_is o ty known
+array_at Whole o (FunctionDeclared result params scope) known h = refl
+array_at (TwoArrays n m) o (ObjectDeclared ty) known h = whole_is o ty known
+array_at (TwoArrays n m) o (FunctionDeclared result params scope) known h = refl
+array_at Never o (ObjectDeclared ty) known h = whole_is o ty known
+array_at Never o (FunctionDeclared result params scope) known h = refl
+
+pub element_started : (o : Outline) (d : Declared) (element : Qualified) (known : Known) → waiting_element o.waiting d ≡ Some element → array_started o d known ≡ pointer_instead o element known
+element_started o d element known h = start_is o d known ∙ element_at o.waiting o d element known h
+
+pub whole_started : (o : Outline) (d : Declared) (known : Known) → waiting_element o.waiting d ≡ None → array_started o d known ≡ by_array o (array_of_declared d) known
+whole_started o d known h = start_is o d known ∙ array_at o.waiting o d known h
+
+pub instead_made : (o : Outline) (element : Qualified) (ty : Ty) (known after : Known) → pointer_to element known ≡ Ok (ty, after) → pointer_instead o element known ≡ Ok (record o { declared = ObjectDeclared (plain ty); waiting = Whole }, after)
+instead_made o element ty known after h = ap (go_on (λ (made : Ty). given (record o { declared = ObjectDeclared (plain made); waiting = Whole }))) h
+
+pub instead_refused : (o : Outline) (element : Qualified) (known : Known) (e : CheckError) → Refuses e (pointer_to element known) → Refuses e (pointer_instead o element known)
+instead_refused o element known e h = refused_through e (λ (made : Ty). given (record o { declared = ObjectDeclared (plain made); waiting = Whole })) (pointer_to element known) h
 
 pub started_made : (o : Outline) (whole : Qualified) (row : ℕ) (ty : Ty) (known after : Known) → pointer_to (like whole (target_of known row).ty) known ≡ Ok (ty, after) → by_array o (Some (whole, row)) known ≡ Ok (record o { declared = ObjectDeclared (plain ty) }, after)
 started_made o whole row ty known after h = ap (go_on (λ (made : Ty). given (record o { declared = ObjectDeclared (plain made) }))) h
@@ -68,11 +105,11 @@ started_made o whole row ty known after h = ap (go_on (λ (made : Ty). given (re
 pub started_refused : (o : Outline) (whole : Qualified) (row : ℕ) (known : Known) (e : CheckError) → Refuses e (pointer_to (like whole (target_of known row).ty) known) → Refuses e (by_array o (Some (whole, row)) known)
 started_refused o whole row known e h = refused_through e (λ (made : Ty). given (record o { declared = ObjectDeclared (plain made) })) (pointer_to (like whole (target_of known row).ty) known) h
 
-pub pointer_made : (o : Outline) (element : Qualified) (ty : Ty) (known after : Known) → pointer_to element known ≡ Ok (ty, after) → pointer_outline o (ObjectDeclared element) known ≡ Ok (record o { declared = ObjectDeclared (plain ty) }, after)
-pointer_made o element ty known after h = ap (go_on (λ (made : Ty). given (record o { declared = ObjectDeclared (plain made) }))) h
+pub pointer_made : (o : Outline) (element : Qualified) (ty : Ty) (known after : Known) → pointer_to element known ≡ Ok (ty, after) → pointer_outline o (ObjectDeclared element) known ≡ Ok (record o { declared = ObjectDeclared (plain ty); bad = o.bad || is_void element.ty }, after)
+pointer_made o element ty known after h = ap (go_on (λ (made : Ty). given (record o { declared = ObjectDeclared (plain made); bad = o.bad || is_void element.ty }))) h
 
 pub pointer_refused : (o : Outline) (element : Qualified) (known : Known) (e : CheckError) → Refuses e (pointer_to element known) → Refuses e (pointer_outline o (ObjectDeclared element) known)
-pointer_refused o element known e h = refused_through e (λ (made : Ty). given (record o { declared = ObjectDeclared (plain made) })) (pointer_to element known) h
+pointer_refused o element known e h = refused_through e (λ (made : Ty). given (record o { declared = ObjectDeclared (plain made); bad = o.bad || is_void element.ty })) (pointer_to element known) h
 
 -- ---- suffixes, the last of which stands next to the type
 

@@ -367,7 +367,10 @@ fn param_type(
     if either(outline.bad, is_structure(ty.ty)) {
         return refused(Kind::Declare, line);
     }
-    if either(is_waiting(outline.waiting), !checker.types.is_complete(ty.ty)) {
+    if either(
+        is_waiting(outline.waiting),
+        !checker.types.is_complete(ty.ty),
+    ) {
         return refused(Kind::Incomplete, line);
     }
     Ok(*ty)

@@ -2,7 +2,7 @@
 
 ghost use Rattle.std.specs.Prelude.{◌≡◌, ◌-◌, Ok, [], length, map};
 ghost use Rattle.std.specs.Option.{option_map};
-ghost use Rattle.type_rules.specs.Known as known;
+ghost use Rattle.type_rules.specs.Known as rule_known;
 ghost use Rattle.type_rules.specs.Known.{Known};
 ghost use Rattle.type_rules.specs.Names as names;
 ghost use Rattle.c_tables.specs.Answers.{Learns};
@@ -26,7 +26,7 @@ pub enum Waiting {
 
 /// Whether anything is still to be made.
 pub fn is_waiting(waiting: Waiting) -> bool
-    ensures { result ≡ known.is_waiting (waiting_of waiting) }
+    ensures { result ≡ rule_known.is_waiting (waiting_of waiting) }
 {
     match waiting {
         Waiting::Whole => false,

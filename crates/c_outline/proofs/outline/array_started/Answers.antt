@@ -1,13 +1,11 @@
-use Rattle.std.proofs.lemmas.Result.{err_from_is_err_and}
+use Rattle.std.proofs.Common.{sym}
 use Rattle.c_tables.specs.Tables.{types_in}
 use Rattle.c_outline.specs.Views.{outline_of}
-use Rattle.c_outline.proofs.Outlining.{started_by, started_made, started_refused}
+use Rattle.c_outline.proofs.Outlining.{element_started, whole_started}
 use Rattle.c_outline.proofs.outline.array_started.Goals as goal
 
-pub returns-in_err-to : goal.returns-in_err-to
-returns-in_err-to c known =
-    let p = err_from_is_err_and c.from_residual.result c.from_residual.ensures.1 in
-    rw (p.1, p.2, started_by (outline_of c.args.outline) (outline_of c.args.outline).declared (types_in c.args.types.now known), ← c.in-Some.ensures) (started_refused (outline_of c.args.outline) c.in-Some.whole c.in-Some.element (types_in c.args.types.now known) c.in_err-to.field-0.0 (rw (c.like-target.ensures, c.target.ensures known) at (c.in_err-to.ensures known)))
+pub returns-in-Some : goal.returns-in-Some
+returns-in-Some c known = rw (element_started (outline_of c.args.outline) (outline_of c.args.outline).declared c.in-Some.element (types_in c.args.types.now known) (sym c.in-Some.ensures)) (c.element_started.ensures known)
 
-pub returns : goal.returns
-returns c known = rw (started_by (outline_of c.args.outline) (outline_of c.args.outline).declared (types_in c.args.types.now known), ← c.in-Some.ensures, c.plain.ensures) (started_made (outline_of c.args.outline) c.in-Some.whole c.in-Some.element c.in_ok-to.to (types_in c.args.types.now known) (types_in c.pointer_to.new.self known) (rw (c.like-target.ensures, c.target.ensures known) at (c.in_ok-to.ensures known)))
+pub returns-in-None : goal.returns-in-None
+returns-in-None c known = rw (whole_started (outline_of c.args.outline) (outline_of c.args.outline).declared (types_in c.args.types.now known) (sym c.in-None.ensures)) (c.whole_started.ensures known)

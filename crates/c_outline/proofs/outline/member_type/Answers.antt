@@ -15,7 +15,7 @@ pub returns-then-either-clause-tests : goal.returns-then-either-clause-tests
 returns-then-either-clause-tests c known = rw c.refused-then-either.ensures (member_bad (types_in c.args.types.now known) c.args.structure c.args.name.now (outline_of c.args.outline.now) c.in-Object.ty c.args.line (sym (c.if-has_member.ensures known)) (ap declared_of c.in-Object.is) (sym c.if-either.ensures))
 
 pub returns-then-either-2-clause-tests : goal.returns-then-either-2-clause-tests
-returns-then-either-2-clause-tests c known = rw c.refused-then-either-2.ensures (member_incomplete (types_in c.args.types.now known) c.args.structure c.args.name.now (outline_of c.args.outline.now) c.in-Object.ty c.args.line (sym (c.if-has_member.ensures known)) (ap declared_of c.in-Object.is) (sym c.if-either.ensures) (sym (rw (c.is_complete.ensures known) at c.if-either-2.ensures)))
+returns-then-either-2-clause-tests c known = rw c.refused-then-either-2.ensures (member_incomplete (types_in c.args.types.now known) c.args.structure c.args.name.now (outline_of c.args.outline.now) c.in-Object.ty c.args.line (sym (c.if-has_member.ensures known)) (ap declared_of c.in-Object.is) (sym c.if-either.ensures) (sym (rw (c.is_waiting.ensures, c.is_complete.ensures known) at c.if-either-2.ensures)))
 
 pub returns-clause-tests : goal.returns-clause-tests
-returns-clause-tests c known = member_good (types_in c.args.types.now known) c.args.structure c.args.name.now (outline_of c.args.outline.now) c.in-Object.ty c.args.line (sym (c.if-has_member.ensures known)) (ap declared_of c.in-Object.is) (sym c.if-either.ensures) (sym (rw (c.is_complete.ensures known) at c.if-either-2.ensures))
+returns-clause-tests c known = member_good (types_in c.args.types.now known) c.args.structure c.args.name.now (outline_of c.args.outline.now) c.in-Object.ty c.args.line (sym (c.if-has_member.ensures known)) (ap declared_of c.in-Object.is) (sym c.if-either.ensures) (sym (rw (c.is_waiting.ensures, c.is_complete.ensures known) at c.if-either-2.ensures))

@@ -15,7 +15,7 @@ pub returns-then-either-clause-tests : goal.returns-then-either-clause-tests
 returns-then-either-clause-tests c = rw c.refused-then-either.ensures (param_bad (known_of c.args.checker.now) c.args.name.now (outline_of c.args.outline.now) c.in-Object.ty c.args.line (sym (c.if-is_again.ensures (known_of c.args.checker.now))) (ap declared_of c.in-Object.is) (sym (rw c.is_structure.ensures at c.if-either.ensures)))
 
 pub returns-then-either-2-clause-tests : goal.returns-then-either-2-clause-tests
-returns-then-either-2-clause-tests c = rw c.refused-then-either-2.ensures (param_incomplete (known_of c.args.checker.now) c.args.name.now (outline_of c.args.outline.now) c.in-Object.ty c.args.line (sym (c.if-is_again.ensures (known_of c.args.checker.now))) (ap declared_of c.in-Object.is) (sym (rw c.is_structure.ensures at c.if-either.ensures)) (sym (rw (c.is_complete.ensures (known_of c.args.checker.now)) at c.if-either-2.ensures)))
+returns-then-either-2-clause-tests c = rw c.refused-then-either-2.ensures (param_incomplete (known_of c.args.checker.now) c.args.name.now (outline_of c.args.outline.now) c.in-Object.ty c.args.line (sym (c.if-is_again.ensures (known_of c.args.checker.now))) (ap declared_of c.in-Object.is) (sym (rw c.is_structure.ensures at c.if-either.ensures)) (sym (rw (c.is_waiting.ensures, c.is_complete.ensures (known_of c.args.checker.now)) at c.if-either-2.ensures)))
 
 pub returns-clause-tests : goal.returns-clause-tests
-returns-clause-tests c = param_good (known_of c.args.checker.now) c.args.name.now (outline_of c.args.outline.now) c.in-Object.ty c.args.line (sym (c.if-is_again.ensures (known_of c.args.checker.now))) (ap declared_of c.in-Object.is) (sym (rw c.is_structure.ensures at c.if-either.ensures)) (sym (rw (c.is_complete.ensures (known_of c.args.checker.now)) at c.if-either-2.ensures))
+returns-clause-tests c = param_good (known_of c.args.checker.now) c.args.name.now (outline_of c.args.outline.now) c.in-Object.ty c.args.line (sym (c.if-is_again.ensures (known_of c.args.checker.now))) (ap declared_of c.in-Object.is) (sym (rw c.is_structure.ensures at c.if-either.ensures)) (sym (rw (c.is_waiting.ensures, c.is_complete.ensures (known_of c.args.checker.now)) at c.if-either-2.ensures))
