@@ -8,7 +8,7 @@ use Rattle.type_rules.specs.Declarations as rule
 use Rattle.type_rules.specs.Declarators.{Context, in_file, line_in, name_in, outline_of, specified}
 use Rattle.type_rules.specs.Faults as kind
 use Rattle.type_rules.specs.Faults.{Fault}
-use Rattle.type_rules.specs.Known.{Binding, ObjectName, BitName, FunctionName, TypeNamed, EnumeratorName, Known, Rule, given, known_here, tried, go_on, ◌>>=◌}
+use Rattle.type_rules.specs.Known.{Waiting, Binding, ObjectName, BitName, FunctionName, TypeNamed, EnumeratorName, Known, Rule, given, known_here, tried, go_on, ◌>>=◌}
 use Rattle.type_rules.specs.Names.{innermost_in, is_declared, bind, tests_of_new}
 use Rattle.type_rules.specs.Objects.{next_declarator, object_rule, static_rule, block_name, local_rule}
 use Rattle.type_rules.specs.Outlines.{Outline, Param, is_function, object_type}
@@ -53,8 +53,8 @@ module _ (name : List ℕ) (result : Qualified) (params : List Ty) (defines : Bo
   pub bit_again : (found : Option Binding) (bad : Bool) (r b : ℕ) → Some (BitName r b) ≡ found → number_known found bad ≡ again
   bit_again found bad r b is = ap (λ f. number_known f bad) (sym is) ∙ other_at false bad refl
 
-  pub type_again : (found : Option Binding) (bad incomplete : Bool) (ty : Qualified) → Some (TypeNamed ty incomplete) ≡ found → number_known found bad ≡ again
-  type_again found bad incomplete ty is = ap (λ f. number_known f bad) (sym is) ∙ other_at false bad refl
+  pub type_again : (found : Option Binding) (bad : Bool) (waiting : Waiting) (ty : Qualified) → Some (TypeNamed ty waiting) ≡ found → number_known found bad ≡ again
+  type_again found bad waiting ty is = ap (λ f. number_known f bad) (sym is) ∙ other_at false bad refl
 
   pub enumerator_again : (found : Option Binding) (bad : Bool) (n : _) → Some (EnumeratorName n) ≡ found → number_known found bad ≡ again
   enumerator_again found bad n is = ap (λ f. number_known f bad) (sym is) ∙ other_at false bad refl

@@ -8,12 +8,12 @@ ghost use Rattle.c_typed.specs.Trees as typed;
 ghost use Rattle.c_typed.specs.Views.{expression_of, item_of, place_of, statement_of};
 ghost use Rattle.c_typed.specs.declared.expression.Object.TheVariants as objects;
 ghost use Rattle.c_typed.specs.declared.types.Qualified.{Qualified};
-ghost use Rattle.type_rules.specs.Known.{ObjectName, Known, given};
+ghost use Rattle.type_rules.specs.Known.{ObjectName, Known, given, is_waiting};
 ghost use Rattle.type_rules.specs.Names as names;
 ghost use Rattle.type_rules.specs.Objects as rule;
 ghost use Rattle.type_rules.specs.Rows.{bytes_of, is_complete};
 ghost use Rattle.c_tables.specs.Answers.{Answers, Learns};
-ghost use Rattle.c_tables.specs.Tables.{known_of, scopes_in, types_in};
+ghost use Rattle.c_tables.specs.Tables.{known_of, scopes_in, types_in, waiting_of};
 ghost use Rattle.c_outline.specs.Views.{is_register, outline_of, specified_of};
 ghost use Rattle.c_check.specs.Views.{any_init, only_one};
 ghost use Rattle.c_outline.specs.Slots.{slot_of};
@@ -26,7 +26,7 @@ use c_outline::slot::Slot;
 use c_outline::specifiers::{Specified, Storage};
 use c_tables::checker::Checker;
 use c_tables::error::{CheckError, Kind, refused};
-use c_tables::scope::{Binding, Scopes, is_waiting};
+use c_tables::scope::{Binding, Scopes, Waiting, is_waiting};
 use c_tables::types::{Types, like};
 use c_typed::{Object, Qualified, TExpr, TItem, TPlace, TStmt, Ty, is_array, is_scalar};
 use itoa::Buffer;
@@ -48,13 +48,13 @@ fn is_large(types: &Types, ty: Ty) -> bool
 }
 
 // Whether a type isn't one that an object can have; an initializer may give the length of an array.
-fn is_missing(types: &Types, ty: Ty, incomplete: bool, given: bool) -> bool
-    ensures { (known : Known) → result ≡ (incomplete || not ((given && is_array ty) || is_complete (types_in types.now known) ty)) }
+fn is_missing(types: &Types, ty: Ty, waiting: Waiting, given: bool) -> bool
+    ensures { (known : Known) → result ≡ (is_waiting (waiting_of waiting) || not ((given && is_array ty) || is_complete (types_in types.now known) ty)) }
 {
     let open = both(given, is_array(ty));
     let complete = types.is_complete(ty);
     let usable = either(open, complete);
-    either(incomplete, !usable)
+    either(is_waiting(waiting), !usable)
 }
 
 /// The type that an object is declared with; `given` says that an initializer may give its length.
@@ -78,7 +78,7 @@ pub(crate) fn object_type(
     if is_large(types, ty.ty) {
         return refused(Kind::Size, line);
     }
-    if is_missing(types, ty.ty, is_waiting(outline.waiting), given) {
+    if is_missing(types, ty.ty, outline.waiting, given) {
         return refused(Kind::Incomplete, line);
     }
     Ok(ty)

@@ -17,7 +17,7 @@ use Rattle.type_rules.specs.Declarators.{Context, of_member, of_param, body_open
 use Rattle.type_rules.specs.Declarators as rule
 use Rattle.type_rules.specs.Faults as kind
 use Rattle.type_rules.specs.Faults.{Fault}
-use Rattle.type_rules.specs.Known.{is_waiting, Scope, Known, Rule, Open, Closed, given, tried, go_on}
+use Rattle.type_rules.specs.Known.{Waiting, is_waiting, Scope, Known, Rule, Open, Closed, given, tried, go_on}
 use Rattle.type_rules.specs.Names.{enter_list, leave_list}
 use Rattle.type_rules.specs.Outlines.{Param, Made, ArrayMade, FunctionMade, Outline, object_outline, outlined, param_outlined, param_rule, member_rule, declarator_line}
 use Rattle.type_rules.specs.Rows.{is_absent, progress_of, set_progress}
@@ -114,6 +114,12 @@ names_begin n t s ss pointers w known after en e h = subst (λ n. Left (finish_n
 pub names_refused : (n : TypeTree) (t : SpecTrees) (s : SpecTree) (ss : List SpecTree) (pointers : Symbols) (known : Known) (e : CheckError) → n ≡ tree.TypeOf t pointers → t ≡ tree.Specified s (more_specs ss) → Refuses e (named_spec s nothing_gathered known) → Refuses e (type_named n known)
 names_refused n t s ss pointers known e en is h = subst (λ n. Refuses e (type_named n known)) (sym en) (subst (λ t. Refuses e (type_named (tree.TypeOf t pointers) known)) (sym is)
     (refused_through e (finish_name (tree.Specified s (more_specs ss)) pointers) (go_on (rest_names ss) (named_spec s nothing_gathered known)) (refused_through e (rest_names ss) (named_spec s nothing_gathered known) h)))
+
+pub name_waits : (t : SpecTrees) (pointers : Symbols) (g : Gathered) (base : Specified) (known mid : Known) → specifiers OfTypeName g (specs_line t) known ≡ Ok (base, mid) → is_waiting base.waiting ≡ true → finish_name t pointers g known ≡ Err (record { kind = kind.Incomplete; line = base.line })
+name_waits t pointers g base known mid h w = ap (go_on (after_named pointers)) h ∙ ap (λ b. go_on (λ (x : Known). with_pointers pointers base.ty) (tried ((b, kind.Incomplete) ∷ []) base.line mid)) w
+
+pub name_whole : (t : SpecTrees) (pointers : Symbols) (g : Gathered) (base : Specified) (known mid : Known) → specifiers OfTypeName g (specs_line t) known ≡ Ok (base, mid) → is_waiting base.waiting ≡ false → finish_name t pointers g known ≡ with_pointers pointers base.ty mid
+name_whole t pointers g base known mid h w = ap (go_on (after_named pointers)) h ∙ ap (λ b. go_on (λ (x : Known). with_pointers pointers base.ty) (tried ((b, kind.Incomplete) ∷ []) base.line mid)) w
 
 pub names_at : (xs : List Spec) (i : ℕ) (x : Spec) → i < length xs → x ≡ get_or xs i x → (g : Gathered) (k : Known) → rest_names (map spec_of (drop i xs)) g k ≡ go_on (rest_names (map spec_of (drop (i + 1) xs))) (named_spec (spec_of x) g k)
 names_at xs i x lt is g k = at_front spec_of (λ l. rest_names l g k) xs i x lt is
@@ -238,17 +244,17 @@ field_refused t pointers n ss s number known e is h = subst (λ t. Refuses e (fi
 
 -- ---- what a declarator makes of a type
 
-abbrev pub after_base : SuffixTrees → Bool → Bool → Qualified → Rule Outline
-after_base ss bodies incomplete base = λ k. go_on (λ (made : List Made). outlined made (object_outline base incomplete)) (suffixes ss bodies k)
+abbrev pub after_base : SuffixTrees → Bool → Waiting → Qualified → Rule Outline
+after_base ss bodies waiting base = λ k. go_on (λ (made : List Made). outlined made (object_outline base waiting)) (suffixes ss bodies k)
 
 pub outline_ends : (t : DeclaratorTree) (pointers : Symbols) (n : Symbol) (ss : SuffixTrees) (s : Specified) (bodies : Bool) (base : Qualified) (made : List Made) (known mid here : Known) → t ≡ tree.Declares pointers n ss → with_pointers pointers s.ty known ≡ Ok (base, mid) → suffixes ss bodies mid ≡ Ok (made, here) → outline_of t s bodies known ≡ outlined made (object_outline base s.waiting) here
-outline_ends t pointers n ss s bodies base made known mid here e p m = ap (λ t. outline_of t s bodies known) e ∙ ap (go_on (after_base ss bodies s.incomplete)) p ∙ ap (go_on (λ (made : List Made). outlined made (object_outline base s.waiting))) m
+outline_ends t pointers n ss s bodies base made known mid here e p m = ap (λ t. outline_of t s bodies known) e ∙ ap (go_on (after_base ss bodies s.waiting)) p ∙ ap (go_on (λ (made : List Made). outlined made (object_outline base s.waiting))) m
 
 pub outline_unpointed : (t : DeclaratorTree) (pointers : Symbols) (n : Symbol) (ss : SuffixTrees) (s : Specified) (bodies : Bool) (known : Known) (e : CheckError) → t ≡ tree.Declares pointers n ss → Refuses e (with_pointers pointers s.ty known) → Refuses e (outline_of t s bodies known)
-outline_unpointed t pointers n ss s bodies known e is h = subst (λ t. Refuses e (outline_of t s bodies known)) (sym is) (refused_through e (after_base ss bodies s.incomplete) (with_pointers pointers s.ty known) h)
+outline_unpointed t pointers n ss s bodies known e is h = subst (λ t. Refuses e (outline_of t s bodies known)) (sym is) (refused_through e (after_base ss bodies s.waiting) (with_pointers pointers s.ty known) h)
 
 pub outline_unmade : (t : DeclaratorTree) (pointers : Symbols) (n : Symbol) (ss : SuffixTrees) (s : Specified) (bodies : Bool) (base : Qualified) (known mid : Known) (e : CheckError) → t ≡ tree.Declares pointers n ss → with_pointers pointers s.ty known ≡ Ok (base, mid) → Refuses e (suffixes ss bodies mid) → Refuses e (outline_of t s bodies known)
-outline_unmade t pointers n ss s bodies base known mid e is p h = subst (λ t. Refuses e (outline_of t s bodies known)) (sym is) (subst (Refuses e) (sym (ap (go_on (after_base ss bodies s.incomplete)) p)) (refused_through e (λ (made : List Made). outlined made (object_outline base s.waiting)) (suffixes ss bodies mid) h))
+outline_unmade t pointers n ss s bodies base known mid e is p h = subst (λ t. Refuses e (outline_of t s bodies known)) (sym is) (subst (Refuses e) (sym (ap (go_on (after_base ss bodies s.waiting)) p)) (refused_through e (λ (made : List Made). outlined made (object_outline base s.waiting)) (suffixes ss bodies mid) h))
 
 -- ---- suffixes
 

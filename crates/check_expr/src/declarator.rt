@@ -151,8 +151,7 @@ pub fn specified(
         words = specifier(spec, checker, context, words)?;
     }
     let in_file = checker.scopes.is_file();
-    let line = specs_line(specs);
-    words.finished(&mut checker.types, context.site, in_file, line)
+    words.finished(&mut checker.types, context.site, in_file, specs_line(specs))
 }
 
 #[cycle(declarator)]

@@ -169,8 +169,12 @@ pub(crate) fn type_named(name: &TypeName, checker: &mut Checker) -> Result<Quali
         words = type_word(spec, checker, words)?;
     }
     let in_file = checker.scopes.is_file();
-    let line = specs_line(&name.0);
-    let base = words.finished(&mut checker.types, Site::TypeName, in_file, line)?;
+    let base = words.finished(
+        &mut checker.types,
+        Site::TypeName,
+        in_file,
+        specs_line(&name.0),
+    )?;
     if is_waiting(base.waiting) {
         return refused(Kind::Incomplete, base.line);
     }

@@ -38,8 +38,8 @@ grown_stays whose n inner known held = grown_by_stays whose (not (is_waiting inn
 
 remade_stays : (whose : List ℕ) (ty : Qualified) (waiting : Waiting) (known : Known) → Held whose known → Stays whose (remade ty waiting known)
 remade_stays whose ty Whole known held = stays_given _ _ held
-remade_stays whose ty (OneArray n) known held = grown_stays whose n _ known held
-remade_stays whose ty (TwoArrays n m) known held = stays_on _ _ _ (grown_stays whose m _ known held) (λ inner k c. grown_stays whose n inner k c)
+remade_stays whose ty (OneArray n) known held = grown_stays whose n (record { ty = ty; waiting = Whole }) known held
+remade_stays whose ty (TwoArrays n m) known held = stays_on _ _ _ (grown_stays whose m (record { ty = ty; waiting = Whole }) known held) (λ inner k c. grown_stays whose n inner k c)
 remade_stays whose ty Never known held = stays_given _ _ held
 
 pub specifiers_stays : (whose : List ℕ) (site : Site) (g : Gathered) (line : ℕ) (known : Known) → Held whose known → Stays whose (specifiers site g line known)

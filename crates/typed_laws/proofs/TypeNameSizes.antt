@@ -38,8 +38,8 @@ grown_met h n inner known within = grown_by_met h (not (is_waiting inner.waiting
 
 remade_met : (h : ℕ) (ty : Qualified) (waiting : Waiting) (known : Known) → held known ≤ h → Met (Costs h 0 nothing) (remade ty waiting known)
 remade_met h ty Whole known within = met_kept h _ _ within
-remade_met h ty (OneArray n) known within = grown_met h n _ known within
-remade_met h ty (TwoArrays n m) known within = met_on (Costs h 0 nothing) _ _ _ (grown_met h m _ known within) (λ inner k c. grown_met h n inner k c.within)
+remade_met h ty (OneArray n) known within = grown_met h n (record { ty = ty; waiting = Whole }) known within
+remade_met h ty (TwoArrays n m) known within = met_on (Costs h 0 nothing) _ _ _ (grown_met h m (record { ty = ty; waiting = Whole }) known within) (λ inner k c. grown_met h n inner k c.within)
 remade_met h ty Never known within = met_kept h _ _ within
 
 pub specifiers_met : (h : ℕ) (site : Site) (g : Gathered) (line : ℕ) (known : Known) → held known ≤ h → Met (Costs h 0 nothing) (specifiers site g line known)
