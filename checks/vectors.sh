@@ -1,7 +1,7 @@
 #!/bin/sh
-# The cases of checks/cases/refusals.jsonl, and of narrower.jsonl beside it, through `picc build`: one JSON object a line, with the text of a
-# program and the answer that was worked out by hand, a refusal or `ok`. Those of narrower.jsonl are what docs/language.md lists as narrower
-# and wider than C90, and what to write instead.
+# The cases of checks/cases/refusals.jsonl, and of narrower.jsonl and types.jsonl beside it, through `picc build`: one JSON object a line, with the
+# text of a program and the answer that was worked out by hand, a refusal or `ok`. Those of narrower.jsonl are what docs/language.md lists as narrower
+# and wider than C90, and what to write instead; those of types.jsonl are short texts on names and types.
 # What a case says beside `ok` of lines of the map and of bytes of a frame is compared with the map. Words of a block and depths
 # aren't printed, so such a case is skipped once its program was accepted.
 set -u
@@ -61,7 +61,7 @@ PY
 }
 
 (enter_folder && first_build) || exit 1
-for file in refusals.jsonl narrower.jsonl; do
+for file in refusals.jsonl narrower.jsonl types.jsonl; do
     have_cases "$file" || continue
     (enter_folder && build_cases) || failed=1
 done

@@ -88,7 +88,9 @@ taken => void f(register int a);
 taken => void main(void){auto int x;register int y;}
 taken => struct s{const char*p;};
 taken => void main(void){(register int)1;}
-taken => void f(void*a,void b[]);
+taken => void f(void*a,char b[]);
+Declare 1 => void f(void b[]);
+Declare 1 => void f(void b[2]);
 Size 1 => int a[0];
 Size 1 => int a[-1];
 Size 1 => char a[65536];
@@ -127,7 +129,7 @@ Again 4 => int f(void);void$f(int$a,int$a);"#;
 fn declarations_are_taken_or_refused(rt: HostRuntime) -> Result<(), Fail> {
     assert_eq!(rt;
         checked(&rt, rt.alloc(), Question::Rule, DECLARATIONS)?,
-        118
+        120
     );
     Ok(())
 }
@@ -395,6 +397,7 @@ Declare 1 => struct s{enum{A}x;};
 Declare 1 => struct s{enum e{A}x;};
 Declare 1 => void main(void){(enum{A})1;}
 Declare 1 => void main(void){sizeof(enum e{A});}
+Declare 1 => typedef void V;void f(V x[]);
 Declare 1 => typedef int A[3];A f(void);
 Declare 1 => typedef struct s{int a;}S;S f(void);
 Declare 1 => typedef struct s{int a;}S;void f(S x);
@@ -412,6 +415,13 @@ Incomplete 1 => typedef int A[];A x;
 Incomplete 1 => typedef void V;void main(void){sizeof(V);}
 Incomplete 1 => typedef struct s S;struct t{S a;};
 Incomplete 1 => typedef struct s A[3];A x;
+Incomplete 1 => typedef struct s A[3];A x;struct s{int a;};
+Incomplete 1 => typedef struct s A[3];char c[sizeof(A)];
+Incomplete 1 => typedef struct s A[2];struct s{A a;};
+Incomplete 1 => typedef struct s A[2];void main(void){A x;}
+Incomplete 1 => typedef struct s A[3];A*p;
+Incomplete 1 => typedef struct s A[1][2][3];struct s{int a;};A x;
+Operand 1 => typedef struct s A[3];struct s{int a;};A*p;void main(void){(A)p;}
 Constant 1 => enum{A=32767,B};
 Constant 1 => enum{A=32768};
 Constant 1 => enum{A=-32769};
@@ -482,6 +492,16 @@ taken => enum{A};void f(void){int A;A=1;}
 taken => typedef struct{int a;}S;S x,y;void main(void){x=y;}
 taken => typedef struct s S;void f(S*p);struct s{int a;};void f(S*p){p->a=1;}
 taken => typedef struct s A[3];
+taken => typedef struct s A[3];struct s{int a;};A x;char c[sizeof(A)==6];
+taken => typedef struct s A[3];struct s{int a;};A*p;void main(void){(A*)p;}
+taken => typedef struct s A[3];struct s{int a;};struct t{A x;}y;
+taken => typedef struct s A[3];struct s{int a;};typedef A B[2];B x;
+taken => typedef struct s A[3];struct s{int a;};A*f(void);
+taken => typedef struct s A[2][3];struct s{int a;};A x;char c[sizeof(A)==12];
+taken => typedef struct s A[3];typedef A B[2];struct s{int a;};B x;char c[sizeof(B)==12];
+taken => typedef struct s U;typedef U A[3];struct s{int a;};A x;
+taken => typedef struct s A[];struct s{int a;};A x={{1},{2}};
+taken => typedef struct s A[3];void f(A x);struct s{int a;};void f(A x){x->a=1;}
 taken => typedef int T;typedef T U;U x;
 taken => typedef const char C;typedef volatile C D;D x=1;
 taken => enum e{A}f(void);enum e f(void){return A;}
@@ -496,10 +516,10 @@ taken => enum e{A};void main(void){enum e*p;}"#;
 
 #[test]
 fn types_and_numbers_have_names(rt: HostRuntime) -> Result<(), Fail> {
-    assert_eq!(rt; checked(&rt, rt.alloc(), Question::Rule, TYPE_NAMES)?, 110);
+    assert_eq!(rt; checked(&rt, rt.alloc(), Question::Rule, TYPE_NAMES)?, 118);
     assert_eq!(rt;
         checked(&rt, rt.alloc(), Question::Rule, TYPE_NAMES_TAKEN)?,
-        47
+        57
     );
     Ok(())
 }

@@ -79,6 +79,26 @@ takes_pointer = record {
   functions = record { name = codes "f"; result = types.Void; params = param (codes "x") (types.Pointer 0) ∷ []; locals = []; body = typed.NoStatement; interrupt = false; line = 1 } ∷ [];
 }
 
+-- Two structures of one byte: their array is made where its name is used.
+abbrev pub two_structures : Program
+two_structures = record {
+  targets = plain (types.Struct 0) ∷ [];
+  structures = record { members = record { ty = plain (types.Int int.Char); offset = 0 } ∷ []; size = 1 } ∷ [];
+  sizes = 1 ∷ [];
+  statics = unset (codes "x") (plain (types.Array 0 2 2)) ∷ [];
+  functions = [];
+}
+
+-- The structure has no body, and what points to it needs none.
+abbrev pub takes_open : Program
+takes_open = record {
+  targets = plain (types.Struct 0) ∷ [];
+  structures = record { members = []; size = 0 } ∷ [];
+  sizes = 0 ∷ [];
+  statics = [];
+  functions = record { name = codes "f"; result = types.Void; params = param (codes "x") (types.Pointer 0) ∷ []; locals = []; body = typed.NoStatement; interrupt = false; line = 1 } ∷ [];
+}
+
 abbrev pub gives_five : Statements
 gives_five = typed.AndStatement (typed.Return (Some (typed.Constant (record { ty = int.Int; number = pos 5 }) 1)) 1) typed.NoStatement
 
@@ -111,7 +131,10 @@ pub record WorkedRules : Type 0 where
   pub qualifies_pointer : judged_unit units.qualifies_pointer ≡ Ok constant_pointer
   pub qualifies_twice : judged_unit units.qualifies_twice ≡ breaks kind.Declare 1
   pub takes_named_array : judged_unit units.takes_named_array ≡ Ok takes_pointer
-  pub named_too_soon : judged_unit units.named_too_soon ≡ breaks kind.Incomplete 1
+  pub named_before_body : judged_unit units.named_before_body ≡ Ok two_structures
+  pub used_before_body : judged_unit units.used_before_body ≡ breaks kind.Incomplete 1
+  pub takes_open_array : judged_unit units.takes_open_array ≡ Ok takes_open
+  pub takes_array_of_void : judged_unit units.takes_array_of_void ≡ breaks kind.Declare 1
   pub names_twice : judged_unit units.names_twice ≡ breaks kind.Again 1
   pub names_function : judged_unit units.names_function ≡ breaks kind.Declare 1
   pub names_value : judged_unit units.names_value ≡ breaks kind.Declare 1

@@ -199,11 +199,28 @@ takes_named_array =
     unit.Function (one_word words.Void) (takes (codes "f") (tree.Named (of_type (codes "a")) (object (codes "x")))) (block_of unit.NoStatement) ∷ []
 
 -- `typedef struct s a[2];struct s{char c;};a x;`
-abbrev pub named_too_soon : List ItemTree
-named_too_soon =
+abbrev pub named_before_body : List ItemTree
+named_before_body =
     names_type (tree.Tagged 1 (named (codes "s"))) (array (codes "a") (number 2)) ∷
     alone (only (tree.Body 1 (named (codes "s") ∷ []) 1 (tree.Members (one_word words.Char) (object (codes "c")) tree.NoDeclarator 1) tree.NoMember 1)) ∷
     unit.Declaration (declares (of_type (codes "a")) (object (codes "x"))) ∷ []
+
+-- `typedef struct s a[2];a x;struct s{char c;};`
+abbrev pub used_before_body : List ItemTree
+used_before_body =
+    names_type (tree.Tagged 1 (named (codes "s"))) (array (codes "a") (number 2)) ∷
+    unit.Declaration (declares (of_type (codes "a")) (object (codes "x"))) ∷
+    alone (only (tree.Body 1 (named (codes "s") ∷ []) 1 (tree.Members (one_word words.Char) (object (codes "c")) tree.NoDeclarator 1) tree.NoMember 1)) ∷ []
+
+-- `typedef struct s a[2];void f(a x){}`
+abbrev pub takes_open_array : List ItemTree
+takes_open_array =
+    names_type (tree.Tagged 1 (named (codes "s"))) (array (codes "a") (number 2)) ∷
+    unit.Function (one_word words.Void) (takes (codes "f") (tree.Named (of_type (codes "a")) (object (codes "x")))) (block_of unit.NoStatement) ∷ []
+
+-- `void f(void x[]);`
+abbrev pub takes_array_of_void : List ItemTree
+takes_array_of_void = unit.Declaration (declares (one_word words.Void) (takes (codes "f") (tree.Named (one_word words.Void) (suffixed (codes "x") (tree.Unsized 1 1))))) ∷ []
 
 -- `typedef int t;int t;`
 abbrev pub names_twice : List ItemTree
