@@ -4,14 +4,16 @@ use Rattle.std.proofs.lemmas.Bool.{lt-leb, leb-true, true≢false}
 use Rattle.c_token.specs.declared.token.Keyword.{Keyword}
 use Rattle.c_token.specs.declared.token.Keyword.TheVariants as words
 use Rattle.type_rules.specs.Faults as kind
+use Rattle.c_typed.specs.declared.types.Qualified.{Qualified}
 use Rattle.c_tables.specs.Answers.{Refuses}
 use Rattle.c_tables.specs.Tables.{waiting_of}
 use Rattle.c_tables.specs.declared.error.CheckError.{CheckError}
 use Rattle.c_tables.specs.declared.scope.Waiting.{Waiting}
 use Rattle.c_tables.specs.declared.scope.Waiting.TheVariants as waitings
 use Rattle.type_rules.specs.Known as rule_known
-use Rattle.type_rules.specs.Known.{Known, given}
+use Rattle.type_rules.specs.Known.{Known, given, go_on}
 use Rattle.type_rules.specs.Names.{in_file}
+use Rattle.type_rules.specs.Rows.{array_of}
 use Rattle.type_rules.specs.Specifiers as rule
 use Rattle.type_rules.specs.Specifiers.{Gathered, times, has, once_each, single_words, storage_words, is_orderly, qualifies_once, may_stand, specifiers}
 use Rattle.c_outline.specs.Gathering as gathering
@@ -325,6 +327,20 @@ ends_badly site g line known w f named e i h b = rw (← base_by g.words g.bases
 
   by_test : not (is_orderly g) || (not (qualifies_once g.words named.ty) || not (fits (kept_of g) site (in_file known))) ≡ true
   by_test = rw (e, i) at b
+
+-- ---- arrays that wait
+
+pub grown_made : (b : Bool) (n : ℕ) (inner : rule.Named) (ty : Qualified) (known after : Known) → b ≡ true → array_of inner.ty n known ≡ Ok (ty, after) → rule.grown_by b n inner known ≡ Ok (record { ty = ty; waiting = rule_known.Whole }, after)
+grown_made b n inner ty known after t h = rw t (ap (go_on (λ (made : Qualified). given {A = rule.Named} (record { ty = made; waiting = rule_known.Whole }))) h)
+
+pub grown_unmade : (b : Bool) (n : ℕ) (inner : rule.Named) (known : Known) (e : CheckError) → b ≡ true → Refuses e (array_of inner.ty n known) → Refuses e (rule.grown_by b n inner known)
+grown_unmade b n inner known e t h = rw t (refused_through e (λ (made : Qualified). given {A = rule.Named} (record { ty = made; waiting = rule_known.Whole })) (array_of inner.ty n known) h)
+
+pub remade_two : (ty : Qualified) (n m : ℕ) (inner : rule.Named) (known mid : Known) → rule.grown m (record { ty = ty; waiting = rule_known.Whole }) known ≡ Ok (inner, mid) → rule.remade ty (rule_known.TwoArrays n m) known ≡ rule.grown n inner mid
+remade_two ty n m inner known mid h = ap (go_on (rule.grown n)) h
+
+pub remade_undone : (ty : Qualified) (n m : ℕ) (known : Known) (e : CheckError) → Refuses e (rule.grown m (record { ty = ty; waiting = rule_known.Whole }) known) → Refuses e (rule.remade ty (rule_known.TwoArrays n m) known)
+remade_undone ty n m known e h = refused_through e (rule.grown n) (rule.grown m (record { ty = ty; waiting = rule_known.Whole }) known) h
 
 -- Arrays that wait can't be made for want of memory.
 pub ends_unmade : (site : Site) (g : Gathered) (line : ℕ) (known : Known) (w : Words) (f : Bool) (named : rule.Named) (e : CheckError) → w ≡ kept_of g → f ≡ in_file known → base_type w w.base ≡ Some named → w.bad || (not (gathering.qualifies_once w named.ty) || not (fits w site f)) ≡ false → Refuses e (rule.remade named.ty named.waiting known) → Refuses e (specifiers (site_of site) g line known)

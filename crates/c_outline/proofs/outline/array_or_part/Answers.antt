@@ -13,4 +13,4 @@ pub returns-in_ok-ty : goal.returns-in_ok-ty
 returns-in_ok-ty c known object = rw (← c.if-is_complete.ensures known, c.either-bad.ensures, c.is_void.ensures) (array_made c.args.length (outline_of c.args.outline.now) c.args.element c.in_ok-ty.ty (types_in c.args.types.now known) (types_in c.array_of.new.self known) (c.in_ok-ty.ensures known))
 
 pub returns-else-is_complete : goal.returns-else-is_complete
-returns-else-is_complete c known object = rw (← c.if-is_complete.ensures known, c.either-bad.ensures, c.is_void.ensures) (part_made c.args.length (outline_of c.args.outline.now) c.args.element (types_in c.args.types.now known) object)
+returns-else-is_complete c known object = rw (← c.if-is_complete.ensures known, c.either-bad.ensures, c.is_void.ensures, c.waits.ensures) (part_made c.args.length (outline_of c.args.outline.now) c.args.element (types_in c.args.types.now known) object)

@@ -10,4 +10,4 @@ returns-in_err-to-in-Object c known =
     rw (p.1, p.2, c.in-Object.is) (pointer_refused (outline_of c.args.element.now) c.in-Object.ty (types_in c.args.types.now known) c.in_err-to-in-Object.field-0.0 (c.in_err-to-in-Object.ensures known))
 
 pub returns-in_ok-to-in-Object : goal.returns-in_ok-to-in-Object
-returns-in_ok-to-in-Object c known = rw (c.in-Object.is, c.plain.ensures) (pointer_made (outline_of c.args.element.now) c.in-Object.ty c.in_ok-to-in-Object.to (types_in c.args.types.now known) (types_in c.pointer_to.new.self known) (c.in_ok-to-in-Object.ensures known))
+returns-in_ok-to-in-Object c known = rw (c.in-Object.is, c.plain.ensures, c.either.ensures, c.is_void.ensures) (pointer_made (outline_of c.args.element.now) c.in-Object.ty c.in_ok-to-in-Object.to (types_in c.args.types.now known) (types_in c.pointer_to.new.self known) (c.in_ok-to-in-Object.ensures known))
