@@ -42,4 +42,4 @@ returns c =
     let g = c.loop-spec.invariant.gathered in
     let ends = left_ends (finish_name (specs_of c.args.name.now.0) (spell_pointers c.args.name.now.1.items)) (rest_names (map spec_of (drop c.loop-spec.spec-index c.deref-spec-items.result.now))) c.loop-spec.words (known_of c.args.checker.now) (type_named (type_name_of c.args.name.now) (known_of c.args.checker.now)) (names_end c.deref-spec-items.result.now c.loop-spec.spec-index c.loop-spec-test.false) c.loop-spec.invariant in
     let given = rw c.specs_line.ensures at (c.in_ok-base.ensures g (known_of c.args.checker.now) c.loop-spec.invariant.kept (c.is_file-in_file.ensures (known_of c.args.checker.now))) in
-    rw (ends, name_whole (specs_of c.args.name.now.0) (spell_pointers c.args.name.now.1.items) g (specified_of c.in_ok-base.base) (known_of c.args.checker.now) (known_of c.pointers.old.checker) given (sym c.if-is_waiting.ensures)) (rw c.deref.ensures.value at c.pointers.ensures)
+    rw (ends, name_whole (specs_of c.args.name.now.0) (spell_pointers c.args.name.now.1.items) g (specified_of c.in_ok-base.base) (known_of c.args.checker.now) _ given (sym c.if-is_waiting.ensures)) (rw c.deref.ensures.value at c.pointers.ensures)
