@@ -4,7 +4,7 @@
 # make the same events in the same order, as far as the source is defined, under schedules by the length of the trace, and under the
 # schedule that is read off a run of the chip with arrivals at any instruction. Between any two events each language has to cost no more
 # than the one above it allows; a run of symbolic code has a place for each moment of the run of byte code, also where no event is
-# near; each block has room where it stands, and as it was selected no more words than are stated for it; objects end with what was
+# near; each block has room where it stands, and no more words than are stated for it; objects end with what was
 # written; and `picc trace` ends at the undefined step that the definitions meet. The programs: three small ones of examples/, and
 # eight random ones from seed 1. `definitions.sh COUNT [SEED]` runs so many random ones, and the texts of examples/, of all crates of
 # examples and of checks/cases/ too.

@@ -128,7 +128,7 @@ def code(shown, program):
 
 
 def words(shown):
-    """Each block has room where it stands, and as it was selected it has no more words than are stated for it."""
+    """Each block has room where it stands, and no more words than are stated for it."""
     stated = definition('Rattle.ram_place.specs.Sizes', 'block_words')
     starts = sorted(shown.addresses.values()) + [8192]
     for name, block in shown.selected.items():
@@ -136,7 +136,7 @@ def words(shown):
         if at + real > min(start for start in starts if start > at) or at % 2048 + real > 2048:
             raise Differs('block %s has no room for %d words at %d' % (name, real, at))
         most = definition('Rattle.c_typed.specs.Words', 'start_size')(shown.program) if name == ('Start',) else stated(shown.program, function_id(shown.copies[name[1]]))
-        if shown.plain is shown.lean and real > most:
+        if real > most:
             raise Differs('block %s has %d words, stated %d' % (name, real, most))
 
 

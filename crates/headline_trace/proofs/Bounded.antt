@@ -48,7 +48,8 @@ use Rattle.code_place.specs.Layouts.{layout_of}
 use Rattle.program_code.proofs.Placed.{programs_keep_sizes}
 use Rattle.program_code.proofs.StatedWords.{words_are_stated}
 use Rattle.program_code.specs.Bounds.{IsBlockOf, HasFrame}
-use Rattle.headline_trace.specs.Bounded.{words_of_copy, words_for, IsStated, BlocksAreStated}
+use Rattle.program_code.specs.Stated.{words_of_copy, words_for, IsStated}
+use Rattle.headline_trace.specs.Bounded.{BlocksAreStated}
 use Rattle.headline_trace.specs.Passed.{code_of}
 use Rattle.headline_trace.proofs.Blocks.{is_of}
 use Rattle.headline_trace.proofs.Chosen.{root_is}

@@ -12,11 +12,11 @@ use Rattle.call_graph.specs.declared.types.FnCopy.{FnCopy}
 use Rattle.code_place.proofs.Placing.{one_each, whole_of, in_order_of}
 use Rattle.code_place.specs.Pages.{addresses}
 use Rattle.code_place.specs.Sizes.{IsBefore, HasRoom, Stands}
-use Rattle.program_code.specs.Stated.{copy_words, sizes, IsPaged}
+use Rattle.program_code.specs.Stated.{copy_words, sizes, IsPaged, words_of_copy, words_for, IsStated}
 use Rattle.ram_place.specs.Sizes.{block_words}
 use Rattle.sym_code.specs.Words.{words_in}
 use Rattle.sym_code.specs.declared.code.SymBlock.{SymBlock}
-use Rattle.headline_trace.specs.Bounded.{words_of_copy, words_for, IsStated, IsBlockFor, BlocksFit}
+use Rattle.headline_trace.specs.Bounded.{IsBlockFor, BlocksFit}
 use Rattle.headline_trace.proofs.Lowerable.{capped_small}
 
 -- a count that is small is what is kept of it

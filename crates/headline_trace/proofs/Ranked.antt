@@ -16,9 +16,14 @@ use Rattle.c_typed.specs.declared.calls.Helper.TheVariants.{Mul2, Mul4, Divu2, D
 use Rattle.c_typed.specs.declared.program.Typed.{Typed}
 use Rattle.call_graph.proofs.Additions.{number_once, same_copy}
 use Rattle.call_graph.specs.Copies.{AreCopies, IsCopy, IsOne, root_of, root_place}
+use Rattle.call_graph.specs.Numbers.{handler_at}
 use Rattle.call_graph.specs.declared.types.FnCopy.{FnCopy}
 use Rattle.core_code.specs.declared.code.Body.{Body}
 use Rattle.core_code.specs.declared.code.CoreProgram.{CoreProgram}
+use Rattle.code_place.specs.Layouts.{layout_of}
+use Rattle.lower_stmt.specs.Programs.{core_of}
+use Rattle.program_code.proofs.LeanerBlocks.{blocks_are_leaner}
+use Rattle.program_code.specs.Leaner.{IsLeaner}
 use Rattle.pic_map.specs.declared.Placed.{Placed}
 use Rattle.pic_world.specs.declared.Root.{Root}
 use Rattle.pic_world.specs.declared.Root.TheVariants.{Main, Isr}
@@ -161,8 +166,11 @@ has_at [] k x is = absurd (cc)
 has_at (y ∷ xs) zero x is = inl (some_is y x is)
 has_at (y ∷ xs) (suc k) x is = inr (has_at xs k x is)
 
+abbrev SameName : SymBlock → SymBlock → Type 0
+SameName given made = made.name ≡ given.name
+
 module _ (typed : Typed) (copies : List FnCopy) (core : CoreProgram) (given made : List SymBlock) (placed : Placed) (at : List ℕ) (known : AreCopies (program_of typed) copies)
-    (joined : IsJoined core copies given) (exact : AllZip (IsExact placed) given made) (paged : IsPaged (program_of typed) copies at) where
+    (joined : IsJoined core copies given) (named : AllZip SameName given made) (paged : IsPaged (program_of typed) copies at) where
   abbrev p : Program
   p = program_of typed
 
@@ -177,13 +185,13 @@ module _ (typed : Typed) (copies : List FnCopy) (core : CoreProgram) (given made
 
   first : (b : SymBlock) → slice_get made 0 ≡ Some b → b.name ≡ Start
   first b is =
-      let g = zip_at (IsExact placed) given made exact 0 b is in
+      let g = zip_at SameName given made named 0 b is in
       let same : joined.start ≡ g.0 = some_is joined.start g.0 (sym (ap (λ (l : List SymBlock). slice_get l 0) joined.whole) ∙ g.1) in
-      g.2.name ∙ ap (λ (x : SymBlock). x.name) (sym same) ∙ joined.name
+      g.2 ∙ ap (λ (x : SymBlock). x.name) (sym same) ∙ joined.name
 
   behind : (k : ℕ) (b : SymBlock) → slice_get made (suc k) ≡ Some b → IsBlockFor copies paged.order k b
   behind k b is =
-      let g = zip_at (IsExact placed) given made exact (suc k) b is in
+      let g = zip_at SameName given made named (suc k) b is in
       let stands : slice_get joined.order k ≡ Some g.0 = sym (ap (λ (l : List SymBlock). slice_get l (suc k)) joined.whole) ∙ g.1 in
       let o = is_of core copies given joined g.0 (has_at joined.order k g.0 stands) in
       let z : 0 + o.place ≡ o.place = omega arith in
@@ -194,10 +202,21 @@ module _ (typed : Typed) (copies : List FnCopy) (core : CoreProgram) (given made
       let listed = (known.exact c.0).0 (Contains-permutation paged.order copies c.0 (IsPermutation-sym copies paged.order paged.same) (copy_there paged.order k c.0 c.1)) in
       let numbered = (known.exact o.copy).0 (copy_there copies o.place o.copy o.there) in
       let same : c.0 ≡ o.copy = copies_same p c.0 o.copy few listed numbered (c.2 ∙ block) in
-      record { number = o.place; copy = o.copy; named = g.2.name ∙ name; there = o.there; in_order = c.1 ∙ ap Some same }
+      record { number = o.place; copy = o.copy; named = g.2 ∙ name; there = o.there; in_order = c.1 ∙ ap Some same }
 
   pub in_order : AreInOrder copies paged.order made
   in_order = record { first = first; behind = behind }
 
+-- leaner blocks have the names of those that they are made of, and so have these with their selects
+names_kept : (placed : Placed) (given lean made : List SymBlock) → AllZip IsLeaner given lean → AllZip (IsExact placed) lean made → AllZip SameName given made
+names_kept placed [] [] [] z w = tt
+names_kept placed [] [] (m ∷ made) z w = absurd w
+names_kept placed [] (l ∷ lean) made z w = absurd z
+names_kept placed (g ∷ given) [] made z w = absurd z
+names_kept placed (g ∷ given) (l ∷ lean) [] z w = absurd w
+names_kept placed (g ∷ given) (l ∷ lean) (m ∷ made) z w = (w.0.name ∙ z.0.name, names_kept placed given lean made z.1 w.1)
+
 pub blocks_in_order : BlocksAreInOrder
-blocks_in_order typed copies core given made placed at blocks has paged = in_order typed copies core given made placed at has.known blocks.joined blocks.exact paged
+blocks_in_order typed copies core given lean made placed at blocks has paged =
+    let leaner = blocks_are_leaner (layout_of placed) (handler_at copies) (core_of (program_of typed) copies).variable_bytes blocks.lent given lean blocks.leaner in
+    in_order typed copies core given made placed at has.known blocks.joined (names_kept placed given lean made leaner blocks.exact) paged

@@ -1,4 +1,5 @@
--- Each block of what the passes make of a program has room where it is put: with its selects, and without those that flow facts make needless.
+-- Each block of what the passes make of a program has at most its stated words, with its selects and without those that flow facts make
+-- needless; and room where it is put, leaner or not, where it has no more than these.
 use Rattle.std.proofs.Common.{◌≡◌, ℕ, suc, ◌≤◌, List, Some, slice_get, sym, ap, ◌∙◌, subst, arith}
 use Rattle.std.specs.List.{AllZip}
 use Rattle.c_typed.specs.Trees.{Program}
@@ -11,7 +12,8 @@ use Rattle.flow_facts.specs.Laws.{IsShorter}
 use Rattle.flow_facts.specs.Thin.{IsThin}
 use Rattle.sym_code.specs.Words.{words_in}
 use Rattle.sym_code.specs.declared.code.SymBlock.{SymBlock}
-use Rattle.headline_trace.specs.Bounded.{AreInOrder, IsStated, TranslationsFit, words_for}
+use Rattle.program_code.specs.Stated.{words_for, AreStated}
+use Rattle.headline_trace.specs.Bounded.{AreInOrder, TranslationsAreStated, TranslationsFit}
 use Rattle.headline_trace.proofs.Bounded.{blocks_stated, zip_at}
 use Rattle.headline_trace.proofs.Fitting.{blocks_fit}
 use Rattle.headline_trace.proofs.Ranked.{blocks_in_order}
@@ -28,7 +30,7 @@ module _ (p : Program) (copies : List FnCopy) (facts : Facts) (whole made : List
             record { number = at.number; copy = at.copy; named = g.2.name ∙ at.named; there = at.there; in_order = at.in_order };
       }
 
-  thin_stated : AllZip IsShorter whole made → ((k : ℕ) (block : SymBlock) → slice_get whole k ≡ Some block → IsStated p copies block) → (k : ℕ) (block : SymBlock) → slice_get made k ≡ Some block → IsStated p copies block
+  thin_stated : AllZip IsShorter whole made → AreStated p copies whole → AreStated p copies made
   thin_stated shorter stated k block is =
       let g = zip_at (IsThin facts) whole made each k block is in
       let h = zip_at IsShorter whole made shorter k block is in
@@ -39,9 +41,12 @@ module _ (p : Program) (copies : List FnCopy) (facts : Facts) (whole made : List
       let words : words_in block.list.items ≤ words_for p copies block.name = omega (arith, fewer, few, name) in
       words
 
-pub translations_fit : TranslationsFit
-translations_fit typed copies core given whole made placed at blocks bodies thinned has placing statics paged =
-    let p = program_of typed in
+pub translations_stated : TranslationsAreStated
+translations_stated typed copies core given whole made placed at blocks bodies thinned has placing statics =
     let kept = thinning_keeps placed (handler_at copies) at whole made thinned blocks.apart blocks.reaches in
-    blocks_fit p copies made at paged (thin_in_order p copies thinned.facts whole made thinned.each paged.order (blocks_in_order typed copies core given whole placed at blocks has paged))
-    (thin_stated p copies thinned.facts whole made thinned.each kept.shorter (blocks_stated typed copies core given whole placed blocks bodies has placing statics))
+    thin_stated (program_of typed) copies thinned.facts whole made thinned.each kept.shorter (blocks_stated typed copies core given whole placed blocks bodies has placing statics)
+
+pub translations_fit : TranslationsFit
+translations_fit typed copies core given lean whole made placed at blocks thinned has paged stated =
+    let p = program_of typed in
+    blocks_fit p copies made at paged (thin_in_order p copies thinned.facts whole made thinned.each paged.order (blocks_in_order typed copies core given lean whole placed at blocks has paged)) stated

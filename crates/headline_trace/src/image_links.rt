@@ -1,7 +1,7 @@
 //! What the compiler's passes answer is what the links ask for.
 
 ghost use Rattle.headline_trace.specs.Assembly.{AssemblyIsHad, BeginningIsHad};
-ghost use Rattle.headline_trace.specs.Bounded.{BlocksAreInOrder, BlocksAreStated, BlocksFit, CopiesAreFew, TranslationsFit};
+ghost use Rattle.headline_trace.specs.Bounded.{BlocksAreInOrder, BlocksAreStated, BlocksFit, CopiesAreFew, TranslationsAreStated, TranslationsFit};
 ghost use Rattle.headline_trace.specs.Faithful.{TranslationsAreFaithful};
 ghost use Rattle.headline_trace.specs.Passed.{BodiesAreHad, LayoutIsHad, LayoutServes, SelectsAreHad, StartIsHad};
 ghost use Rattle.headline_trace.specs.Translations.{TranslationsAreLinked, TranslationsAreLowerable, TranslationsFollow};
@@ -84,11 +84,13 @@ pub fn translations_are_faithful()
 {}
 
 /// Where the code is as it was selected, each block with its selects has at most the words that are stated of it: the start block, the block
-/// of a function's copy, and that of a helper's. So each has room where blocks of the stated words are placed, if they stand in the same
-/// order; and in what the passes make they do, since copies and blocks are sorted by the same ranks. So no block of such code lacks room
-/// where `pages` puts it; of leaner code that is tested. A program has fewer than 8,192 copies, since each block has a word.
+/// of a function's copy, and that of a helper's; so it has without those that flow facts make needless. Of leaner code that is tested. Blocks
+/// with at most their stated words have room where blocks of the stated words are placed, if they stand in the same order; and in what the
+/// passes make they do, leaner or not, since copies and blocks are sorted by the same ranks. So no block lacks room where `pages` puts it. A
+/// program has fewer than 8,192 copies, since each block has a word.
 pub fn blocks_have_room()
     ensures stated { BlocksAreStated }
+    ensures all_stated { TranslationsAreStated }
     ensures fit { BlocksFit }
     ensures in_order { BlocksAreInOrder }
     ensures all_fit { TranslationsFit }

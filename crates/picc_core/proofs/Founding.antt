@@ -33,6 +33,7 @@ use Rattle.flow_facts.proofs.Kept.{thinning_keeps}
 use Rattle.program_code.specs.Joined.{IsJoined}
 use Rattle.program_code.proofs.Bodies.{statics_kept}
 use Rattle.program_code.specs.Passed.{AreBlocks, AsLowered}
+use Rattle.program_code.specs.Stated.{AreStated}
 use Rattle.ram_place.specs.Placement.{IsPlacing, LiveFramesAreDisjoint, FramesAreClear, ObjectsAreDisjoint}
 use Rattle.src_rules.specs.Numbers.{ProgramHasNumbers}
 use Rattle.program_code.specs.There as there
@@ -45,7 +46,7 @@ use Rattle.headline_trace.specs.Addressed.{BlocksHaveOperands, BlocksStandInside
 use Rattle.headline_trace.proofs.Addressed.{lean_keeps_operands, operands_have_addresses, selects_keep_operands}
 use Rattle.headline_trace.proofs.FewCopies.{copies_few}
 use Rattle.headline_trace.proofs.Laid.{frames_whole}
-use Rattle.headline_trace.proofs.Standing.{translations_fit}
+use Rattle.headline_trace.proofs.Standing.{translations_fit, translations_stated}
 use Rattle.picc_core.specs.Blocks.{HasBlocks}
 use Rattle.picc_core.specs.Coded.{IsRoomy, AsGiven, Seen, IsSymbolic}
 use Rattle.picc_core.specs.Founded.{IsFounded}
@@ -123,15 +124,19 @@ module _ (typed : Typed) (copies : List FnCopy) (placed : Placed) (at : List ℕ
         exact = symbolic.selects.exact;
       }
 
-      -- code as it was selected has room by what is stated of it, and leaner code was seen to have it
-      pub fit : Fit made at
-      fit = by symbolic.room where
-        by : IsRoomy core symbolic.core symbolic.given symbolic.lean made at → Fit made at
+      -- no block has more words than are stated of it: where code is as it was selected by the law on that, and leaner code was seen to
+      pub stated : AreStated (program_of typed) copies made
+      stated = by symbolic.room where
+        by : IsRoomy (program_of typed) copies core symbolic.core symbolic.given symbolic.lean made → AreStated (program_of typed) copies made
         by (AsGiven lowered same) =
-            translations_fit typed copies symbolic.core symbolic.given symbolic.selects.whole made placed at
+            translations_stated typed copies symbolic.core symbolic.given symbolic.selects.whole made placed at
             (subst (λ (l : List SymBlock). AreBlocks (program_of typed) copies symbolic.core symbolic.given l symbolic.selects.whole placed) same blocks) (ap (λ (q : CoreProgram). map body_of q.bodies.items) lowered ∙ bodies)
-            symbolic.selects.thinned founded.calls founded.spread.placing first founded.paged
+            symbolic.selects.thinned founded.calls founded.spread.placing first
         by (Seen has) = has
+
+      -- so each has room
+      pub fit : Fit made at
+      fit = translations_fit typed copies symbolic.core symbolic.given symbolic.lean symbolic.selects.whole made placed at blocks symbolic.selects.thinned founded.calls founded.paged stated
 
       pub ends : HasEnds made at
       ends = targets.ends_are_there (program_of typed) copies symbolic.core symbolic.given symbolic.lean symbolic.selects.whole made placed at blocks symbolic.selects.thinned founded.calls fit

@@ -13,7 +13,6 @@ use Rattle.c_typed.specs.declared.program.Typed.{Typed}
 use Rattle.call_graph.specs.Numbers.{handler_at}
 use Rattle.call_graph.specs.declared.types.FnCopy.{FnCopy}
 use Rattle.code_place.specs.Layouts.{layout_of}
-use Rattle.code_place.specs.Sizes.{Fit}
 use Rattle.core_code.specs.declared.code.CoreProgram.{CoreProgram}
 use Rattle.headline_trace.proofs.Laid.{frame_few}
 use Rattle.lean_pass.specs.Made.{IsAsGiven, IsLean, Kept}
@@ -31,6 +30,7 @@ use Rattle.narrow_pass.specs.Lent.{LendsOnly}
 use Rattle.narrow_pass.specs.Narrowed.{IsNarrowed, lent_by}
 use Rattle.program_code.proofs.Bodies.{few_kept, short_kept}
 use Rattle.program_code.specs.Passed.{IsByteCode, AsLowered, Narrower}
+use Rattle.program_code.specs.Stated.{AreStated}
 use Rattle.picc_core.specs.Coded.{HasSelects, IsLeanTo, IsLeanOf, AsGiven, Seen, IsSymbolic}
 use Rattle.picc_core.specs.Founded.{IsFounded}
 
@@ -87,26 +87,26 @@ module _ (typed : Typed) (copies : List FnCopy) (placed : Placed) (at : List ℕ
 
   -- what the pass gives, with its selects
   pub lean_to : (core : CoreProgram) (lent : List Bool) (list : List ℕ) (handler : Option ℕ) (given lean made : List SymBlock) → All (LendsOnly (lent_by lent)) core.bodies.items → list ≡ map bytes copies → handler ≡ handler_at copies
-      → IsLean (layout_of placed) handler (variables_of list) (lent_by lent) given lean → HasSelects placed handler at lean made → Fit made at → IsLeanTo p core copies placed at given made
-  lean_to core lent list handler given lean made lends is same leaner selects fit = record {
+      → IsLean (layout_of placed) handler (variables_of list) (lent_by lent) given lean → HasSelects placed handler at lean made → AreStated p copies made → IsLeanTo p core copies placed at given made
+  lean_to core lent list handler given lean made lends is same leaner selects stated = record {
     lent = lent_by lent;
     lends = lends;
     lean = lean;
     leaner = subst (λ (v : ℕ → ℕ). IsLean (layout_of placed) (handler_at copies) v (lent_by lent) given lean) (variables_are list is) (subst (λ (h : Option ℕ). IsLean (layout_of placed) h (variables_of list) (lent_by lent) given lean) same leaner);
     selects = subst (λ (h : Option ℕ). HasSelects placed h at lean made) same selects;
-    fit = fit;
+    stated = stated;
   }
 
   -- the same, of lists that were lent
   pub lean_lent : (core : CoreProgram) (frames lent_frames : List Bool) (lent_copies : List FnCopy) (list lent_list : List ℕ) (handler : Option ℕ) (given lent_given lean made lent_made : List SymBlock) → All (LendsOnly (lent_by frames)) core.bodies.items → lent_frames ≡ frames → lent_copies ≡ copies → list ≡ map bytes lent_copies → lent_list ≡ list
-      → lent_given ≡ given → lent_made ≡ made → handler ≡ handler_at copies → IsLean (layout_of placed) handler (variables_of lent_list) (lent_by lent_frames) lent_given lean → HasSelects placed handler at lean made → Fit lent_made at
+      → lent_given ≡ given → lent_made ≡ made → handler ≡ handler_at copies → IsLean (layout_of placed) handler (variables_of lent_list) (lent_by lent_frames) lent_given lean → HasSelects placed handler at lean made → AreStated p lent_copies lent_made
       → IsLeanTo p core copies placed at given made
-  lean_lent core frames lent_frames lent_copies list lent_list handler given lent_given lean made lent_made lends of_frames of_copies is of_list of_given of_made same leaner selects fit =
+  lean_lent core frames lent_frames lent_copies list lent_list handler given lent_given lean made lent_made lends of_frames of_copies is of_list of_given of_made same leaner selects stated =
       lean_to core frames list handler given lean made lends (is ∙ ap (map bytes) of_copies) same
       (subst (λ (b : List Bool). IsLean (layout_of placed) handler (variables_of list) (lent_by b) given lean) of_frames
       (subst (λ (g : List SymBlock). IsLean (layout_of placed) handler (variables_of list) (lent_by lent_frames) g lean) of_given
       (subst (λ (l : List ℕ). IsLean (layout_of placed) handler (variables_of l) (lent_by lent_frames) lent_given lean) of_list leaner))) selects
-      (subst (λ (m : List SymBlock). Fit m at) of_made fit)
+      (subst (λ (m : List SymBlock). AreStated p copies m) of_made (subst (λ (c : List FnCopy). AreStated p c lent_made) of_copies stated))
 
   -- ---- all that is known of the code
   -- leaner blocks of some byte code
@@ -115,7 +115,7 @@ module _ (typed : Typed) (copies : List FnCopy) (placed : Placed) (at : List ℕ
   lean_of core given (Some made) joined is = record { given = given; joined = joined; is = is }
 
   symbolic_of : (lowered core : CoreProgram) (made : List SymBlock) → IsByteCode lowered core → IsLeanOf p core copies placed at made → IsSymbolic p lowered copies placed at made
-  symbolic_of lowered core made code of = record { core = core; code = code; given = of.given; joined = of.joined; lent = of.is.lent; lends = of.is.lends; lean = of.is.lean; leaner = of.is.leaner; selects = of.is.selects; room = Seen of.is.fit }
+  symbolic_of lowered core made code of = record { core = core; code = code; given = of.given; joined = of.joined; lent = of.is.lent; lends = of.is.lends; lean = of.is.lean; leaner = of.is.leaner; selects = of.is.selects; room = Seen of.is.stated }
 
   -- of byte code with operators on low bytes,
   from_narrower : (lowered core : CoreProgram) (found : Option SymProgram) → IsByteCode lowered core → IfSome found (λ m. IsLeanOf p core copies placed at m.blocks.items) → IfSome found (λ m. IsSymbolic p lowered copies placed at m.blocks.items)

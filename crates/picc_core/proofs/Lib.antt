@@ -16,3 +16,4 @@ pub mod OnlyPlaces
 pub mod OnlyBlocks
 pub mod FewFunctions
 pub mod OneAnswer
+pub mod Within

@@ -47,6 +47,7 @@ module _ (typed : Typed) (copies : List FnCopy) (placed : Placed) (at : List ℕ
     whole = code.symbolic.selects.whole;
     blocks = blocks typed copies placed at founded code.lowered code.bodies code.statics code.made code.symbolic;
     thinned = code.symbolic.selects.thinned;
+    stated = code.stated;
     fit = code.fit;
     named = code.named;
   }

@@ -21,6 +21,7 @@ use Rattle.lean_pass.specs.Made.{IsLean}
 use Rattle.narrow_pass.specs.Lent.{LendsOnly}
 use Rattle.program_code.specs.Joined.{IsJoined}
 use Rattle.program_code.specs.Passed.{IsByteCode}
+use Rattle.program_code.specs.Stated.{AreStated}
 
 -- The blocks have the selects that they need, but for those that flow facts make needless at their addresses.
 pub record HasSelects (placed : Placed) (handler : Option ℕ) (at : List ℕ) (lean made : List SymBlock) : Type 0 where
@@ -33,12 +34,13 @@ pub record HasSelects (placed : Placed) (handler : Option ℕ) (at : List ℕ) (
   pub exact : AllZip (IsExact placed) lean whole
   pub thinned : IsThinned handler at whole made
 
--- The code is as it was selected from byte code as it is lowered, or its blocks were seen to have room at their addresses.
-pub data IsRoomy (lowered core : CoreProgram) (given lean made : List SymBlock) (at : List ℕ) : Type 0 where
-  AsGiven : core ≡ lowered → lean ≡ given → IsRoomy lowered core given lean made at
-  Seen : Fit made at → IsRoomy lowered core given lean made at
+-- The code is as it was selected from byte code as it is lowered, or its blocks were seen to have at most their stated words. Either way they
+-- have room.
+pub data IsRoomy (p : Program) (copies : List FnCopy) (lowered core : CoreProgram) (given lean made : List SymBlock) : Type 0 where
+  AsGiven : core ≡ lowered → lean ≡ given → IsRoomy p copies lowered core given lean made
+  Seen : AreStated p copies made → IsRoomy p copies lowered core given lean made
 
--- Leaner blocks with selects, which were seen to have room. The blocks that they are made of are those of byte code that takes addresses of
+-- Leaner blocks with selects, which were seen to have at most their stated words. The blocks that they are made of are those of byte code that takes addresses of
 -- frames that are lent, and of no others.
 pub record IsLeanTo (p : Program) (core : CoreProgram) (copies : List FnCopy) (placed : Placed) (at : List ℕ) (given made : List SymBlock) : Type 0 where
   pub lent : ℕ → Bool
@@ -46,7 +48,7 @@ pub record IsLeanTo (p : Program) (core : CoreProgram) (copies : List FnCopy) (p
   pub lean : List SymBlock
   pub leaner : IsLean (layout_of placed) (handler_at copies) (core_of p copies).variable_bytes lent given lean
   pub selects : HasSelects placed (handler_at copies) at lean made
-  pub fit : Fit made at
+  pub stated : AreStated p copies made
 
 -- .. of blocks that are joined from byte code
 pub record IsLeanOf (p : Program) (core : CoreProgram) (copies : List FnCopy) (placed : Placed) (at : List ℕ) (made : List SymBlock) : Type 0 where
@@ -67,7 +69,7 @@ pub record IsSymbolic (p : Program) (lowered : CoreProgram) (copies : List FnCop
   pub lean : List SymBlock
   pub leaner : IsLean (layout_of placed) (handler_at copies) (core_of p copies).variable_bytes lent given lean
   pub selects : HasSelects placed (handler_at copies) at lean made
-  pub room : IsRoomy lowered core given lean made at
+  pub room : IsRoomy p copies lowered core given lean made
 
 -- The image has the words of such blocks at their addresses, and no others; main begins at the first copy's, and ends at the label for that.
 pub record IsCoded (p : Program) (copies : List FnCopy) (placed : Placed) (at image : List ℕ) (main halt : ℕ) : Type 0 where
@@ -76,6 +78,7 @@ pub record IsCoded (p : Program) (copies : List FnCopy) (placed : Placed) (at im
   pub statics : map items_of lowered.statics.items ≡ first_bytes p
   pub made : List SymBlock
   pub symbolic : IsSymbolic p lowered copies placed at made
+  pub stated : AreStated p copies made
   pub fit : Fit made at
   pub named : BlocksHaveAddresses placed made at
   pub words : HoldsInstructions placed made at image

@@ -9,6 +9,7 @@ ghost use Rattle.headline.specs.SourceOf.{IsFaithfulTo};
 ghost use Rattle.pic_map.specs.MapText.{AreInRange};
 ghost use Rattle.pic_map.specs.MapView.{content_of, object_of, frame_of};
 ghost use Rattle.program_code.specs.Joined.{IsJoined};
+ghost use Rattle.program_code.specs.Stated.{AreStated};
 ghost use Rattle.program_code.specs.Translated.{IsTranslated};
 ghost use Rattle.ram_place.specs.Placement.{addresses_covered};
 ghost use Rattle.picc_core.specs.Answers.{IsRefusedUnless, TellsError};
@@ -106,6 +107,8 @@ pub fn codes_of(alloc: Global, front: &Front) -> Result<Codes, AllocError>
     // Instructions on temporary bytes are left out by a certificate; the selects are those of `selects`, each for a need, but for those that
     // flow facts which are consistent make needless.
     ensures selected { IfOk result (λ codes. IsSymbolic (program_of front.now.typed) codes.core front.now.copies.list.items front.now.placed front.now.at.items codes.selected.blocks.items) }
+    // Each block with its selects has at most the words that are stated of it, whatever is left out.
+    ensures stated { IfOk result (λ codes. AreStated (program_of front.now.typed) front.now.copies.list.items codes.selected.blocks.items) }
 {
     let core = lower(alloc, &front.typed, &front.copies)?;
     let plain = joined(alloc, &core, &front.copies)?;

@@ -15,10 +15,10 @@ ghost use Rattle.picc_core.specs.Founded.{IsFounded};
 ghost use Rattle.sym_code.specs.declared.code.SymBlock.{SymBlock as Block};
 
 use crate::joining::{handler_of, joined};
+use crate::stated::are_stated;
 use bank_page::{can_select, selects};
 use c_check::Typed;
 use call_graph::{Copies, FnCopy};
-use code_place::fits;
 use core_code::CoreProgram;
 use flow_facts::{thinned, thinned_plainly};
 use lean_pass::lean;
@@ -81,7 +81,7 @@ fn variables_of(alloc: Global, typed: &Typed, copies: &[FnCopy]) -> Result<Vec<u
     Ok(list)
 }
 
-// The program without the instructions that nothing needs, with selects, where these can be put and each block has room.
+// The program without the instructions that nothing needs, with selects, where these can be put and each block has at most its stated words.
 fn leaner(
     alloc: Global,
     given: &SymProgram,
@@ -105,7 +105,7 @@ fn leaner(
     }
     let program = SymProgram { blocks };
     let made = selected(alloc, &program, placed, handler, at, Saving::Lean)?;
-    if fits(&made.blocks, at) {
+    if are_stated(typed, copies, &made.blocks) {
         Ok(Some(made))
     } else {
         Ok(None)

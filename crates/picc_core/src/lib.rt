@@ -18,6 +18,7 @@ mod known;
 mod leaner;
 mod refusal;
 mod stages;
+mod stated;
 mod typing;
 
 pub use agreeing::agree;

@@ -22,6 +22,7 @@ use Rattle.lean_pass.specs.Made.{IsLean}
 use Rattle.narrow_pass.specs.Lent.{LendsOnly}
 use Rattle.narrow_pass.specs.Narrowed.{IsNarrowed}
 use Rattle.program_code.specs.Joined.{IsJoined}
+use Rattle.program_code.specs.Stated.{AreStated}
 
 -- Byte code of which blocks are made: as it was lowered, or with operators that are done on low bytes alone.
 pub data IsByteCode (lowered core : CoreProgram) : Type 0 where
@@ -52,11 +53,13 @@ pub record AreBlocks (p : Program) (copies : List FnCopy) (core : CoreProgram) (
   pub few : AllZip IsWithin lean made
   pub exact : AllZip (IsExact placed) lean made
 
--- .. and of these what is left without the selects that flow facts make needless, with its addresses
+-- .. and of these what is left without the selects that flow facts make needless: no block has more words than are stated of it, and
+-- each has room at its address
 pub record IsPassed (p : Program) (copies : List FnCopy) (core : CoreProgram) (given made : List SymBlock) (placed : Placed) (at : List ℕ) : Type 0 where
   pub lean : List SymBlock
   pub whole : List SymBlock
   pub blocks : AreBlocks p copies core given lean whole placed
   pub thinned : IsThinned (handler_at copies) at whole made
+  pub stated : AreStated p copies made
   pub fit : Fit made at
   pub named : BlocksHaveAddresses placed made at

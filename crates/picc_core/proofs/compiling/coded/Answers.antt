@@ -1,4 +1,4 @@
-use Rattle.picc_core.proofs.Founding.{copies_low, statics_low, ready, fit, named, ends}
+use Rattle.picc_core.proofs.Founding.{copies_low, statics_low, ready, stated, fit, named, ends}
 use Rattle.picc_core.proofs.compiling.coded.Goals as goal
 
 pub lower-requires-clause-copies : goal.lower-requires-clause-copies
@@ -40,6 +40,7 @@ returns c =
       statics = c.in_ok-core.ensures.statics;
       made = given;
       symbolic = c.in_ok-program.ensures;
+      stated = stated c.args.typed.now c.args.copies.now.list.items c.args.placed.now c.args.at.now c.requires core c.in_ok-core.ensures.bodies c.in_ok-core.ensures.statics given c.in_ok-program.ensures;
       fit = fit c.args.typed.now c.args.copies.now.list.items c.args.placed.now c.args.at.now c.requires core c.in_ok-core.ensures.bodies c.in_ok-core.ensures.statics given c.in_ok-program.ensures;
       named = named c.args.typed.now c.args.copies.now.list.items c.args.placed.now c.args.at.now c.requires core c.in_ok-core.ensures.bodies c.in_ok-core.ensures.statics given c.in_ok-program.ensures;
       words = made.instructions;
