@@ -24,3 +24,4 @@ pub mod Cells
 pub mod Through
 pub mod Bounds
 pub mod Ordering
+pub mod Twins

@@ -1,6 +1,8 @@
 -- Files that are such as they are to be, and statuses of those that aren't.
-use Rattle.std.proofs.Common.{◌≡◌, ℕ, ◌⊎◌, inl, inr, Some, List, length, refl, sym, ap, ◌∙◌, subst, arith}
+use Rattle.std.proofs.Common.{◌≡◌, ℕ, ◌⊎◌, inl, inr, Some, List, Result, Ok, length, refl, sym, ap, ◌∙◌, subst, arith}
+use Rattle.hex_image.proofs.Found.{is_read, only}
 use Rattle.hex_image.specs.HexFile.{IsHexFile}
+use Rattle.hex_image.specs.declared.read.HexError.{HexError}
 use Rattle.host_io.specs.Host.{Contents}
 use Rattle.pic_map.specs.MapContent.{MapContent}
 use Rattle.pic_map.specs.MapFile.{IsMapFile}
@@ -14,6 +16,13 @@ use Rattle.picc_cli.specs.ScriptInput.{IsFile, IsScript}
 
 pub same_bytes : (o : Contents) (name bytes other : List ℕ) → o name ≡ Some bytes → o name ≡ Some other → bytes ≡ other
 same_bytes o name bytes other a b = let both : Some bytes ≡ Some other = sym a ∙ b in cc
+
+-- a HEX file is of one image
+same_image : (text a b : List ℕ) → IsHexFile text a → IsHexFile text b → a ≡ b
+same_image text a b f h = let same : ◌≡◌ {A = Result (List ℕ) HexError} (Ok b) (Ok a) = only (Ok a) text (is_read text a f) b h in cc
+
+pub hex_same : (o : Contents) (name a b : List ℕ) → IsFile o name (IsHexInput a) → IsFile o name (IsHexInput b) → a ≡ b
+hex_same o name a b (bytes, has, is) (others, there, also) = same_image bytes a b is.file (subst (λ t. IsHexFile t b) (same_bytes o name others bytes there has) also.file)
 
 -- what is such a file isn't refused as one
 pub hex_kept : (o : Contents) (name image : List ℕ) (end : FileEnd) → IsFile o name (IsHexInput image) → HasNoHex o name end → GivesUp (inputs.status_of end)

@@ -16,6 +16,7 @@ pub mod EventLines
 pub mod FormPrints
 pub mod MissingTold
 pub mod ChipEnds
+pub mod CheckEnds
 pub mod Sound
 pub mod NothingDone
 pub mod SimulationStops

@@ -8,7 +8,7 @@ use Rattle.std.specs.Str.{bytes_eq}
 use Rattle.picc_cli.specs.declared.command.Command as declared
 use Rattle.picc_cli.specs.declared.command.Command.TheVariants as commands
 use Rattle.picc_cli.specs.CommandView.{IsWithin, compared_of, form_view}
-use Rattle.picc_cli.specs.Command.{Compared, Build, Trace, Simulate, Agree, Generate, is_name, differ, is_short, all_digits, number_onto, number_in, build_of, trace_of, simulate_of, agree_of, from_one, generate_of, form_by_name, form_of}
+use Rattle.picc_cli.specs.Command.{Compared, Build, Trace, Simulate, Agree, Generate, Check, is_name, differ, is_short, all_digits, number_onto, number_in, build_of, trace_of, simulate_of, agree_of, from_one, generate_of, check_of, form_by_name, form_of}
 
 onto_within : (most n m : ℕ) (digits : List ℕ) → n ≤ most → number_onto most n digits ≡ Some m → m ≤ most
 unfolding number_onto
@@ -69,6 +69,11 @@ module _ (asked : Compared) where
     by_number (Some n) e = by_test n (nat_lt 0 n) e
   no_program (k ∷ d ∷ more) e = cc
 
+  no_check : (words : List (List ℕ)) → check_of words ≡ Some (Agree asked) → ⊥
+  no_check [] e = cc
+  no_check (hex ∷ []) e = cc
+  no_check (hex ∷ d ∷ more) e = cc
+
   agreed_within : (words : List (List ℕ)) → agree_of words ≡ Some (Agree asked) → asked.instructions ≤ 100000
   agreed_within [] e = absurd (cc)
   agreed_within (a ∷ []) e = absurd (cc)
@@ -85,17 +90,18 @@ module _ (asked : Compared) where
   unfolding form_by_name
   named_within [] e = absurd (cc)
   named_within (command ∷ rest) e =
-      by_tests (bytes_eq command (codes "build")) (bytes_eq command (codes "trace")) (bytes_eq command (codes "sim")) (bytes_eq command (codes "agree")) (bytes_eq command (codes "gen")) e
+      by_tests (bytes_eq command (codes "build")) (bytes_eq command (codes "trace")) (bytes_eq command (codes "sim")) (bytes_eq command (codes "agree")) (bytes_eq command (codes "gen")) (bytes_eq command (codes "check")) e
     where
-      by_tests : (u v w x y : Bool)
-          → (if u then build_of rest else if v then trace_of rest else if w then simulate_of rest else if x then agree_of rest else if y then generate_of rest else None) ≡ Some (Agree asked)
+      by_tests : (u v w x y z : Bool)
+          → (if u then build_of rest else if v then trace_of rest else if w then simulate_of rest else if x then agree_of rest else if y then generate_of rest else if z then check_of rest else None) ≡ Some (Agree asked)
           → asked.instructions ≤ 100000
-      by_tests true v w x y e = absurd (no_build rest e)
-      by_tests false true w x y e = absurd (no_trace rest e)
-      by_tests false false true x y e = absurd (no_simulation rest e)
-      by_tests false false false true y e = agreed_within rest e
-      by_tests false false false false true e = absurd (no_program rest e)
-      by_tests false false false false false e = absurd (cc)
+      by_tests true v w x y z e = absurd (no_build rest e)
+      by_tests false true w x y z e = absurd (no_trace rest e)
+      by_tests false false true x y z e = absurd (no_simulation rest e)
+      by_tests false false false true y z e = agreed_within rest e
+      by_tests false false false false true z e = absurd (no_program rest e)
+      by_tests false false false false false true e = absurd (no_check rest e)
+      by_tests false false false false false false e = absurd (cc)
 
   -- the N of `agree` is at most 100,000
   pub compared_within : (words : List (List ℕ)) → form_of words ≡ Some (Agree asked) → asked.instructions ≤ 100000
@@ -111,3 +117,4 @@ command_within (Some (commands.Trace asked)) words e = tt
 command_within (Some (commands.Simulate simulated)) words e = tt
 command_within (Some (commands.Agree compared)) words e = compared_within (compared_of compared) words (sym e)
 command_within (Some (commands.Generate size)) words e = tt
+command_within (Some (commands.Check hex)) words e = tt

@@ -2,10 +2,11 @@
 use Rattle.std.proofs.Common.{ℕ, inl, inr, Option, Some, None, IfSome, List, [], ◌∷◌, ◌++◌, refl, sym, arith}
 use Rattle.host_io.specs.Host.{Kind, Contents, PrintsPrefix}
 use Rattle.picc_cli.specs.declared.building.Outcome.TheVariants as outcomes
+use Rattle.picc_cli.specs.declared.checking.Ended.TheVariants as check
 use Rattle.picc_cli.specs.declared.comparing.Ended.TheVariants as agree
 use Rattle.picc_cli.specs.declared.simulating.Ended.TheVariants as chip
 use Rattle.picc_cli.specs.declared.tracing.Ended.TheVariants as trace
-use Rattle.picc_cli.specs.Command.{Form, Build, Trace, Simulate, Agree, Generate}
+use Rattle.picc_cli.specs.Command.{Form, Build, Trace, Simulate, Agree, Generate, Check}
 use Rattle.picc_cli.specs.Finished.{HasFiles, HasFaults, IsStatus, HasStatus, HasPrinted, HasTold, IsComplete}
 use Rattle.pic_sim.specs.Going.{Known}
 use Rattle.picc_cli.specs.Generated.{generated}
@@ -13,6 +14,7 @@ use Rattle.host_lines.specs.Said.{IsLast}
 use Rattle.picc_cli.specs.Simulation.{HasSimulated, Knows}
 use Rattle.picc_cli.specs.Lines.{usage_line}
 use Rattle.picc_cli.specs.Summary.{summary_line}
+use Rattle.picc_cli.proofs.CheckEnds.{unsaid_told}
 use Rattle.picc_cli.proofs.Endings.{add_nothing}
 use Rattle.picc_cli.proofs.SimulationStops.{prints_as_run, stops_as_run}
 
@@ -28,6 +30,7 @@ no_files (Some (Trace asked)) (Some o) = refl
 no_files (Some (Simulate asked)) (Some o) = refl
 no_files (Some (Agree asked)) (Some o) = refl
 no_files (Some (Generate functions)) (Some o) = refl
+no_files (Some (Check hex)) (Some o) = refl
 
 pub no_faults : (form : Option Form) (kind : Kind) (count : ℕ) (old : Option Contents) → HasFaults kind count count form old 9
 no_faults form kind count old =
@@ -46,6 +49,7 @@ no_status_known (Some (Trace asked)) = inr (inr (inr (inr (inr refl))))
 no_status_known (Some (Simulate asked)) = inr (inr (inr (inr refl)))
 no_status_known (Some (Agree asked)) = inr (inr (inr (inr (inr refl))))
 no_status_known (Some (Generate functions)) = inr (inr (inr refl))
+no_status_known (Some (Check hex)) = inr (inr (inr (inr refl)))
 
 pub no_status : (form : Option Form) → HasStatus form 9
 no_status form = record { known = no_status_known form; usage = λ two. absurd (omega arith); no_form = λ none. inr (inr refl) }
@@ -82,6 +86,11 @@ no_print (Some (Agree asked)) kind files p =
 no_print (Some (Generate functions)) kind files p =
     let text = generated functions ++ summary_line functions 0 0 0 in
     record { whole = inl (inr refl); prefix = λ up. (None, text, record { words = 0; ram = 0; depth = 0; whole = refl }, nothing_of p text) }
+no_print (Some (Check hex)) kind files p =
+    record {
+      prints = record { whole = inl (inr refl); prefix = λ up. (check.NoMemory, [], refl, nothing_of p []) };
+      sound = λ is e. absurd (omega arith);
+    }
 
 pub no_told : (form : Option Form) (old new : Option Contents) (p : Option (List ℕ)) → IfSome old (λ o. HasTold form o new p p 9)
 no_told form None new p = tt
@@ -91,6 +100,7 @@ no_told (Some (Trace asked)) (Some o) new p = inl (inr refl)
 no_told (Some (Simulate asked)) (Some o) new p = tt
 no_told (Some (Agree asked)) (Some o) new p = record { ended = agree.NoMemory; knows = tt; exact = tt; last = inr (inr refl, nothing_of p []) }
 no_told (Some (Generate functions)) (Some o) new p = record { sized = λ e. absurd (omega arith); refused = λ e. absurd (omega arith) }
+no_told (Some (Check hex)) (Some o) new p = unsaid_told hex o 9 p p (inr refl)
 
 -- a board that wasn't asked
 pub not_simulated : (form : Option Form) (old : Option Contents) (board : Known) (p : Option (List ℕ)) → IfSome old (λ o. HasSimulated form o board board p p 9)
@@ -111,6 +121,7 @@ not_simulated (Some (Simulate asked)) (Some o) board p =
     }
 not_simulated (Some (Agree asked)) (Some o) board p = tt
 not_simulated (Some (Generate functions)) (Some o) board p = tt
+not_simulated (Some (Check hex)) (Some o) board p = tt
 
 pub no_end : (form : Option Form) (kind : Kind) (before now : ℕ) (old : Option Contents) → IfSome old (λ o. IsComplete kind before now form o 9)
 no_end form kind before now None = tt
@@ -143,3 +154,10 @@ no_end (Some (Agree asked)) kind before now (Some o) = λ quiet.
           };
     }
 no_end (Some (Generate functions)) kind before now (Some o) = λ quiet. record { ends = inr (inr refl); accepted = λ a. inr refl; refused = λ refusal a. inr refl }
+no_end (Some (Check hex)) kind before now (Some o) = λ quiet.
+    record {
+      ends = inr (inr (inr refl));
+      certified = λ image c a b. inr refl;
+      uncertified = λ image a b. inr refl;
+      no_hex = λ bytes a b. inr refl;
+    }

@@ -1,9 +1,6 @@
 -- Whether a simulation stops is whether the run of the chip's own definitions does, and the trace that it prints is that of this run.
-use Rattle.std.proofs.Common.{◌≡◌, ℕ, suc, ◌+◌, ◌-◌, ◌%◌, inl, inr, ⊎_elim, Bool, true, false, Option, IsSome, Result, Ok, List, [], ◌∷◌, ◌++◌, length, refl, sym, ap, ◌∙◌, subst, arith, append_assoc, option_map}
+use Rattle.std.proofs.Common.{◌≡◌, ℕ, suc, ◌+◌, ◌-◌, ◌%◌, inl, inr, ⊎_elim, Bool, true, false, Option, IsSome, List, [], ◌∷◌, ◌++◌, length, refl, sym, ap, ◌∙◌, subst, arith, append_assoc, option_map}
 use Rattle.std.proofs.lemmas.List.{append_cancel_left}
-use Rattle.hex_image.proofs.Found.{is_read, only}
-use Rattle.hex_image.specs.HexFile.{IsHexFile}
-use Rattle.hex_image.specs.declared.read.HexError.{HexError}
 use Rattle.host_io.specs.Host.{Contents}
 use Rattle.pic_chip.specs.Run.{Moment, moment}
 use Rattle.pic_map.proofs.FileLaws as maps
@@ -29,7 +26,7 @@ use Rattle.picc_cli.specs.Lines.{event_lines}
 use Rattle.host_lines.specs.Said.{GivesUp, IsLast}
 use Rattle.picc_cli.specs.ScriptInput.{IsFile}
 use Rattle.picc_cli.specs.Simulation.{Answers, ComesBy, IsRun, Knows, PrintsAsRun, PrintsTrace, Simulates, StopsAsRun, first_chip, first_look, ran_whole, run_by, stops_within}
-use Rattle.picc_cli.proofs.FilesKept.{same_bytes, hex_kept, map_kept, script_kept}
+use Rattle.picc_cli.proofs.FilesKept.{same_bytes, hex_same, hex_kept, map_kept, script_kept}
 
 -- ---- bytes and masks in two parts
 front_masks : (masks : ℕ → ℕ) (index : ℕ) (xs ys : List ℕ) → HasMasks masks index (xs ++ ys) → HasMasks masks index xs
@@ -156,14 +153,7 @@ module _ (image : List ℕ) (map : MapContent) (script : ScriptContent) (n : ℕ
       }
 
 -- ---- the files have one content
-same_image : (text a b : List ℕ) → IsHexFile text a → IsHexFile text b → a ≡ b
-same_image text a b f h = let same : ◌≡◌ {A = Result (List ℕ) HexError} (Ok b) (Ok a) = only (Ok a) text (is_read text a f) b h in cc
-
 module _ (asked : Simulated) (o : Contents) where
-  hex_same : (a b : List ℕ) → IsFile o asked.hex (IsHexInput a) → IsFile o asked.hex (IsHexInput b) → a ≡ b
-  hex_same a b (bytes, has, is) (others, there, also) =
-      same_image bytes a b is.file (subst (λ t. IsHexFile t b) (same_bytes o asked.hex others bytes there has) also.file)
-
   map_same : (a b : MapContent) → IsFile o asked.map (IsMapInput a) → IsFile o asked.map (IsMapInput b) → a ≡ b
   map_same a b (bytes, has, is) (others, there, also) =
       maps.one_only bytes a b is.file (subst (λ t. IsMapFile t b) (same_bytes o asked.map others bytes there has) also.file)
@@ -191,7 +181,7 @@ module _ (asked : Simulated) (o : Contents) (before now : Known) (p q : Option (
     -- the run that was made is that of what they hold
     held : (P : List ℕ → MapContent → ScriptContent → Type 0) (ended : Ended) (k : Simulates asked o before now ended p q) → P k.image k.map k.script → P image map script
     held P ended k h =
-        subst (λ x. P x map script) (hex_same asked o k.image image k.hex_file hex_file)
+        subst (λ x. P x map script) (hex_same o asked.hex k.image image k.hex_file hex_file)
         (subst (λ x. P k.image x script) (map_same asked o k.map map k.map_file map_file)
         (subst (λ x. P k.image k.map x) (script_same asked o k.script script k.script_file script_file) h))
 

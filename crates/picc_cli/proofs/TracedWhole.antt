@@ -23,7 +23,7 @@ use Rattle.pic_world.specs.World.{Outside, outside_of}
 use Rattle.picc_cli.specs.declared.inputs.FileEnd.{FileEnd}
 use Rattle.picc_cli.specs.declared.tracing.Ended.{Ended}
 use Rattle.picc_cli.specs.declared.tracing.Ended.TheVariants.{Done, Undefined, Refused, CannotReadText, NoScript, CannotPrint, NoMemory}
-use Rattle.picc_cli.specs.Command.{Asked, Form, Build, Trace, Simulate, Agree, Generate}
+use Rattle.picc_cli.specs.Command.{Asked, Form, Build, Trace, Simulate, Agree, Generate, Check}
 use Rattle.picc_cli.specs.Inputs.{IsScriptInput}
 use Rattle.host_lines.specs.Said.{Says}
 use Rattle.picc_cli.specs.ScriptInput.{IsFile}
@@ -195,3 +195,4 @@ not_traced (Some (Trace asked)) (Some o) p = record { ended = NoMemory; middle =
 not_traced (Some (Simulate asked)) (Some o) p = tt
 not_traced (Some (Agree asked)) (Some o) p = tt
 not_traced (Some (Generate functions)) (Some o) p = tt
+not_traced (Some (Check hex)) (Some o) p = tt

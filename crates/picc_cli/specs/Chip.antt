@@ -7,11 +7,10 @@ use Rattle.picc_cli.specs.declared.inputs.FileEnd.TheVariants.{CannotRead}
 use Rattle.picc_cli.specs.declared.simulating.Ended.{Ended}
 use Rattle.picc_cli.specs.declared.simulating.Ended.TheVariants.{Done, Unmodelled, NoHex, NoMap, NoScript, CannotPrint, NoMemory}
 use Rattle.picc_cli.specs.Command.{Simulated}
-use Rattle.picc_cli.specs.HexReasons.{word_text}
 use Rattle.picc_cli.specs.Inputs as inputs
 use Rattle.picc_cli.specs.Inputs.{IsHexInput, IsMapInput, IsScriptInput, HasNoHex, HasNoMap, HasNoScript}
 use Rattle.host_lines.specs.Said.{GivesUp, Prints}
-use Rattle.picc_cli.specs.Lines.{cannot_read, event_lines}
+use Rattle.picc_cli.specs.Lines.{cannot_read, event_lines, word_text}
 use Rattle.picc_cli.specs.ScriptInput.{IsFile}
 use Rattle.picc_cli.specs.Trace.{AllShown}
 

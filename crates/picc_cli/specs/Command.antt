@@ -36,6 +36,7 @@ pub data Form : Type 0 where
   Simulate : Simulated → Form
   Agree : Compared → Form
   Generate : ℕ → Form
+  Check : List ℕ → Form
 
 -- a name isn't empty and doesn't begin with `-`
 abbrev pub is_name : List ℕ → Bool
@@ -89,6 +90,11 @@ abbrev pub generate_of : List (List ℕ) → Option Form
 generate_of (k ∷ []) = from_one (number_in 64 k)
 generate_of _ = None
 
+-- `check HEX`
+abbrev pub check_of : List (List ℕ) → Option Form
+check_of (hex ∷ []) = Some (Check hex)
+check_of _ = None
+
 -- the form of words by the first of them
 unfoldable pub form_by_name : List (List ℕ) → Option Form
 form_by_name [] = None
@@ -97,7 +103,8 @@ form_by_name (command ∷ rest) =
     if bytes_eq command (codes "trace") then trace_of rest else
     if bytes_eq command (codes "sim") then simulate_of rest else
     if bytes_eq command (codes "agree") then agree_of rest else
-    if bytes_eq command (codes "gen") then generate_of rest else None
+    if bytes_eq command (codes "gen") then generate_of rest else
+    if bytes_eq command (codes "check") then check_of rest else None
 
 -- no word may be empty or begin with `-`
 abbrev pub form_of : List (List ℕ) → Option Form
@@ -111,6 +118,7 @@ is_simulation (Some (Trace asked)) = false
 is_simulation (Some (Simulate asked)) = true
 is_simulation (Some (Agree asked)) = false
 is_simulation (Some (Generate size)) = false
+is_simulation (Some (Check hex)) = false
 
 abbrev pub words_of : List (String Global) → List (List ℕ)
 words_of words = map string_bytes words

@@ -6,7 +6,7 @@ use Rattle.picc_cli.specs.declared.command.Simulated as declared_simulated
 use Rattle.picc_cli.specs.declared.command.Compared as declared_compared
 use Rattle.picc_cli.specs.declared.command.Command as declared_command
 use Rattle.picc_cli.specs.declared.command.Command.TheVariants as commands
-use Rattle.picc_cli.specs.Command.{Names, Asked, Simulated, Compared, Form, Build, Trace, Simulate, Agree, Generate}
+use Rattle.picc_cli.specs.Command.{Names, Asked, Simulated, Compared, Form, Build, Trace, Simulate, Agree, Generate, Check}
 
 abbrev pub names_of : Files → Names
 names_of files = record { input = files.input.now; output = files.output.now; map = files.map.now }
@@ -26,6 +26,7 @@ form_view (commands.Trace asked) = Trace (asked_of asked)
 form_view (commands.Simulate simulated) = Simulate (simulated_of simulated)
 form_view (commands.Agree compared) = Agree (compared_of compared)
 form_view (commands.Generate size) = Generate size
+form_view (commands.Check hex) = Check hex.now
 
 -- a comparison has at most 100,000 instructions
 abbrev pub IsWithin : Option declared_command.Command → Type 0
@@ -35,3 +36,4 @@ IsWithin (Some (commands.Trace asked)) = Unit {0}
 IsWithin (Some (commands.Simulate simulated)) = Unit {0}
 IsWithin (Some (commands.Agree compared)) = compared.instructions ≤ 100000
 IsWithin (Some (commands.Generate size)) = Unit {0}
+IsWithin (Some (commands.Check hex)) = Unit {0}

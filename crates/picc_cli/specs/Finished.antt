@@ -7,8 +7,9 @@ use Rattle.picc_core.specs.declared.refusal.Refusal.{Refusal}
 use Rattle.picc_cli.specs.declared.building.Outcome.{Outcome}
 use Rattle.picc_cli.specs.declared.tracing.Ended.{Ended}
 use Rattle.picc_cli.specs.Agreement as agreement
+use Rattle.picc_cli.specs.Checked.{CheckPrints, CheckTells, CheckCompletes}
 use Rattle.picc_cli.specs.Chip as chip
-use Rattle.picc_cli.specs.Command.{Names, Asked, Compared, Form, Build, Trace, Simulate, Agree, Generate}
+use Rattle.picc_cli.specs.Command.{Names, Asked, Compared, Form, Build, Trace, Simulate, Agree, Generate, Check}
 use Rattle.picc_cli.specs.Generated.{generated}
 use Rattle.picc_cli.specs.Lines.{usage_line, cannot_read}
 use Rattle.picc_cli.specs.Outcome as build
@@ -35,6 +36,7 @@ HasFiles (Some (Trace asked)) old new result = new ≡ Some old
 HasFiles (Some (Simulate asked)) old new result = new ≡ Some old
 HasFiles (Some (Agree asked)) old new result = new ≡ Some old
 HasFiles (Some (Generate functions)) old new result = new ≡ Some old
+HasFiles (Some (Check hex)) old new result = new ≡ Some old
 
 -- ---- the faults of the outside
 -- a file that the command comes to has no content
@@ -45,6 +47,7 @@ LacksFile (Some (Trace asked)) old = Lacks old asked.input ⊎ Lacks old asked.s
 LacksFile (Some (Simulate asked)) old = chip.LacksFile asked old
 LacksFile (Some (Agree asked)) old = agreement.LacksFile asked old
 LacksFile (Some (Generate functions)) old = ⊥
+LacksFile (Some (Check hex)) old = Lacks old hex
 
 -- 3 is answered only for a fault, and each of them is answered
 pub record HasFaults (kind : Kind) (before now : ℕ) (form : Option Form) (old : Option Contents) (result : ℕ) : Type 0 where
@@ -63,6 +66,7 @@ IsStatus (Some (Trace asked)) result = (result ≡ 0) ⊎ ((result ≡ 1) ⊎ ((
 IsStatus (Some (Simulate asked)) result = (result ≡ 0) ⊎ ((result ≡ 5) ⊎ ((result ≡ 6) ⊎ GivesUp result))
 IsStatus (Some (Agree asked)) result = (result ≡ 0) ⊎ ((result ≡ 1) ⊎ ((result ≡ 4) ⊎ ((result ≡ 5) ⊎ GivesUp result)))
 IsStatus (Some (Generate functions)) result = (result ≡ 0) ⊎ ((result ≡ 1) ⊎ GivesUp result)
+IsStatus (Some (Check hex)) result = (result ≡ 0) ⊎ ((result ≡ 5) ⊎ ((result ≡ 7) ⊎ GivesUp result))
 
 pub record HasStatus (form : Option Form) (result : ℕ) : Type 0 where
   pub known : IsStatus form result
@@ -102,6 +106,7 @@ HasPrinted kind (Some (Trace asked)) files old new result = TracePrints kind ask
 HasPrinted kind (Some (Simulate asked)) files old new result = chip.SimulationPrints kind asked files old new result
 HasPrinted kind (Some (Agree asked)) files old new result = agreement.AgreementPrints kind asked files old new result
 HasPrinted kind (Some (Generate functions)) files old new result = Prints generation.status_of (IsGeneratedText functions) old new result
+HasPrinted kind (Some (Check hex)) files old new result = CheckPrints kind hex old new result
 
 -- ---- where the host tells both
 -- the line that is printed is that of a refusal that holds of the text
@@ -125,6 +130,7 @@ HasTold (Some (Build names)) old new before after result = result ≡ 1 → Buil
 HasTold (Some (Trace asked)) old new before after result = GivesUp result ⊎ TraceTells asked old before after result
 HasTold (Some (Agree asked)) old new before after result = agreement.AgreementTells asked old before after result
 HasTold (Some (Generate functions)) old new before after result = GenerationTells functions before after result
+HasTold (Some (Check hex)) old new before after result = CheckTells hex old before after result
 -- what a simulation does is told with its board (HasSimulated)
 HasTold (Some (Simulate asked)) old new before after result = Unit {0}
 
@@ -173,6 +179,7 @@ Completes (Some (Trace asked)) old result = TraceCompletes asked old result
 Completes (Some (Simulate asked)) old result = SimulationCompletes asked old result
 Completes (Some (Agree asked)) old result = AgreementCompletes asked old result
 Completes (Some (Generate functions)) old result = GenerationCompletes functions result
+Completes (Some (Check hex)) old result = CheckCompletes hex old result
 
 abbrev pub IsComplete : Kind → ℕ → ℕ → Option Form → Contents → ℕ → Type 0
 IsComplete kind before now form old result = (IsCounted kind before now → ⊥) → Completes form old result

@@ -1,6 +1,7 @@
 -- Files that a command reads whole, closes and then checks: why it doesn't go on behind one, what is known of the file then,
 -- and the line that is printed.
 use Rattle.std.specs.Prelude.{ℕ, ◌≡◌, ◌≤◌, ◌<◌, Bool, true, false, IsTrue, Option, List, [], length, codes, if◌then◌else◌, Result, Ok, Err}
+use Rattle.hex_image.specs.Faults.{fault_line, fault_text}
 use Rattle.hex_image.specs.HexFile.{IsHexFile}
 use Rattle.hex_image.specs.Reading.{reading_of}
 use Rattle.hex_image.specs.declared.read.HexError.{HexError}
@@ -12,7 +13,6 @@ use Rattle.pic_map.specs.MapFile.{IsMapFile}
 use Rattle.schedule.specs.ScriptFile.{ScriptContent, IsScriptFile}
 use Rattle.picc_cli.specs.declared.inputs.FileEnd.{FileEnd}
 use Rattle.picc_cli.specs.declared.inputs.FileEnd.TheVariants.{CannotRead, TooLong, BadHex, BadLine, NoMemory}
-use Rattle.picc_cli.specs.HexReasons.{hex_line, hex_text}
 use Rattle.picc_cli.specs.Lines.{cannot_read, located}
 use Rattle.picc_cli.specs.ScriptInput.{IsFile, HasBadLine, IsLong, longest_script}
 
@@ -113,7 +113,7 @@ pub record FailsWithoutFile {T : Type 0} (kind : Kind) (old : Option Contents) (
 abbrev pub line_of : List ℕ → FileEnd → List ℕ
 line_of name CannotRead = cannot_read name
 line_of name TooLong = located name 0 (codes "too long")
-line_of name (BadHex error) = located name (hex_line error) (hex_text error)
+line_of name (BadHex error) = located name (fault_line error) (fault_text error)
 line_of name (BadLine line) = located name line (codes "bad line")
 line_of name NoMemory = []
 

@@ -7,13 +7,13 @@ pub mod Lines
 pub mod Outcome
 pub mod ScriptInput
 pub mod Trace
-pub mod HexReasons
 pub mod Inputs
 pub mod Chip
 pub mod RunsTold
 pub mod Agreement
 pub mod Simulation
 pub mod Summary
+pub mod Checked
 pub mod Finished
 pub mod Generated
 pub mod Traced

@@ -1,16 +1,21 @@
 -- Lines that a command prints.
-use Rattle.std.specs.Prelude.{ℕ, List, [], ◌∷◌, ◌++◌, codes, decimal}
+use Rattle.std.specs.Prelude.{ℕ, ◌/◌, ◌%◌, List, [], ◌∷◌, ◌++◌, codes, decimal}
 use Rattle.pic_world.specs.declared.Event.{Event}
 use Rattle.pic_map.specs.EventText.{event_text}
 use Rattle.pic_map.specs.MapContent.{MapContent}
+use Rattle.text_lines.specs.Text.{hex_pairs}
 use Rattle.src_values.specs.declared.objects.Undef.{Undef}
 use Rattle.src_values.specs.declared.objects.Undef.TheVariants as undef
 
 abbrev pub usage_line : List ℕ
-usage_line = codes "usage: picc build IN OUT MAP | trace IN SCRIPT M | sim HEX MAP SCRIPT N | agree IN SCRIPT N | gen K" ++ 10 ∷ []
+usage_line = codes "usage: picc build IN OUT MAP | trace IN SCRIPT M | sim HEX MAP SCRIPT N | agree IN SCRIPT N | gen K | check HEX" ++ 10 ∷ []
 
 abbrev pub cannot_read : List ℕ → List ℕ
 cannot_read name = codes "cannot read " ++ (name ++ 10 ∷ [])
+
+-- four upper case digits
+abbrev pub word_text : ℕ → List ℕ
+word_text n = hex_pairs ((n / 256) ∷ (n % 256) ∷ [])
 
 -- `NAME:LINE: TEXT`
 abbrev pub located : List ℕ → ℕ → List ℕ → List ℕ

@@ -19,7 +19,7 @@ use Rattle.schedule.specs.ScriptFile.{ScriptContent}
 use Rattle.picc_cli.specs.declared.simulating.Ended.{Ended}
 use Rattle.picc_cli.specs.declared.simulating.Ended.TheVariants.{Done, Unmodelled, NoHex, NoMap, NoScript, CannotPrint, NoMemory}
 use Rattle.picc_cli.specs.Chip.{last_line, status_of}
-use Rattle.picc_cli.specs.Command.{Simulated, Form, Build, Trace, Simulate, Agree, Generate}
+use Rattle.picc_cli.specs.Command.{Simulated, Form, Build, Trace, Simulate, Agree, Generate, Check}
 use Rattle.picc_cli.specs.Inputs.{IsHexInput, IsMapInput, IsScriptInput, HasNoHex, HasNoMap, HasNoScript}
 use Rattle.picc_cli.specs.Lines.{event_lines}
 use Rattle.host_lines.specs.Said.{GivesUp, IsLast}
@@ -208,6 +208,7 @@ HasSimulated (Some (Trace asked)) old before now p q result = Unit {0}
 HasSimulated (Some (Simulate asked)) old before now p q result = SimulationTells asked old before now p q result
 HasSimulated (Some (Agree asked)) old before now p q result = Unit {0}
 HasSimulated (Some (Generate functions)) old before now p q result = Unit {0}
+HasSimulated (Some (Check hex)) old before now p q result = Unit {0}
 
 -- Without a fault, a simulation of three files that are such as they are to be runs the chip, and one of which a file isn't tells
 -- it, unless memory runs out.

@@ -14,7 +14,7 @@ use Rattle.pic_world.specs.World.{outside_of}
 use Rattle.pic_world.specs.declared.Event.{Event}
 use Rattle.picc_cli.specs.declared.tracing.Ended.{Ended}
 use Rattle.picc_cli.specs.declared.tracing.Ended.TheVariants.{Done, Undefined, Refused, CannotReadText, NoScript, CannotPrint, NoMemory}
-use Rattle.picc_cli.specs.Command.{Asked, Form, Build, Trace, Simulate, Agree, Generate}
+use Rattle.picc_cli.specs.Command.{Asked, Form, Build, Trace, Simulate, Agree, Generate, Check}
 use Rattle.picc_cli.specs.Inputs.{IsScriptInput}
 use Rattle.picc_cli.specs.Lines.{event_lines}
 use Rattle.host_lines.specs.Said.{IsLast}
@@ -112,3 +112,4 @@ HasTraced (Some (Trace asked)) old p q result = TraceRuns asked old p q result
 HasTraced (Some (Simulate asked)) old p q result = Unit {0}
 HasTraced (Some (Agree asked)) old p q result = Unit {0}
 HasTraced (Some (Generate functions)) old p q result = Unit {0}
+HasTraced (Some (Check hex)) old p q result = Unit {0}

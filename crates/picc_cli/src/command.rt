@@ -43,7 +43,7 @@ pub struct Compared<'a> {
     pub instructions: u32,
 }
 
-/// A command of one of the five forms.
+/// A command of one of the six forms.
 #[derive(Clone, Copy)]
 pub enum Command<'a> {
     Build(Files<'a>),
@@ -52,6 +52,8 @@ pub enum Command<'a> {
     Agree(Compared<'a>),
     /// The size of the program that is generated, 1 to 64.
     Generate(u32),
+    /// The HEX of which the depth of the return stack is checked.
+    Check(&'a str),
 }
 
 /// The most steps that a trace can be asked for.
@@ -66,8 +68,8 @@ const MOST_COMPARED: u32 = 100_000;
 /// The largest program that can be generated.
 const LARGEST: u32 = 64;
 
-/// The command `build IN OUT MAP`, `trace IN SCRIPT M`, `sim HEX MAP SCRIPT N`, `agree IN SCRIPT N` or `gen K`, or
-/// `None` where the words are of no form. No word is empty or begins with `-`, and the three names of a build differ. A
+/// The command `build IN OUT MAP`, `trace IN SCRIPT M`, `sim HEX MAP SCRIPT N`, `agree IN SCRIPT N`, `gen K` or
+/// `check HEX`, or `None` where the words are of no form. No word is empty or begins with `-`, and the three names of a build differ. A
 /// number is one to ten decimal digits: M and the N of `sim` are at most 1,000,000, the N of `agree` is at most 100,000,
 /// and K is 1 to 64. `Err` is out of memory.
 pub fn command_of(alloc: Global, words: &[String]) -> Result<Option<Command<'_>>, AllocError>
@@ -114,6 +116,9 @@ fn command_in<'a>(name: &str, values: &[&'a str]) -> Option<Command<'a>>
     }
     if name == "gen" {
         return generate_in(values);
+    }
+    if name == "check" {
+        return check_in(values);
     }
     None
 }
@@ -191,6 +196,15 @@ fn generate_in<'a>(values: &[&str]) -> Option<Command<'a>>
     } else {
         None
     }
+}
+
+fn check_in<'a>(values: &[&'a str]) -> Option<Command<'a>>
+    ensures { option_map form_view result ≡ stated.check_of (map (λ v. v.now) values.now) }
+{
+    let [hex] = values else {
+        return None;
+    };
+    Some(Command::Check(*hex))
 }
 
 fn differ(files: Files<'_>) -> bool

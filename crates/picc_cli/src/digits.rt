@@ -2,7 +2,7 @@
 
 ghost use Rattle.std.specs.Prelude.{◌≡◌, ◌++◌, ◌<◌, OnOk};
 ghost use Rattle.text_lines.specs.Text.{hex_digit as digit_of};
-ghost use Rattle.picc_cli.specs.HexReasons.{byte_text, word_text};
+ghost use Rattle.picc_cli.specs.Lines.{word_text};
 
 use std::alloc::AllocError;
 
@@ -14,14 +14,6 @@ fn hex_digit(value: u8) -> u8
     ensures { result ≡ digit_of value }
 {
     DIGITS[value as usize]
-}
-
-/// Appends a byte in two digits.
-#[tactic(auto, unfolding(text_lines::specs::Text::hex_pairs))]
-pub fn push_byte(text: &mut Vec<u8>, byte: u8) -> Result<(), AllocError>
-    ensures { OnOk result (text.new.items ≡ text.old.items ++ byte_text byte) }
-{
-    text.extend_from_slice(&[hex_digit(byte / 16), hex_digit(byte % 16)])
 }
 
 /// Appends a number of 16 bits in four digits.

@@ -9,6 +9,7 @@ ghost use Rattle.picc_cli.specs.Simulation.{HasSimulated, board_of};
 ghost use Rattle.picc_cli.specs.Traced.{HasTraced};
 
 use crate::building::build_files;
+use crate::checking::check;
 use crate::command::{Command, command_of};
 use crate::comparing::compare;
 use crate::simulating::simulate;
@@ -20,22 +21,23 @@ use pic_sim::Board;
 use std::alloc::Global;
 
 const USAGE: &str =
-    "usage: picc build IN OUT MAP | trace IN SCRIPT M | sim HEX MAP SCRIPT N | agree IN SCRIPT N | gen K\n";
+    "usage: picc build IN OUT MAP | trace IN SCRIPT M | sim HEX MAP SCRIPT N | agree IN SCRIPT N | gen K | check HEX\n";
 
 /// Runs the command of these words, which are those after the program's name, over a host on which no file is open.
 /// The answer is the exit status: 0 where the command did what its form says, 1 where the C text is refused, which may be the
 /// one that `gen` generates, 2 where
 /// the words are of no form, 3 for a fault of the host, 4 where a step of a trace or of a comparison is undefined, 5 where
-/// a HEX file, a map or a script is none, 6 where a simulation comes to SLEEP or to a word that is no instruction's, 9 when
-/// out of memory.
+/// a HEX file, a map or a script is none, 6 where a simulation comes to SLEEP or to a word that is no instruction's, 7 where no
+/// certificate of the return stack's depth is valid for an image, 9 when out of memory.
 ///
-/// The forms are five. `build IN OUT MAP` compiles the C text of IN, writes the HEX to OUT and then the map to
+/// The forms are six. `build IN OUT MAP` compiles the C text of IN, writes the HEX to OUT and then the map to
 /// MAP, and prints nothing. No file is created before all else has succeeded. `trace IN SCRIPT M` runs the C text of IN by
 /// the language's own rules, for at most M steps, with what the script of SCRIPT lets in from outside, and prints the line
 /// of each event. `sim HEX MAP SCRIPT N` runs the HEX on the chip for N instructions over the board, which is fed the script,
 /// and prints the line of each event by the names of the map. `agree IN SCRIPT N` compares the runs of the chip and of the
-/// source, and prints on how many events they agree. `gen K` prints a program of K functions, and its sizes. But for
-/// `build`, no file is created or changed; but for `sim`, the board is left as it was.
+/// source, and prints on how many events they agree. `gen K` prints a program of K functions, and its sizes. `check HEX`
+/// prints how deep the return stack becomes at most under the program of the HEX. But for `build`, no file is created or changed; but for
+/// `sim`, the board is left as it was.
 pub fn picc<H: Host>(
     alloc: Global,
     words: &[String],
@@ -55,7 +57,9 @@ pub fn picc<H: Host>(
     // that has no content.
     ensures printed { HasPrinted (H.kind host.old) (form_of (words_of words.now)) (H.contents host.old) (H.printed host.old) (H.printed host.new) result }
     // What is printed of a refused text, of a file that isn't such as it is to be, and of an accepted one, holds of the files; and
-    // the sizes of a generated program are those of its typed program, or a refusal of it holds of it.
+    // the sizes of a generated program are those of its typed program, or a refusal of it holds of it. The depth that a check prints is
+    // that of a certificate that is valid for the image of its file, so in no run of that image does the return stack hold more words; with
+    // 7 no certificate is valid for it.
     ensures told { IfSome (H.contents host.old) (λ old. HasTold (form_of (words_of words.now)) old (H.contents host.new) (H.printed host.old) (H.printed host.new) result) }
     // A simulation runs the chip over the board, on what its three files hold: this is that run, its events, and what the board was
     // asked and told. 6 comes just where the run of the chip's own definitions stops, and with 0 and 6 the trace of that run is printed.
@@ -64,7 +68,7 @@ pub fn picc<H: Host>(
     // A trace prints the lines of the run of a typed program, by the definitions of the source. Each event of it has a name in the map.
     ensures traced { IfSome (H.contents host.old) (λ old. HasTraced (form_of (words_of words.now)) old (H.printed host.old) (H.printed host.new) result) }
     // Without a fault an accepted text is built, traced or compared, and one that is refused isn't, unless memory runs out; and the status
-    // says which of the two a text is.
+    // says which of the two a text is. So does the status of a check say whether a certificate is valid for an image.
     ensures complete { IfSome (H.contents host.old) (λ old. IsComplete (H.kind host.old) (H.faults host.old) (H.faults host.new) (form_of (words_of words.now)) old result) }
     // The board is left as it was, but by a simulation whose files are such as they are to be.
     ensures board { is_simulation (form_of (words_of words.now)) ≡ false → board.new ≡ board.old }
@@ -105,5 +109,6 @@ fn run<H: Host>(
         Some(Command::Simulate(asked)) => simulate(alloc, host, board, asked),
         Some(Command::Agree(asked)) => compare(alloc, host, asked),
         Some(Command::Generate(functions)) => print_generated(alloc, host, functions),
+        Some(Command::Check(hex)) => check(alloc, host, hex),
     }
 }

@@ -3,7 +3,7 @@
 ghost use Rattle.std.specs.Prelude.{◌≡◌, ◌≤◌, ◌<◌, ◌^◌, false, length, Some, IfOk, IfErr, IfSome};
 ghost use Rattle.host_io.specs.Host.{Closed};
 ghost use Rattle.pic_map.specs.MapView.{content_of};
-ghost use Rattle.picc_cli.specs.HexReasons.{hex_line as hex_line_of, hex_text as hex_text_of};
+ghost use Rattle.hex_image.specs.Faults.{fault_line as fault_line_of, fault_text as fault_text_of};
 ghost use Rattle.picc_cli.specs.Inputs.{IsHexInput, IsMapInput, IsScriptInput, IsUnread, HasNoHex, HasNoMap, HasNoScript, FailsWithoutFile, fails_in, is_fault, line_of, status_of};
 ghost use Rattle.picc_cli.specs.Inputs.{hex_end as hex_end_of, is_no_memory};
 ghost use Rattle.picc_cli.specs.Lines.{located};
@@ -11,9 +11,8 @@ ghost use Rattle.host_lines.specs.Said.{Says, HasOutcomeCause};
 ghost use Rattle.picc_cli.specs.ScriptInput.{IsFile};
 ghost use Rattle.schedule.specs.ScriptFile as script_file;
 
-use crate::hex_reason::{hex_line, hex_text};
 use crate::say::say_located;
-use hex_image::{HexError, read_hex};
+use hex_image::{HexError, fault_line, fault_text, read_hex};
 use host_io::{Host, HostError, read_whole};
 use host_lines::say;
 use pic_chip::Image;
@@ -191,10 +190,10 @@ fn say_bad_hex<H: Host>(alloc: Global, host: &mut H, name: &str, error: &HexErro
     ensures same_contents { H.contents host.new ≡ H.contents host.old }
     ensures same_kind { H.kind host.new ≡ H.kind host.old }
     ensures said { Says (H.kind host.old) (H.faults host.old) (H.faults host.new) (H.printed host.old) (H.printed host.new)
-        (located name.now (hex_line_of error.now) (hex_text_of error.now)) 5 result }
+        (located name.now (fault_line_of error.now) (fault_text_of error.now)) 5 result }
 {
-    match hex_text(alloc, error) {
-        Ok(text) => say_located(alloc, host, 5, name, hex_line(error), b"", &text),
+    match fault_text(alloc, error) {
+        Ok(text) => say_located(alloc, host, 5, name, fault_line(error), b"", &text),
         Err(_) => 9,
     }
 }

@@ -8,12 +8,12 @@
 #![tactic(auto)]
 
 mod building;
+mod checking;
 pub mod command;
 mod comparing;
 mod digits;
 mod dispatch;
 mod generating;
-mod hex_reason;
 mod inputs;
 mod parsing;
 mod refusal;

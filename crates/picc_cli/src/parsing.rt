@@ -40,7 +40,7 @@ pub fn all_names(words: &[String]) -> bool
     true
 }
 
-/// Parses words by one command with five subcommands, whose arguments are all positional texts: the subcommand's name and
+/// Parses words by one command with six subcommands, whose arguments are all positional texts: the subcommand's name and
 /// the words after it, or `None` where they are of no form. `Err` is out of memory.
 pub fn parsed<'a>(alloc: Global, words: &'a [String]) -> Result<Option<ArgMatches<'a>>, AllocError>
     requires { list_all stated.is_name (words_of words.now) ≡ true }
@@ -63,6 +63,7 @@ fn forms<'a>(alloc: Global) -> Result<clap::Command<'a>, AllocError>
     let simulate = simulate(alloc)?;
     let agree = agree(alloc)?;
     let generate = generate(alloc)?;
+    let check = check(alloc)?;
     clap::Command::new(alloc, "picc")
         .no_binary_name(true)
         .disable_help_flag(true)
@@ -71,10 +72,11 @@ fn forms<'a>(alloc: Global) -> Result<clap::Command<'a>, AllocError>
         .subcommand(trace)?
         .subcommand(simulate)?
         .subcommand(agree)?
-        .subcommand(generate)
+        .subcommand(generate)?
+        .subcommand(check)
 }
 
-// ---- the five forms, each with the names of its places
+// ---- the six forms, each with the names of its places
 fn build<'a>(alloc: Global) -> Result<clap::Command<'a>, AllocError>
     ensures { IfOk result (IsSubcommand (codes "build") 3) }
 {
@@ -103,6 +105,12 @@ fn generate<'a>(alloc: Global) -> Result<clap::Command<'a>, AllocError>
     ensures { IfOk result (IsSubcommand (codes "gen") 1) }
 {
     subcommand(alloc, "gen", &["K"])
+}
+
+fn check<'a>(alloc: Global) -> Result<clap::Command<'a>, AllocError>
+    ensures { IfOk result (IsSubcommand (codes "check") 1) }
+{
+    subcommand(alloc, "check", &["HEX"])
 }
 
 /// The subcommand of this name, with a word for each of these places.
