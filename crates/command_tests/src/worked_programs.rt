@@ -51,7 +51,7 @@ trace a.c a.s 1000@0@R PORTA 5A$W PORTB 5A$R PORTA 00$W PORTB 00$End$@a.c=void m
 ";
 
 #[test]
-fn traces_of_programs(rt: HostRuntime) -> Result<(), Failure> {
+fn programs_have_their_worked_traces(rt: HostRuntime) -> Result<(), Failure> {
     Ok(check_all(&rt, rt.alloc(), TRACES, "", 20)?)
 }
 
@@ -60,17 +60,30 @@ build a.c a.hex a.map;sim a.hex a.map a.s 100000@0@W PORTB 05$End$@a.c=void main
 build a.c a.hex a.map;sim a.hex a.map a.s 200000@0@W INTCON 90$W PORTB 01$R INTCON 12$W INTCON 10$@a.c=void interrupt h(void){PORTB=1;INTF=0;}void main(void){INTCON=0x90;for(;;);}@a.s=at 100000 INTF
 build a.c a.hex a.map;sim a.hex a.map a.s 200000@0@W PORTB 06$End$@a.c=unsigned char f(unsigned char a,unsigned char b){return a+b;}unsigned char g(unsigned char x){return f(x,3);}void main(void){PORTB=f(1,g(2));}@a.s=
 build a.c a.hex a.map;sim a.hex a.map a.s 20000@0@W PORTB 96$W PORTC 2C$End$@a.c=void main(void){unsigned char a=200;unsigned char b=100;PORTB=(a+b)>>1;PORTC=a+b;}@a.s=
+build a.c a.hex a.map;sim a.hex a.map a.s 200000@0@W PORTB 96$End$@a.c=void main(void){unsigned char a=200;unsigned char b=100;PORTB=(a+b)>>1;}@a.s=
+build a.c a.hex a.map;sim a.hex a.map a.s 200000@0@W PORTB 00$W PORTB 01$W PORTB 04$W PORTC 02$End$@a.c=void main(void){PORTB=-1<1u;PORTB=-1L<1u;PORTB=sizeof 40000;PORTC=sizeof 0x9C40;}@a.s=
+build a.c a.hex a.map;sim a.hex a.map a.s 200000@0@W PORTB FD$W PORTC FF$End$@a.c=void main(void){int a=-7;PORTB=a/2;PORTC=a%2;}@a.s=
+build a.c a.hex a.map;sim a.hex a.map a.s 200000@0@R a.0 01$R a.1 02$R a.2 03$W PORTB 06$End$@a.c=unsigned char a[3]={1,2,3};void main(void){unsigned char*p;unsigned char s=0;for(p=a;p!=a+3;p++)s+=*p;PORTB=s;}@a.s=
+build a.c a.hex a.map;sim a.hex a.map a.s 200000@0@W q.0 20$W q.1 00$End$@a.c=unsigned char x;unsigned char*q;void main(void){q=&x;}@a.s=
+build a.c a.hex a.map;sim a.hex a.map a.s 200000@0@W PORTB 09$End$@a.c=const unsigned char t[2]={7,9};void main(void){PORTB=t[1];}@a.s=
+# one branch of a bit, and the other
+build a.c a.hex a.map;sim a.hex a.map a.s 20000@0@R PORTB 01$W PORTB 07$End$@a.c=unsigned char f(unsigned char a){return a;}void main(void){if(RB0)PORTB=f(7);else PORTC=1;}@a.s=input 01
+build a.c a.hex a.map;sim a.hex a.map a.s 20000@0@R PORTB 00$W PORTC 01$End$@a.c=unsigned char f(unsigned char a){return a;}void main(void){if(RB0)PORTB=f(7);else PORTC=1;}@a.s=
+# the handler is entered directly behind the write that makes an interrupt due
+build a.c a.hex a.map;sim a.hex a.map a.s 1000@0@W INTCON 92$W PORTB 01$R INTCON 12$W INTCON 10$W PORTA 02$End$@a.c=void interrupt h(void){PORTB=1;INTF=0;}void main(void){INTCON=0x92;PORTA=2;}@a.s=
 build a.c a.hex a.map;sim a.hex a.map a.s 0@0@@a.c=void main(void){PORTB=5;}@a.s=
 # what is undefined in the source has code too
 build a.c a.hex a.map@0@@a.c=unsigned char x;void main(void){PORTB=1/x;}
+build a.c a.hex a.map@0@@a.c=unsigned char a[3]={1,2,3};void main(void){unsigned char*p;unsigned char s=0;for(p=a;p!=a+4;p++)s+=*p;PORTB=s;}
+build a.c a.hex a.map@0@@a.c=unsigned char*q;void f(void){unsigned char a;q=&a;}void g(void){unsigned char b;PORTB=(q==&b);}void main(void){f();g();}
 build a.c a.hex a.map;sim a.hex a.map a.s 1000@0@R PORTA 5A$W t.0 5A$R t.0 5A$W PORTB 5A$End$@a.c=unsigned char t;void main(void){t=PORTA;PORTB=t;}@a.s=input 5A
 build a.c a.hex a.map;sim a.hex a.map a.s 1000@0@W TRISB 00$W PORTB 05$W PORTC FF$W TRISE 80$End$@a.c=void main(void){TRISB=0;PORTB=5;PORTC=255;TRISE=128;}@a.s=
 build a.c a.hex a.map;sim a.hex a.map a.s 1000@0@W TRISB 00$W PORTB 05$W PORTC FF$W TRISE 80$End$@a.c=void main(void){TRISB=0;PORTB=5;PORTC=255;TRISE=128; }@a.s=
 ";
 
 #[test]
-fn programs_on_the_chip(rt: HostRuntime) -> Result<(), Failure> {
-    Ok(check_all(&rt, rt.alloc(), ON_THE_CHIP, "", 9)?)
+fn programs_make_their_worked_events_on_the_chip(rt: HostRuntime) -> Result<(), Failure> {
+    Ok(check_all(&rt, rt.alloc(), ON_THE_CHIP, "", 20)?)
 }
 
 // Whether two texts are built to the same HEX and the same map.
@@ -149,7 +162,7 @@ fn is_case_placed(alloc: Global, case: &str) -> Result<bool, AllocError> {
 }
 
 #[test]
-fn where_objects_and_frames_stand(rt: HostRuntime) -> Result<(), Failure> {
+fn objects_and_frames_stand_where_they_were_worked_out(rt: HostRuntime) -> Result<(), Failure> {
     let mut count: u32 = 0;
     for case in PLACED.lines() {
         assert!(rt; is_case_placed(rt.alloc(), case)?, "{case}");
