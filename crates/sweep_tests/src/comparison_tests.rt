@@ -27,7 +27,7 @@ fn events_under(alloc: Global, t: u32) -> Result<u32, AllocError> {
 // A flag before each of a thousand instructions: as long as INTCON isn't written it is lost, and from then on the handler runs
 // once.
 #[test]
-fn two_copies_under_a_flag_anywhere(rt: HostRuntime) -> Result<(), Failure> {
+fn a_flag_anywhere_calls_the_handler_once_or_is_lost(rt: HostRuntime) -> Result<(), Failure> {
     let mut taken = false;
     for t in 0..=1000u32 {
         let events = events_under(rt.alloc(), t)?;
@@ -48,7 +48,7 @@ fn ticks(alloc: Global) -> Result<String, AllocError> {
 }
 
 #[test]
-fn a_key_under_forty_ticks(rt: HostRuntime) -> Result<(), Failure> {
+fn a_key_agrees_under_forty_ticks(rt: HostRuntime) -> Result<(), Failure> {
     let script = ticks(rt.alloc())?;
     let (host, status) = host_behind(rt.alloc(), "agree a.c a.s 20000", KEY, &script)?;
     let printed = host.printed.as_slice();

@@ -106,7 +106,7 @@ fn is_told_behind(alloc: Global, length: usize) -> Result<bool, AllocError> {
 }
 
 #[test]
-fn a_text_is_cut_anywhere(rt: HostRuntime) -> Result<(), Failure> {
+fn a_text_cut_anywhere_is_told_at_its_line(rt: HostRuntime) -> Result<(), Failure> {
     for length in 0..=KEY.len() {
         assert!(rt; is_told_behind(rt.alloc(), length)?, "{length} bytes");
     }

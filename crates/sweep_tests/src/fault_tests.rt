@@ -1,7 +1,8 @@
 //! A host of which each call fails in turn, under each command.
 //!
-//! A case has one field more than others, behind what is printed: the lines by which its commands report a file, with `|` between
-//! them.
+//! A case has one field more than others, behind what is printed: how many calls are made on each file, in their order, with `*` and the line
+//! that reports a failure of one of them, and `|` between two files. A file that is read is opened, read, found to be at its end and closed,
+//! and an empty one is at its end at once; one that is written is created, written and closed. What is printed comes behind these calls.
 
 use command_cases::{
     BUILD, Case, LED, case_of, cut, has_files, host_behind, host_of, is_printed, is_same_file,
@@ -12,16 +13,16 @@ use std::alloc::{AllocError, Global};
 use std::test::Fail as Failure;
 
 const BUILDING: &str = "\
-build a.c a.hex a.map@0@@cannot read a.c|cannot write a.hex|cannot write a.map@a.c=void main(void){PORTB=5;}@a.s=";
+build a.c a.hex a.map@0@@4*cannot read a.c|3*cannot write a.hex|3*cannot write a.map@a.c=void main(void){PORTB=5;}@a.s=";
 
 const DIVIDING: &str = "\
-trace a.c a.s 1000@4@R x.0 00$a.c:3: undefined: division$@cannot read a.c|cannot read a.s@\
+trace a.c a.s 1000@4@R x.0 00$a.c:3: undefined: division$@4*cannot read a.c|4*cannot read a.s@\
 a.c=unsigned char x;$void main(void){$PORTB=1/x;}@a.s=input 01";
 
 const OTHERS: &str = "\
-trace a.c a.s 1000@0@W PORTB 05$End$@cannot read a.c|cannot read a.s@a.c=void main(void){PORTB=5;}@a.s=
-build a.c a.hex a.map;sim a.hex a.map a.s 1000@0@W PORTB 05$End$@cannot read a.c|cannot write a.hex|cannot write a.map|cannot read a.hex|cannot read a.map|cannot read a.s@a.c=void main(void){PORTB=5;}@a.s=
-agree a.c a.s 1000@0@agree 2$@cannot read a.c|cannot read a.s@a.c=void main(void){PORTB=5;}@a.s=
+trace a.c a.s 1000@0@W PORTB 05$End$@4*cannot read a.c|3*cannot read a.s@a.c=void main(void){PORTB=5;}@a.s=
+build a.c a.hex a.map;sim a.hex a.map a.s 1000@0@W PORTB 05$End$@4*cannot read a.c|3*cannot write a.hex|3*cannot write a.map|4*cannot read a.hex|4*cannot read a.map|3*cannot read a.s@a.c=void main(void){PORTB=5;}@a.s=
+agree a.c a.s 1000@0@agree 2$@4*cannot read a.c|3*cannot read a.s@a.c=void main(void){PORTB=5;}@a.s=
 gen 1@0@unsigned char s;$unsigned char f0(unsigned char x){return x+0;}$void main(void){unsigned char x;$x=PORTB;$x=f0(x);$PORTC=x;$}$/* gen 1: words 224 ram 14 depth 1 */$@
 gen 2@0@unsigned char s;$unsigned char f0(unsigned char x){return x+0;}$unsigned char f1(unsigned char x){return x+1;}$void main(void){unsigned char x;$x=PORTB;$x=f0(x);$x=f1(x);$PORTC=x;$}$/* gen 2: words 316 ram 14 depth 1 */$@
 ";
@@ -31,9 +32,9 @@ gen 2@0@unsigned char s;$unsigned char f0(unsigned char x){return x+0;}$unsigned
 enum Outcome {
     /// It is as if nothing failed: there is no call of that number.
     Whole,
-    /// The report of a file is printed.
+    /// The line that reports the file of the call is printed, and nothing else.
     Reported,
-    /// A front of what is wanted is printed.
+    /// The call is none on a file, and a front of what is wanted is printed.
     Front,
     Wrong,
 }
@@ -55,32 +56,18 @@ fn is_line(printed: &[u8], text: &str) -> bool {
     }
 }
 
-fn is_report(printed: &[u8], reports: &str) -> bool {
-    for text in reports.split('|') {
-        if is_line(printed, text) {
-            return true;
+// The line that reports the file of the call of this number, and nothing where that is no call on a file.
+fn report_of(reports: &str, call: u64) -> &str {
+    let mut calls: u64 = 0;
+    for report in reports.split('|') {
+        if let Some((count, text)) = report.split_once('*') {
+            calls = calls.saturating_add(count.parse::<u64>().unwrap_or(0));
+            if call < calls {
+                return text;
+            }
         }
     }
-    false
-}
-
-fn has_line(told: &[u8], text: &str) -> bool {
-    for line in told.split(|c| *c == b'\n') {
-        if line == text.as_bytes() {
-            return true;
-        }
-    }
-    false
-}
-
-// Whether each report is one of these lines.
-fn are_told(told: &[u8], reports: &str) -> bool {
-    for text in reports.split('|') {
-        if !has_line(told, text) {
-            return false;
-        }
-    }
-    true
+    ""
 }
 
 // Whether the host has no file of this name, or the front of the other's.
@@ -104,20 +91,14 @@ fn host_at(
     Ok((host, status))
 }
 
-// What is shown by a status and what was printed.
-fn shown(printed: &[u8], status: u8, case: Case<'_>, whole: &[u8], reports: &str) -> Outcome {
-    if status == case.status {
-        if printed == whole {
-            Outcome::Whole
-        } else {
-            Outcome::Wrong
-        }
-    } else if status != 3 {
-        Outcome::Wrong
-    } else if is_report(printed, reports) {
-        Outcome::Reported
-    } else if whole.starts_with(printed) {
+// What is shown by a status and what was printed, where the call that fails is to be reported so.
+fn shown(printed: &[u8], status: u8, case: Case<'_>, whole: &[u8], report: &str) -> Outcome {
+    if status == case.status && report.is_empty() && printed == whole {
+        Outcome::Whole
+    } else if status == 3 && report.is_empty() && whole.starts_with(printed) {
         Outcome::Front
+    } else if status == 3 && !report.is_empty() && is_line(printed, report) {
+        Outcome::Reported
     } else {
         Outcome::Wrong
     }
@@ -130,43 +111,37 @@ fn shown_by(
     status: u8,
     case: Case<'_>,
     whole: &MemoryHost,
-    reports: &str,
+    report: &str,
 ) -> Result<Outcome, AllocError> {
     let are_fronts = is_front(host, whole, "a.hex") && is_front(host, whole, "a.map");
     if are_fronts && has_files(alloc, host, case.files)? {
         let printed = host.printed.as_slice();
-        Ok(shown(printed, status, case, &whole.printed, reports))
+        Ok(shown(printed, status, case, &whole.printed, report))
     } else {
         Ok(Outcome::Wrong)
     }
 }
 
-// The same of a run of which this call fails. What a report prints is added to what was told.
+// The same of a run of which this call fails.
 fn shown_at(
     alloc: Global,
     case: Case<'_>,
     call: u64,
     whole: &MemoryHost,
     reports: &str,
-    told: &mut Vec<u8>,
 ) -> Result<Outcome, AllocError> {
     let (host, status) = host_at(alloc, case.commands, case.files, Fail::Call(call))?;
-    let shown = shown_by(alloc, &host, status, case, whole, reports)?;
-    if let Outcome::Reported = shown {
-        told.extend_from_slice(&host.printed)?;
-    }
-    Ok(shown)
+    shown_by(alloc, &host, status, case, whole, report_of(reports, call))
 }
 
-// Each call fails in turn, up to a run in which none does. The files that are there stay, others are fronts, and nothing is printed
-// but a front of what is wanted, or one of the reports. Each of these comes.
+// Each call fails in turn, up to a run in which none does. The files that are there stay, others are fronts, and the report of the file
+// is printed, or, behind all calls on files, a front of what is wanted.
 fn faults_within(
     alloc: Global,
     case: Case<'_>,
     whole: &MemoryHost,
     reports: &str,
 ) -> Result<Faults, AllocError> {
-    let mut told = Vec::new(alloc);
     let mut faults = Faults {
         is_right: false,
         calls: 0,
@@ -174,11 +149,11 @@ fn faults_within(
     };
     for calls in 0..200u64 {
         faults.calls = calls;
-        match shown_at(alloc, case, calls, whole, reports, &mut told)? {
+        match shown_at(alloc, case, calls, whole, reports)? {
             Outcome::Reported => {}
             Outcome::Front => faults.fronts = faults.fronts.saturating_add(1),
             Outcome::Whole => {
-                faults.is_right = are_told(&told, reports);
+                faults.is_right = true;
                 return Ok(faults);
             }
             Outcome::Wrong => return Ok(faults),
@@ -207,13 +182,13 @@ fn faults_of(alloc: Global, line: &str) -> Result<Faults, AllocError> {
 }
 
 #[test]
-fn each_fault_ends_each_command(rt: HostRuntime) -> Result<(), Failure> {
+fn each_fault_is_told_by_the_line_of_its_file(rt: HostRuntime) -> Result<(), Failure> {
     let alloc = rt.alloc();
     let building = faults_of(alloc, BUILDING)?;
     // the printing of both lines fails, one by one
     let dividing = faults_of(alloc, DIVIDING)?;
-    let are_two = dividing.calls > 8 && dividing.fronts == 2;
-    assert!(rt; building.is_right && building.calls > 5 && dividing.is_right && are_two);
+    let are_two = dividing.is_right && dividing.calls == 10 && dividing.fronts == 2;
+    assert!(rt; building.is_right && building.calls == 10 && are_two);
     let mut count: u32 = 0;
     for line in OTHERS.lines() {
         let faults = faults_of(alloc, line)?;
@@ -233,7 +208,7 @@ fn is_hex_alone(alloc: Global, file: Fail) -> Result<bool, AllocError> {
 }
 
 #[test]
-fn a_map_that_cannot_be_created(rt: HostRuntime) -> Result<(), Failure> {
+fn a_map_that_cannot_be_created_leaves_the_hex(rt: HostRuntime) -> Result<(), Failure> {
     let name = String::from_str(rt.alloc(), "a.map")?;
     assert!(rt; is_hex_alone(rt.alloc(), Fail::Create(name))?);
     Ok(())
