@@ -1,6 +1,7 @@
 //! Each kind of statement, and calls.
 
 use crate::comparing::agrees_twice;
+use std::alloc::Global;
 use std::test::Fail;
 
 /// Programs, a line each.
@@ -41,14 +42,23 @@ int x;int f(void){x++;return x;}void main(void){int*p=&x;*p=3,*p+=2;x?f():x--;(v
 int x;void main(void){for(x=-2;x<7;x++)switch(x){PORTA=9;case 4:case 2:PORTB=1;if(x==4)continue;default:PORTB=2;break;case 0:PORTC=x;case 5:}}
 ";
 
-// The input of each of them.
+// The input of each of them. They run without any, too.
 const INPUT: [u8; 5] = [0x01, 0x5A, 0xFF, 0x00, 0x80];
 
+/// How many instructions of each run.
+const INSTRUCTIONS: u32 = 200_000;
+
+// Whether a text agrees with its source, with the input and without.
+fn agrees_with_and_without(alloc: Global, text: &str) -> Result<bool, Fail> {
+    let agrees_with = agrees_twice(alloc, text, &INPUT, INSTRUCTIONS)?;
+    Ok(agrees_with && agrees_twice(alloc, text, &[], INSTRUCTIONS)?)
+}
+
 #[test]
-fn of_each_kind(rt: HostRuntime) -> Result<(), Fail> {
+fn statements_of_each_kind_run_as_their_source(rt: HostRuntime) -> Result<(), Fail> {
     let mut count: u32 = 0;
     for text in TEXTS.lines() {
-        assert!(rt; agrees_twice(rt.alloc(), text, &INPUT, 20_000)?, "{text}");
+        assert!(rt; agrees_with_and_without(rt.alloc(), text)?, "{text}");
         count = count.saturating_add(1);
     }
     assert!(rt; count == 34);
