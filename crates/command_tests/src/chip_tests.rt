@@ -38,7 +38,7 @@ const BESIDE: &str =
     "@a.map=picc map 1$main 0005$halt 0008$frame main main 0020 3$end$@a.s=@a.c=void main(void){PORTB=5;}";
 
 #[test]
-fn runs_of_the_chip(rt: HostRuntime) -> Result<(), Fail> {
+fn runs_print_events_or_where_a_file_is_wrong(rt: HostRuntime) -> Result<(), Fail> {
     Ok(check_all(&rt, rt.alloc(), RUNS, BESIDE, 15)?)
 }
 
@@ -93,7 +93,7 @@ sim a.hex a.map a.s 3@5@a.s:2: bad line$@a.hex=:020000040000FA$:020000000528D1$:
 const TEXT: &str = "@a.c=void main(void){PORTB=5;}";
 
 #[test]
-fn hostile_files(rt: HostRuntime) -> Result<(), Fail> {
+fn hostile_files_are_read_or_told_at_their_line(rt: HostRuntime) -> Result<(), Fail> {
     Ok(check_all(&rt, rt.alloc(), HOSTILE, TEXT, 14)?)
 }
 
@@ -137,7 +137,7 @@ fn silent_run(alloc: Global, command: &str) -> Result<(u8, bool), AllocError> {
 }
 
 #[test]
-fn a_board_that_refuses(rt: HostRuntime) -> Result<(), Fail> {
+fn a_board_that_refuses_ends_a_run_without_a_line(rt: HostRuntime) -> Result<(), Fail> {
     let (status, is_silent) = silent_run(rt.alloc(), "sim a.hex a.map a.s 1000")?;
     assert!(rt; status == 9 && is_silent, "a run");
     let (status, is_silent) = silent_run(rt.alloc(), "sim a.hex a.map a.s 0")?;

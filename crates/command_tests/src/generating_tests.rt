@@ -30,7 +30,7 @@ fn is_text(alloc: Global, functions: u32, text: &str) -> Result<bool, AllocError
 }
 
 #[test]
-fn programs_of_one_and_two_functions(rt: HostRuntime) -> Result<(), Fail> {
+fn generated_programs_of_one_and_two_functions_are_as_written(rt: HostRuntime) -> Result<(), Fail> {
     assert!(rt; is_text(rt.alloc(), 1, ONE)?, "one");
     assert!(rt; is_text(rt.alloc(), 2, TWO)?, "two");
     Ok(())

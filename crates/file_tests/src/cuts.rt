@@ -266,7 +266,7 @@ fn ticks(alloc: Global) -> Result<String, AllocError> {
 }
 
 #[test]
-fn files_are_cut_anywhere(rt: HostRuntime) -> Result<(), Fail> {
+fn files_cut_anywhere_are_read_or_told_at_their_line(rt: HostRuntime) -> Result<(), Fail> {
     let alloc = rt.alloc();
     let script = ticks(alloc)?;
     for (kind, text) in [

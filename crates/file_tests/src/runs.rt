@@ -203,7 +203,7 @@ fn a_due_interrupt_is_taken_before_a_stop(rt: HostRuntime) -> Result<(), Fail> {
 
 // All bits of a mask are set at each instruction. The interrupt comes before the third one, whose read is call 3.
 #[test]
-fn any_answers_will_do(rt: HostRuntime) -> Result<(), Fail> {
+fn runs_go_on_by_whatever_a_board_answers(rt: HostRuntime) -> Result<(), Fail> {
     let alloc = rt.alloc();
     let refused = handled(alloc, stubborn(alloc, LOUD, 3)?)?;
     assert!(rt; refused.as_str() == "NoMemory 2 2 0 0 1", "{refused}");

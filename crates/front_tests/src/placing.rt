@@ -35,7 +35,7 @@ over 9 => void f8(void){int a=1;int b=1;PORTB=a/b;}void f7(void){f8();}void f6(v
 8 => void f7(void){int a=1;int b=1;PORTB=a/b;}void f6(void){f7();}void f5(void){f6();}void f4(void){f5();}void f3(void){f4();}void f2(void){f3();}void f1(void){f2();}void main(void){f1();}"#;
 
 #[test]
-fn depths(rt: HostRuntime) -> Result<(), Fail> {
+fn depths_are_those_of_the_longest_chains(rt: HostRuntime) -> Result<(), Fail> {
     assert_eq!(rt; checked(&rt, rt.alloc(), Question::Depth, DEPTHS)?, 6);
     Ok(())
 }
@@ -132,7 +132,7 @@ const ROWS: &str =
 3 16 => void g(void){unsigned char x[3]="ab";}"#;
 
 #[test]
-fn each_row(rt: HostRuntime) -> Result<(), Fail> {
+fn each_row_of_the_sizes_is_as_stated(rt: HostRuntime) -> Result<(), Fail> {
     assert_eq!(rt; checked(&rt, rt.alloc(), Question::Row, ROWS)?, 65);
     Ok(())
 }
@@ -146,7 +146,7 @@ Code { words: 6266 } => void f(void){`146*PORTB=5;`}void g(void){`146*PORTB=5;`}
 Page { block: 1, words: 2062 } => void f(void){`147*PORTB=5;`}void main(void){f();}"#;
 
 #[test]
-fn blocks_in_pages(rt: HostRuntime) -> Result<(), Fail> {
+fn blocks_fill_pages_in_order(rt: HostRuntime) -> Result<(), Fail> {
     assert_eq!(rt; checked(&rt, rt.alloc(), Question::Pages, PAGES)?, 3);
     Ok(())
 }
@@ -171,7 +171,7 @@ const KNOWN: &str = r#"// The start block has 104 words, each of the two functio
 [0, 104, 166, 228] 316 14 1 3 => unsigned char s;$`2*unsigned char f@(unsigned char x){return x+@;}$`void main(void){unsigned char x;$x=PORTB;$`2*x=f@(x);$`PORTC=x;$}$"#;
 
 #[test]
-fn all_that_is_known_of_a_program(rt: HostRuntime) -> Result<(), Fail> {
+fn a_program_has_its_addresses_sizes_and_depth(rt: HostRuntime) -> Result<(), Fail> {
     assert_eq!(rt; checked(&rt, rt.alloc(), Question::Known, KNOWN)?, 1);
     Ok(())
 }

@@ -244,7 +244,9 @@ fn runs_as_its_source(alloc: Global, text: &str, flag: Flag, least: usize) -> Re
 }
 
 #[test]
-fn for_a_hundred_thousand_instructions(rt: HostRuntime) -> Result<(), Fail> {
+fn firmware_runs_as_its_source_for_a_hundred_thousand_instructions(
+    rt: HostRuntime,
+) -> Result<(), Fail> {
     let alloc = rt.alloc();
     assert!(rt;
         runs_as_its_source(alloc, PUMP, Flag::Tmr0if, 1_000)?,

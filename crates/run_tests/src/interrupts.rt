@@ -110,7 +110,7 @@ const MOMENTS: [(&str, u32, u32); 5] = [
 ];
 
 #[test]
-fn before_each_instruction(rt: HostRuntime) -> Result<(), Fail> {
+fn an_arrival_before_each_instruction_runs_as_the_source(rt: HostRuntime) -> Result<(), Fail> {
     for (text, tried, instructions) in MOMENTS {
         check_moments(&rt, rt.alloc(), text, tried, 1, instructions)?;
     }
@@ -118,7 +118,7 @@ fn before_each_instruction(rt: HostRuntime) -> Result<(), Fail> {
 }
 
 #[test]
-fn while_both_roots_work(rt: HostRuntime) -> Result<(), Fail> {
+fn arrivals_while_both_roots_work_run_as_the_source(rt: HostRuntime) -> Result<(), Fail> {
     check_moments(&rt, rt.alloc(), BUSY, 220, 7, 8_000)
 }
 
@@ -147,7 +147,7 @@ fn under_ticks(
 }
 
 #[test]
-fn from_time_to_time(rt: HostRuntime) -> Result<(), Fail> {
+fn flags_from_time_to_time_call_the_handler_each_time(rt: HostRuntime) -> Result<(), Fail> {
     let alloc = rt.alloc();
     // the write that enables the interrupt, and forty runs of the handler with three accesses each
     assert!(rt; under_ticks(alloc, IDLE, Flag::Intf, 450, 121)?);

@@ -58,21 +58,21 @@ fn check_operators(
 }
 
 #[test]
-fn of_two_operands(rt: HostRuntime) -> Result<(), Fail> {
+fn operators_of_two_operands_run_as_their_source(rt: HostRuntime) -> Result<(), Fail> {
     // eight types, and thirteen operators on eight pairs
     assert!(rt; check_operators(&rt, rt.alloc(), OPERATORS, PAIRS)? == 832);
     Ok(())
 }
 
 #[test]
-fn quotients(rt: HostRuntime) -> Result<(), Fail> {
+fn quotients_run_as_their_source(rt: HostRuntime) -> Result<(), Fail> {
     // two operators on twelve pairs
     assert!(rt; check_operators(&rt, rt.alloc(), "/ %", DIVIDED)? == 192);
     Ok(())
 }
 
 #[test]
-fn shifts_by_a_variable(rt: HostRuntime) -> Result<(), Fail> {
+fn shifts_by_a_variable_run_as_their_source(rt: HostRuntime) -> Result<(), Fail> {
     // two operators on eight pairs
     assert!(rt; check_operators(&rt, rt.alloc(), "<< >>", SHIFTED)? == 128);
     Ok(())
@@ -102,7 +102,7 @@ fn check_shifts(rt: &impl Abort, alloc: Global, types: &str, counts: u32) -> Res
 }
 
 #[test]
-fn shifts_by_a_constant(rt: HostRuntime) -> Result<(), Fail> {
+fn shifts_by_a_constant_run_as_their_source(rt: HostRuntime) -> Result<(), Fail> {
     let alloc = rt.alloc();
     let narrow = "int|unsigned int|unsigned char|signed char";
     assert!(rt; check_shifts(&rt, alloc, narrow, 16)? == 128);
@@ -130,7 +130,7 @@ fn check_singles(rt: &impl Abort, alloc: Global, ty: &str) -> Result<u32, Fail> 
 }
 
 #[test]
-fn of_one_operand(rt: HostRuntime) -> Result<(), Fail> {
+fn operators_of_one_operand_run_as_their_source(rt: HostRuntime) -> Result<(), Fail> {
     let mut count: u32 = 0;
     for ty in TYPES.split('|') {
         count = count.saturating_add(check_singles(&rt, rt.alloc(), ty)?);
@@ -157,7 +157,7 @@ fn check_updates(rt: &impl Abort, alloc: Global, left: &str, right: &str) -> Res
 
 // Each compound assignment, of each type to each other.
 #[test]
-fn compound_assignments(rt: HostRuntime) -> Result<(), Fail> {
+fn compound_assignments_run_as_their_source(rt: HostRuntime) -> Result<(), Fail> {
     let mut count: u32 = 0;
     for left in TYPES.split('|') {
         for right in TYPES.split('|') {

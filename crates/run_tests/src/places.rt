@@ -52,7 +52,7 @@ fn check_bodies(rt: &impl Abort, alloc: Global, fill: &str) -> Result<u32, Fail>
 }
 
 #[test]
-fn in_each_bank(rt: HostRuntime) -> Result<(), Fail> {
+fn places_in_each_bank_run_as_their_source(rt: HostRuntime) -> Result<(), Fail> {
     let mut count: u32 = 0;
     for fill in FILLS.split('|') {
         count = count.saturating_add(check_bodies(&rt, rt.alloc(), fill)?);
