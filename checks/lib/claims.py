@@ -25,7 +25,7 @@ SERVES = {
     'c_tree::spell': 'c_tree::word c_token::Keyword c_token::Punct',
     'call_graph::copies': 'call_depth call_graph::graph call_graph::reach',
     'code_place::assemble': 'code_place::address_of code_place::real_words',
-    'bank_page::selects': 'bank_page::kinds bank_page::known bank_page::put_made',
+    'bank_page::selects_plain': 'bank_page::kinds bank_page::known bank_page::put_made',
     'headline_trace::lean_blocks_follow': 'lean_code lean_pass::ByteSet bank_trace::lean_prices bank_trace::select_prices',
     'headline_trace::translations_are_linked': 'program_code program_laws headline_trace::selects_are_had headline_trace::bodies_are_had '
     'headline_trace::start_is_had headline_trace::layout_is_had headline_trace::lean_is_had headline_trace::calls_are_had '

@@ -3,3 +3,4 @@ pub mod Fronts
 pub mod Programs
 pub mod Sizes
 pub mod Steps
+pub mod Renewed

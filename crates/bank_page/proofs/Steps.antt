@@ -190,7 +190,7 @@ bit_same (Some false) true is = absurd (true_false (sym is))
 bit_same (Some true) false is = absurd (true_false (sym is))
 bit_same (Some false) false is = refl
 
-block_same : (a b : BlockName) → same_name a b ≡ true → a ≡ b
+pub block_same : (a b : BlockName) → same_name a b ≡ true → a ≡ b
 block_same names.Start names.Start is = refl
 block_same names.Start (names.Copy b) is = absurd (true_false (sym is))
 block_same (names.Copy a) names.Start is = absurd (true_false (sym is))

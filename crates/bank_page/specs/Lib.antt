@@ -5,3 +5,4 @@ pub mod Selected
 pub mod Step
 pub mod Links
 pub mod Ready
+pub mod Needless

@@ -157,13 +157,17 @@ pub fn put_made(blocks: &mut Vec<SymBlock>, block: SymBlock) -> Result<(), Alloc
 
 /// The program with the selects that it needs: before each access to a byte that isn't in every bank, RP1 and RP0 name its
 /// bank, and before each jump and call, bits 4 and 3 of PCLATH name the page of its target. Each select sets one bit, and none
-/// sets what is known to be so in straight-line code.
+/// sets what is known to be so in straight-line code. Over labels and calls nothing is known here.
 /// Between a skip and the instruction after it stands no select: what both need is selected before the skip.
 ///
 /// There is no such place for them where a skip and what stands after it need two banks, where a label or nothing stands after a
 /// skip, where a skip itself changes what is selected, and where something that is named has no address. No given block has any
 /// of these, so the answer is out of memory only where memory ran out.
-pub fn selects(alloc: Global, s: &SymProgram, placed: &Placed) -> Result<SymProgram, AllocError>
+pub fn selects_plain(
+    alloc: Global,
+    s: &SymProgram,
+    placed: &Placed,
+) -> Result<SymProgram, AllocError>
     // Selects can be put into each block.
     requires ready { All (CanSelect placed.now) s.now.blocks.items }
     // The blocks keep their names,

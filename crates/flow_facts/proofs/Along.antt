@@ -1,5 +1,5 @@
 -- Along a block: by flow facts no less is known than by straight code, and what is needed is found.
-use Rattle.std.proofs.Common.{◌≡◌, Bool, true, false, not, ◌&&◌, if◌then◌else◌, List, [], ◌∷◌, Some, None, refl, sym, ◌∙◌, subst}
+use Rattle.std.proofs.Common.{◌≡◌, Bool, true, false, not, ◌&&◌, if◌then◌else◌, List, [], ◌∷◌, Some, None, refl, sym, ap, ◌∙◌, subst}
 use Rattle.pic_map.specs.declared.Placed.{Placed}
 use Rattle.sym_code.specs.Programs.{block_of}
 use Rattle.sym_code.specs.Selects.{is_select}
@@ -8,15 +8,16 @@ use Rattle.sym_code.specs.declared.code.BlockName.{BlockName}
 use Rattle.sym_code.specs.declared.code.Sym.{Sym}
 use Rattle.sym_code.specs.declared.code.Sym.TheVariants as syms
 use Rattle.bank_page.specs.Kinds.{is_label, is_skip}
-use Rattle.bank_page.specs.Known.{nothing, after, ends, left, learned, seen_after, writes_status, writes_pclath}
+use Rattle.bank_page.specs.Known.{nothing, after, ends, left, learned, knows, seen_after, writes_status, writes_pclath}
 use Rattle.bank_page.specs.Selected as plain
 use Rattle.bank_page.specs.Selected.{seen, all_pass}
 use Rattle.bank_page.specs.declared.known.Known.{Known}
 use Rattle.bank_page.specs.declared.selecting.State.{State}
 use Rattle.flow_facts.specs.Facts.{Fact, Facts, gives, gives_known, at_label}
 use Rattle.flow_facts.specs.Walk.{mated, is_right, called, fact_after, behind_after, holds_of, all_hold}
+use Rattle.flow_facts.specs.Laws.{is_lean}
 use Rattle.flow_facts.specs.Thin.{is_known, thin_from}
-use Rattle.flow_facts.proofs.More.{never, and_first, and_last, and_both, Gives, by_mates, given_parts, given_whole, left_more, learned_more, knows_more, right_more}
+use Rattle.flow_facts.proofs.More.{never, and_first, and_last, and_both, Gives, by_mates, given_parts, given_whole, left_more, learned_more, knows_more, knows_mated, right_more}
 use Rattle.flow_facts.proofs.Plain.{gives_nothing}
 
 -- ---- what a known select is
@@ -72,6 +73,34 @@ module _ (f : Facts) (own : BlockName) where
   pub known_more : (fact : Fact) (k : Known) (s : Sym) → is_known f own fact s ≡ true → gives fact (Some (by_mates f k)) ≡ true → gives fact (Some (by_mates f (learned own k s))) ≡ true
   known_more None k s e g = refl
   known_more (Some a) k s e g = given_whole a (by_mates f (learned own k s)) (knows_more f a k (given_parts a (by_mates f k) g) own s e)
+
+  -- ---- no less is left out
+  knows_select : (k : Known) (s : Sym) → knows own k s ≡ true → is_select s ≡ true
+  knows_select k (syms.SelectBank Rp0 on) e = refl
+  knows_select k (syms.SelectBank Rp1 on) e = refl
+  knows_select k (syms.SelectPage bit target) e = refl
+  knows_select k s e = never e
+
+  is_known_more : (fact : Fact) (k : Known) (s : Sym) → gives fact (Some (by_mates f k)) ≡ true → knows own k s ≡ true → is_known f own fact s ≡ true
+  is_known_more None k s g e = knows_select k s e
+  is_known_more (Some a) k s g e = knows_mated f a k (given_parts a (by_mates f k) g) own s e
+
+  lean_more : (fact : Fact) (k : Known) (s : Sym) → gives fact (Some (by_mates f k)) ≡ true → not (is_known f own fact s) ≡ true → plain.is_lean own k s ≡ true
+  lean_more fact k s g e = by (knows own k s) refl
+    where
+      by : (c : Bool) → knows own k s ≡ c → not c ≡ true
+      by true is = sym (ap not (is_known_more fact k s g is)) ∙ e
+      by false is = refl
+
+  -- where no select sets what flow facts tell, none sets what straight code does
+  pub lean_plainly : (fact : Fact) (behind : Bool) (k : Known) (b : Bool) (list : List Sym) → (b ≡ true → behind ≡ true) → gives fact (Some (by_mates f k)) ≡ true → is_lean f own fact behind list ≡ true
+      → all_pass (plain.is_lean own) own (record { known = k; behind = b }) list ≡ true
+  lean_plainly fact behind k b [] r g e = refl
+  lean_plainly fact behind k b (s ∷ list) r g e =
+      let rest : Bool = is_lean f own (fact_after f own fact behind s) (behind_after behind s) list in
+      and_both (plain.is_lean own k s) (all_pass (plain.is_lean own) own (record { known = seen_after own k s b; behind = is_skip s }) list)
+      (lean_more fact k s g (and_first (not (is_known f own fact s)) rest e))
+      (lean_plainly (fact_after f own fact behind s) (behind_after behind s) (seen_after own k s b) (is_skip s) list (skip_behind behind s) (fact_more fact k behind b s r g) (and_last (not (is_known f own fact s)) rest e))
 
   module _ (placed : Placed) where
     abbrev Right : Known → Sym → Bool

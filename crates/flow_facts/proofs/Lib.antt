@@ -5,3 +5,4 @@ pub mod More
 pub mod Along
 pub mod Lists
 pub mod Kept
+pub mod Whole

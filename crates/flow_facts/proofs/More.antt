@@ -140,6 +140,16 @@ module _ (f : Facts) (a b : Known) (g : Gives a (by_mates f b)) where
   knows_more own (syms.SelectPage High target) e = record { rp0 = g.rp0; rp1 = g.rp1; low = g.low; high = e }
   knows_more own s e = g
 
+  -- what straight code knows that a select sets
+  pub knows_mated : (own : BlockName) (s : Sym) → knows own b s ≡ true → knows own a (mated f own s) ≡ true
+  knows_mated own (syms.SelectBank Rp0 on) e = bit_more a.rp0 b.rp0 on g.rp0 e
+  knows_mated own (syms.SelectBank Rp1 on) e = bit_more a.rp1 b.rp1 on g.rp1 e
+  knows_mated own (syms.SelectPage Low target) e =
+      page_more a.low (option_map (f.mate Low) b.low) (f.mate Low (block_of own target)) g.low (page_mate (f.mate Low) b.low (block_of own target) e)
+  knows_mated own (syms.SelectPage High target) e =
+      page_more a.high (option_map (f.mate High) b.high) (f.mate High (block_of own target)) g.high (page_mate (f.mate High) b.high (block_of own target) e)
+  knows_mated own s e = never e
+
   -- ---- what is found
   bank_more : (n : Option ℕ) → has_bank b n ≡ true → has_bank a n ≡ true
   bank_more None e = e

@@ -18,8 +18,7 @@ use Rattle.sym_code.specs.declared.code.SymBlock.{SymBlock}
 use Rattle.flow_facts.specs.Facts.{Facts, AreMates}
 use Rattle.flow_facts.specs.Mates.{same_bit, all_stand}
 use Rattle.flow_facts.specs.Stored.{mate_or, facts_of}
-use Rattle.flow_facts.specs.Thin.{IsThin, IsThinned}
-use Rattle.flow_facts.specs.Walk.{is_consistent}
+use Rattle.flow_facts.specs.Thin.{IsThin}
 use Rattle.flow_facts.specs.declared.facts.FlowFacts.{FlowFacts}
 use Rattle.flow_facts.proofs.More.{and_first, and_last}
 
@@ -62,11 +61,6 @@ pub none_mates : (f : FlowFacts) → f.low.items ≡ [] → f.high.items ≡ [] 
 none_mates f low high pages bit names.Start = refl
 none_mates f low high pages Low (names.Copy copy) = ap (λ (l : List BlockName). page_bit Low (pages (mate_or (slice_get l copy) (names.Copy copy)))) low
 none_mates f low high pages High (names.Copy copy) = ap (λ (l : List BlockName). page_bit High (pages (mate_or (slice_get l copy) (names.Copy copy)))) high
-
--- so what is left of blocks by such facts is, wherever these stand
-pub thin_anywhere : (f : FlowFacts) (handler : Option ℕ) (given made : List SymBlock) → is_consistent (facts_of f) handler given ≡ true → ((pages : BlockName → ℕ) → AreMates pages (facts_of f).mate) → AllZip (IsThin (facts_of f)) given made
-    → (at : List ℕ) → IsThinned handler at given made
-thin_anywhere f handler given made consistent mates each at = record { facts = facts_of f; mates = mates (page_of given at); consistent = consistent; each = each }
 
 -- ---- what is left of blocks stands where they stood
 place_thin : (f : Facts) (given made : List SymBlock) (at : List ℕ) → AllZip (IsThin f) given made → (name : BlockName) → block_place made at name ≡ block_place given at name

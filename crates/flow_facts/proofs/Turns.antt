@@ -10,7 +10,7 @@ use Rattle.sym_code.specs.declared.code.SymBlock.{SymBlock}
 use Rattle.bank_page.specs.declared.known.Known.{Known}
 use Rattle.flow_facts.specs.Facts.{Fact, Facts}
 use Rattle.flow_facts.specs.Walk.{fact_after, behind_after, holds_of, all_hold, holds_in, leads, all_lead}
-use Rattle.flow_facts.specs.Thin.{is_known, thin_from, IsThin}
+use Rattle.flow_facts.specs.Thin.{is_known, thin_from, IsWithoutKnown}
 use Rattle.flow_facts.proofs.More.{and_first, and_last}
 
 -- ---- tests
@@ -77,19 +77,19 @@ pub whole_end : (old whole left : List Sym) → left ≡ [] → old ++ left ≡ 
 whole_end old whole left is before = sym (append-nil old) ∙ ap (λ (l : List Sym). old ++ l) (sym is) ∙ before
 
 -- ---- blocks
-pub zip_none : (f : Facts) (list made : List SymBlock) → made ≡ [] → AllZip (IsThin f) (take 0 list) made
+pub zip_none : (f : Facts) (list made : List SymBlock) → made ≡ [] → AllZip (IsWithoutKnown f) (take 0 list) made
 zip_none f list made none =
-    let P : List SymBlock → Type 0 = λ m. AllZip (IsThin f) (take 0 list) m in
+    let P : List SymBlock → Type 0 = λ m. AllZip (IsWithoutKnown f) (take 0 list) m in
     subst P (sym none) tt
 
-pub zip_more : (f : Facts) (list made new : List SymBlock) (i : ℕ) (block x : SymBlock) → i < length list → block ≡ get_or list i block → new ≡ made ++ x ∷ [] → IsThin f block x → AllZip (IsThin f) (take i list) made → AllZip (IsThin f) (take (i + 1) list) new
+pub zip_more : (f : Facts) (list made new : List SymBlock) (i : ℕ) (block x : SymBlock) → i < length list → block ≡ get_or list i block → new ≡ made ++ x ∷ [] → IsWithoutKnown f block x → AllZip (IsWithoutKnown f) (take i list) made → AllZip (IsWithoutKnown f) (take (i + 1) list) new
 zip_more f list made new i block x below is put one before =
     let next : take (i + 1) list ≡ take i list ++ block ∷ [] = take_more list i block below ∙ ap (λ (b : SymBlock). take i list ++ b ∷ []) (sym is) in
-    let P : List SymBlock → Type 0 = λ l. AllZip (IsThin f) l new in
-    let Q : List SymBlock → Type 0 = λ l. AllZip (IsThin f) (take i list ++ block ∷ []) l in
-    subst P (sym next) (subst Q (sym put) (AllZip-push (IsThin f) (take i list) made block x before one))
+    let P : List SymBlock → Type 0 = λ l. AllZip (IsWithoutKnown f) l new in
+    let Q : List SymBlock → Type 0 = λ l. AllZip (IsWithoutKnown f) (take i list ++ block ∷ []) l in
+    subst P (sym next) (subst Q (sym put) (AllZip-push (IsWithoutKnown f) (take i list) made block x before one))
 
-pub zip_all : (f : Facts) (list made : List SymBlock) (i : ℕ) → length list ≤ i → AllZip (IsThin f) (take i list) made → AllZip (IsThin f) list made
+pub zip_all : (f : Facts) (list made : List SymBlock) (i : ℕ) → length list ≤ i → AllZip (IsWithoutKnown f) (take i list) made → AllZip (IsWithoutKnown f) list made
 zip_all f list made i past all =
-    let P : List SymBlock → Type 0 = λ l. AllZip (IsThin f) l made in
+    let P : List SymBlock → Type 0 = λ l. AllZip (IsWithoutKnown f) l made in
     subst P (take_all i list past) all

@@ -38,7 +38,6 @@ pub record Keeps (placed : Placed) (handler : Option ℕ) (at : List ℕ) (given
   pub shorter : AllZip IsShorter given made
   -- no instruction costs more with the selects before it
   pub prices : (name : BlockName) (n : ℕ) → price_in (block_in made) name n ≤ price_in (block_in given) name n
-  pub lean : All (IsLean facts) made
   pub apart : All IsApart made
   pub mates : AreMates (page_of made at) facts.mate
   pub consistent : is_consistent facts handler made ≡ true

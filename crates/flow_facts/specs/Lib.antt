@@ -5,3 +5,4 @@ pub mod Mates
 pub mod Thin
 pub mod Laws
 pub mod Links
+pub mod Selects

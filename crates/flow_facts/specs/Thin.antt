@@ -22,13 +22,24 @@ thin_from f own fact behind [] = []
 thin_from f own fact behind (s ∷ list) =
     if is_known f own fact s then thin_from f own fact behind list else s ∷ thin_from f own (fact_after f own fact behind s) (behind_after behind s) list
 
--- The start block stays whole: its vector stands at fixed addresses.
-abbrev pub thin : Facts → SymBlock → List Sym
-thin f block = if same_name block.name Start then block.list.items else thin_from f block.name (f.front block.name) false block.list.items
+-- what is left of a block, where it doesn't stay whole
+abbrev pub thin : Facts → Bool → SymBlock → List Sym
+thin f whole block = if whole then block.list.items else thin_from f block.name (f.front block.name) false block.list.items
 
-pub record IsThin (f : Facts) (given made : SymBlock) : Type 0 where
+-- The start block stays whole: its vector stands at fixed addresses.
+abbrev pub without_known : Facts → SymBlock → List Sym
+without_known f block = thin f (same_name block.name Start) block
+
+pub record IsWithoutKnown (f : Facts) (given made : SymBlock) : Type 0 where
   pub name : made.name ≡ given.name
-  pub code : made.list.items ≡ thin f given
+  pub code : made.list.items ≡ without_known f given
+
+-- A block that stays whole, or is without these selects.
+pub record IsThin (f : Facts) (given made : SymBlock) : Type 0 where
+  pub whole : Bool
+  pub name : made.name ≡ given.name
+  pub code : made.list.items ≡ thin f whole given
+  pub start : same_name given.name Start ≡ true → whole ≡ true
 
 -- Blocks at some addresses, and what is left of them by facts that are consistent.
 pub record IsThinned (handler : Option ℕ) (at : List ℕ) (given made : List SymBlock) : Type 0 where

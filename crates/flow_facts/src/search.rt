@@ -31,9 +31,21 @@ fn unreached(alloc: Global, labels: usize) -> Result<BlockFacts, AllocError> {
     })
 }
 
-// The labels of a block of so many instructions have numbers below twice as many; of others nothing will be known.
+// Of a label with a higher number nothing will be known. Compiled blocks have none: an instruction takes a word, their numbers are below
+// twice as many as a block had when it was selected, and program memory has 8,192 words.
+const LABELS: usize = 65536;
+
+// Room for each label that stands in a block. A block that lost instructions keeps its labels' numbers, so its length tells nothing.
 fn room_for(block: &SymBlock) -> usize {
-    block.list.len().saturating_mul(2)
+    let mut room = 0;
+    for sym in &block.list {
+        if let Sym::Label(Label::Inner(number)) = *sym {
+            if number < LABELS && number >= room {
+                room = number + 1;
+            }
+        }
+    }
+    room
 }
 
 fn put_labels(copies: &mut [BlockFacts], copy: u16, labels: Vec<Option<Known>>) {

@@ -7,6 +7,7 @@ ghost use Rattle.sym_code.specs.declared.code.Sym.{Sym as AnySym};
 ghost use Rattle.sym_code.specs.declared.code.BlockName.{BlockName as Name};
 ghost use Rattle.code_place.specs.Layouts.{page_of};
 ghost use Rattle.flow_facts.specs.Facts.{AreMates};
+ghost use Rattle.flow_facts.specs.Selects.{LosesKnown};
 ghost use Rattle.flow_facts.specs.Stored.{facts_of};
 ghost use Rattle.flow_facts.specs.Thin as stated;
 ghost use Rattle.flow_facts.specs.Walk.{is_consistent as are_consistent};
@@ -89,7 +90,7 @@ fn put_whole(out: &mut SymBlock, list: &[Sym]) -> Result<(), AllocError>
 
 fn thin_block(alloc: Global, facts: &FlowFacts, block: &SymBlock) -> Result<SymBlock, AllocError>
     ensures name { IfOk result (λ made. made.name ≡ block.now.name) }
-    ensures code { IfOk result (λ made. made.list.items ≡ stated.thin (facts_of facts.now) block.now) }
+    ensures code { IfOk result (λ made. made.list.items ≡ stated.without_known (facts_of facts.now) block.now) }
 {
     let mut out = SymBlock::new(alloc, block.name);
     if same_block(block.name, BlockName::Start) {
@@ -106,7 +107,7 @@ fn thin_blocks(
     facts: &FlowFacts,
     blocks: &[SymBlock],
 ) -> Result<Vec<SymBlock>, AllocError>
-    ensures { IfOk result (λ made. AllZip (stated.IsThin (facts_of facts.now)) blocks.now made.items) }
+    ensures { IfOk result (λ made. AllZip (stated.IsWithoutKnown (facts_of facts.now)) blocks.now made.items) }
 {
     let mut made = Vec::new(alloc);
     for block in blocks {
@@ -151,6 +152,7 @@ fn facts_for(
 /// The program without those selects that set what is so already by the facts that were found, or to which by these nothing comes. Main
 /// is copy 0, and the handler the copy with this number; block `k` begins at `at[k]`, by which blocks in one page are known. The start
 /// block stays whole.
+#[tactic(auto, using(crate::proofs::Whole::loses_known))]
 pub fn thinned(
     alloc: Global,
     program: &SymProgram,
@@ -158,26 +160,9 @@ pub fn thinned(
     at: &[u16],
 ) -> Result<SymProgram, AllocError>
     // By facts that are consistent, the selects that set what is known or to which nothing comes are left out, and nothing else is.
-    ensures { IfOk result (λ made. stated.IsThinned handler at.now program.now.blocks.items made.blocks.items) }
+    ensures { IfOk result (λ made. LosesKnown handler at.now program.now.blocks.items made.blocks.items) }
 {
     let facts = facts_for(alloc, handler, &program.blocks, at)?;
-    let blocks = thin_blocks(alloc, &facts, &program.blocks)?;
-    Ok(SymProgram { blocks })
-}
-
-/// The program without those selects to which nothing comes, where nothing is known at labels, at the fronts of blocks and behind calls.
-/// Main is copy 0, and the handler the copy with this number. The start block stays whole.
-#[tactic(auto, using(crate::proofs::Stands::thin_anywhere))]
-pub fn thinned_plainly(
-    alloc: Global,
-    program: &SymProgram,
-    handler: Option<u16>,
-) -> Result<SymProgram, AllocError>
-    // By facts that are consistent, the selects that set what is known or to which nothing comes are left out, and nothing else is,
-    // wherever the blocks stand.
-    ensures { IfOk result (λ made. (at : List ℕ) → stated.IsThinned handler at program.now.blocks.items made.blocks.items) }
-{
-    let facts = none_known(alloc, handler, &program.blocks);
     let blocks = thin_blocks(alloc, &facts, &program.blocks)?;
     Ok(SymProgram { blocks })
 }

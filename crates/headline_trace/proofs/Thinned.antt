@@ -1,5 +1,5 @@
 -- What thinning keeps of the blocks that are made.
-use Rattle.std.proofs.Common.{◌≡◌, ℕ, true, false, if◌then◌else◌, List, [], ◌∷◌, All, Some, slice_get, refl, sym, ap, ◌∙◌, subst, arith}
+use Rattle.std.proofs.Common.{◌≡◌, ℕ, Bool, true, List, [], ◌∷◌, All, Some, slice_get, refl, sym, ap, ◌∙◌, subst, arith}
 use Rattle.std.specs.List.{AllZip}
 use Rattle.c_typed.specs.Trees.{Program}
 use Rattle.call_graph.specs.Numbers.{handler_at}
@@ -16,15 +16,15 @@ use Rattle.sym_code.specs.declared.code.SymBlock.{SymBlock}
 use Rattle.bank_page.specs.Selected.{names_of, bare_lists, is_right, front, all_pass, Reaches}
 use Rattle.flow_facts.specs.Facts.{Facts}
 use Rattle.flow_facts.specs.Laws.{Keeps}
-use Rattle.flow_facts.specs.Thin.{thin_from, thin, IsThin}
+use Rattle.flow_facts.specs.Thin.{thin, IsThin}
 use Rattle.flow_facts.proofs.Kept.{thinning_keeps}
 use Rattle.headline_trace.proofs.Fronts.{IsStartBlock, start_made}
 use Rattle.headline_trace.proofs.Ready.{IsReady, ready}
 use Rattle.headline_trace.proofs.Statics.{some_is}
 
 -- the start block stays whole
-start_list : (f : Facts) (block : SymBlock) → block.name ≡ Start → thin f block ≡ block.list.items
-start_list f block is = ap (λ (n : BlockName). if same_name n Start then block.list.items else thin_from f block.name (f.front block.name) false block.list.items) is
+start_list : (f : Facts) (given made : SymBlock) → IsThin f given made → given.name ≡ Start → made.list.items ≡ given.list.items
+start_list f given made thinned is = thinned.code ∙ ap (λ (c : Bool). thin f c given) (thinned.start (ap (λ (n : BlockName). same_name n Start) is))
 
 start_thin : (placed : Placed) (f : Facts) (code : List Sym) (whole made : List SymBlock) → AllZip (IsThin f) whole made → IsStartBlock placed code whole → IsStartBlock placed code made
 start_thin placed f code [] made z is = let e = is.whole in absurd (cc)
@@ -32,7 +32,7 @@ start_thin placed f code (m ∷ whole) [] z is = absurd z
 start_thin placed f code (m ∷ whole) (b ∷ made) z is =
     let same : m ≡ is.block = some_is m is.block (ap (λ (l : List SymBlock). slice_get l 0) is.whole) in
     let name : m.name ≡ Start = ap (λ (x : SymBlock). x.name) same ∙ is.name in
-    record { block = b; rest = made; whole = refl; name = z.0.name ∙ name; exact = z.0.code ∙ start_list f m name ∙ ap (λ (x : SymBlock). x.list.items) same ∙ is.exact }
+    record { block = b; rest = made; whole = refl; name = z.0.name ∙ name; exact = start_list f m b z.0 name ∙ ap (λ (x : SymBlock). x.list.items) same ∙ is.exact }
 
 first_thin : (placed : Placed) (f : Facts) (whole made : List SymBlock) (m block : SymBlock) → AllZip (IsThin f) whole made → slice_get whole 0 ≡ Some m → m.name ≡ Start → Reaches placed m → slice_get made 0 ≡ Some block → Reaches placed block
 first_thin placed f [] made m block z there name reaches is = absurd (cc)
@@ -40,7 +40,7 @@ first_thin placed f (x ∷ whole) [] m block z there name reaches is = absurd z
 first_thin placed f (x ∷ whole) (b ∷ made) m block z there name reaches is =
     let same : x ≡ m = some_is x m there in
     let own : x.name ≡ Start = ap (λ (y : SymBlock). y.name) same ∙ name in
-    let list : b.list.items ≡ x.list.items = z.0.code ∙ start_list f x own in
+    let list : b.list.items ≡ x.list.items = start_list f x b z.0 own in
     subst (Reaches placed) (some_is b block is)
     (subst (λ (n : BlockName). all_pass (is_right placed n) n front b.list.items ≡ true) (sym z.0.name)
     (subst (λ (l : List Sym). all_pass (is_right placed x.name) x.name front l ≡ true) (sym list) (subst (Reaches placed) (sym same) reaches)))

@@ -7,12 +7,12 @@ ghost use Rattle.isr_save.specs.Start.{HasNumberedBytes};
 use crate::narrow::{is_low, narrowed, tests_byte};
 use crate::operations::{operator, put_operation};
 use crate::reading::{block, cut, instruction, number, small};
-use bank_page::{can_select, selects};
+use bank_page::{can_select, selects_plain};
 use c_ints::IntTy;
 use c_typed::Helper;
 use call_graph::{Copies, FnCopy, FnId};
 use core_code::{Body, Core, CoreProgram, FirstByte};
-use flow_facts::thinned;
+use flow_facts::selects;
 use isr_save::start_block;
 use lean_pass::lean;
 use pic_map::{FrameLine, ObjLine, Placed};
@@ -194,24 +194,26 @@ impl Bench {
         Ok(())
     }
 
-    // The blocks with their selects, or none where selects can't be put into them.
-    fn selects(&mut self, alloc: Global) -> Result<(), AllocError> {
+    // The blocks with the selects that they need by straight code, or none where selects can't be put into them.
+    fn plain(&mut self, alloc: Global) -> Result<(), AllocError> {
         let program = self.taken_blocks(alloc);
         if can_select(&self.placed, &program.blocks) {
-            self.made = selects(alloc, &program, &self.placed)?.blocks;
+            self.made = selects_plain(alloc, &program, &self.placed)?.blocks;
         }
         Ok(())
     }
 
-    // The blocks without the selects that need not be, for a handler, where the blocks stand at addresses.
-    fn thinned(&mut self, alloc: Global, rest: &str) -> Result<(), AllocError> {
+    // The blocks with the selects that they need by flow facts, for a handler, where the blocks stand at addresses.
+    fn selects(&mut self, alloc: Global, rest: &str) -> Result<(), AllocError> {
         let (of, addresses) = cut(rest);
         let mut at = Vec::new(alloc);
         for address in addresses.split(' ') {
             at.push(number(address))?;
         }
         let program = self.taken_blocks(alloc);
-        self.made = thinned(alloc, &program, handler(of), &at)?.blocks;
+        if can_select(&self.placed, &program.blocks) {
+            self.made = selects(alloc, &program, &self.placed, handler(of), &at)?.blocks;
+        }
         Ok(())
     }
 
@@ -260,8 +262,8 @@ impl Bench {
     fn pass(&mut self, alloc: Global, key: &str, rest: &str) -> Result<bool, AllocError> {
         match key {
             "lean" => self.lean(alloc, handler(rest))?,
-            "selects" => self.selects(alloc)?,
-            "thinned" => self.thinned(alloc, rest)?,
+            "plain" => self.plain(alloc)?,
+            "selects" => self.selects(alloc, rest)?,
             "start" => self.start(alloc, handler(rest))?,
             "code" => self.select_byte(alloc)?,
             "select" => self.select(alloc)?,

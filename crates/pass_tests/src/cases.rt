@@ -3,8 +3,8 @@
 //! A case begins with its name. `object` and `frame` say where a static object and a copy's frame stand, with their sizes; `block`
 //! begins a block, and `put` has its instructions; `do` has operations of main's body, each behind those in it. Then comes a pass:
 //! `code` and `select` select instructions for the last operation and for main's body, `narrow` does operators of it on low bytes
-//! alone, `selects` puts the selects of banks and pages into the blocks, `thinned` leaves out those that need not be, for a handler
-//! and blocks at these addresses, `start` makes the start block for a handler, of an object of two bytes, 0 and the low byte of its
+//! alone, `plain` puts the selects of banks and pages into the blocks that they need by straight code, `selects` those that they need by
+//! flow facts, for a handler and blocks at these addresses, `start` makes the start block for a handler, of an object of two bytes, 0 and the low byte of its
 //! own address. What is wanted of what is made: `blocks`, how many; `made`, that there is a block of this number, to which `wants`,
 //! its instructions (`*` is any), and `end` belong; `lengths`, how many instructions each block has; `name`, a block's name. Of
 //! narrowed operations by their places: `low`, that it is an operator on bytes or a loop that ends by one, `high`, that it is not,
@@ -156,7 +156,7 @@ const SELECTS: &str = "\
 case selects of a skipped jump stand before the skip: bit 0 of TRISB, 86h, decides whether TRISB is written
 block copy.0
 put btfss D86h 0; goto L0; movwf D86h; label L0; movwf D86h; return
-selects
+plain
 blocks 1
 made 0
 wants bank rp1 0; bank rp0 1; page high L0; page low L0; btfss D86h 0; goto L0; movwf D86h; label L0; bank rp1 0; bank rp0 1
@@ -166,7 +166,7 @@ case only the bits that change are selected: from TRISB, 86h, to PORTB, 06h, RP0
 frame main 110h 1
 block copy.0
 put movwf D86h; movwf D06h; movwf D06h; bank irp 1; clrf F0.0
-selects
+plain
 blocks 1
 made 0
 wants bank rp1 0; bank rp0 1; movwf D86h; bank rp0 0; movwf D06h; movwf D06h; bank irp 1; bank rp1 1; clrf F0.0
@@ -174,118 +174,139 @@ end
 case a skip and what it skips need one bank: no bank serves bytes of two banks
 block copy.0
 put btfss D86h 0; movwf D06h
-selects
+plain
 blocks 0
 case TRISB in both places
 block copy.0
 put btfss D86h 0; movwf D86h
-selects
+plain
 blocks 1
 case STATUS is in each bank
 block copy.0
 put btfss D86h 0; movwf D03h
-selects
+plain
 blocks 1
 case what can have no selects is told: a skip that nothing stands behind
 block copy.0
 put btfss D86h 0
-selects
+plain
 blocks 0
 case a byte without an address
 block copy.0
 put movwf F0.0
-selects
+plain
 blocks 0
 case a bank is selected once before a loop: main writes TRISB, 86h, and again and again in a loop
 block copy.0
-put bank rp1 0; bank rp0 1; movwf D86h; label L0; bank rp1 0; bank rp0 1; movwf D86h; page high L0; page low L0; goto L0
-thinned none 0
+put movwf D86h; label L0; movwf D86h; goto L0
+selects none 0
 blocks 1
 made 0
 wants bank rp1 0; bank rp0 1; movwf D86h; label L0; movwf D86h; page high L0; page low L0; goto L0
 end
+case a block that lost instructions keeps the numbers of its labels: nothing is known less at a label of a high number
+block copy.0
+put movwf D86h; label L40; movwf D86h; goto L40
+selects none 0
+made 0
+wants bank rp1 0; bank rp0 1; movwf D86h; label L40; movwf D86h; page high L40; page low L40; goto L40
+end
+case to what stands behind a jump and no label nothing comes: by straight code it has its selects
+block copy.0
+put goto halt; movwf D86h
+plain
+made 0
+wants page high halt; page low halt; goto halt; bank rp1 0; bank rp0 1; movwf D86h
+end
+case by flow facts it has none
+block copy.0
+put goto halt; movwf D86h
+selects none 0
+made 0
+wants page high halt; page low halt; goto halt; movwf D86h
+end
 case a call comes back with what it leaves: main writes TRISB, calls copy 1, and writes TRISB again
 block copy.0
-put bank rp1 0; bank rp0 1; movwf D86h; page high copy.1; page low copy.1; call copy.1; bank rp1 0; bank rp0 1; movwf D86h
-put page high halt; page low halt; goto halt
+put movwf D86h; call copy.1; movwf D86h
+put goto halt
 block copy.1
 put return
-thinned none 0 1800h
+selects none 0 1800h
 lengths 10 1
 case a call that selects another bank
 block copy.0
-put bank rp1 0; bank rp0 1; movwf D86h; page high copy.1; page low copy.1; call copy.1; bank rp1 0; bank rp0 1; movwf D86h
-put page high halt; page low halt; goto halt
+put movwf D86h; call copy.1; movwf D86h
+put goto halt
 block copy.1
-put bank rp0 0; return
-thinned none 0 1800h
-lengths 11 2
+put movwf D06h; return
+selects none 0 1800h
+lengths 11 3
 case a page is selected once: of four selects of a page those are left that set another bit
 block copy.0
-put bank rp1 0; bank rp0 1; movwf D86h; page high copy.1; page low copy.1; call copy.1; bank rp1 0; bank rp0 1; movwf D86h
-put page high halt; page low halt; goto halt
+put movwf D86h; call copy.1; movwf D86h
+put goto halt
 block copy.1
 put return
-thinned none 0 07FFh
+selects none 0 07FFh
 lengths 8 1
 case the callee is in page 1
 block copy.0
-put bank rp1 0; bank rp0 1; movwf D86h; page high copy.1; page low copy.1; call copy.1; bank rp1 0; bank rp0 1; movwf D86h
-put page high halt; page low halt; goto halt
+put movwf D86h; call copy.1; movwf D86h
+put goto halt
 block copy.1
 put return
-thinned none 0 0800h
+selects none 0 0800h
 lengths 9 1
 case the callee is in page 2
 block copy.0
-put bank rp1 0; bank rp0 1; movwf D86h; page high copy.1; page low copy.1; call copy.1; bank rp1 0; bank rp0 1; movwf D86h
-put page high halt; page low halt; goto halt
+put movwf D86h; call copy.1; movwf D86h
+put goto halt
 block copy.1
 put return
-thinned none 0 1000h
+selects none 0 1000h
 lengths 9 1
 case calls in one page select it once: main calls copies 1 and 2, and copy 1 calls copy 2
 block copy.0
-put page high copy.1; page low copy.1; call copy.1; page high copy.2; page low copy.2; call copy.2
+put call copy.1; call copy.2
 block copy.1
-put page high copy.2; page low copy.2; call copy.2; return
+put call copy.2; return
 block copy.2
 put return
-thinned none 0 100h 200h
+selects none 0 100h 200h
 lengths 4 2 1
 case calls in page 1
 block copy.0
-put page high copy.1; page low copy.1; call copy.1; page high copy.2; page low copy.2; call copy.2
+put call copy.1; call copy.2
 block copy.1
-put page high copy.2; page low copy.2; call copy.2; return
+put call copy.2; return
 block copy.2
 put return
-thinned none 800h 900h A00h
+selects none 800h 900h A00h
 lengths 4 2 1
 case calls across pages: each bit that is another one is selected
 block copy.0
-put page high copy.1; page low copy.1; call copy.1; page high copy.2; page low copy.2; call copy.2
+put call copy.1; call copy.2
 block copy.1
-put page high copy.2; page low copy.2; call copy.2; return
+put call copy.2; return
 block copy.2
 put return
-thinned none 0 100h 800h
+selects none 0 100h 800h
 lengths 4 3 1
 case calls from page 0 to page 3
 block copy.0
-put page high copy.1; page low copy.1; call copy.1; page high copy.2; page low copy.2; call copy.2
+put call copy.1; call copy.2
 block copy.1
-put page high copy.2; page low copy.2; call copy.2; return
+put call copy.2; return
 block copy.2
 put return
-thinned none 0 100h 1800h
+selects none 0 100h 1800h
 lengths 4 4 1
 case a handler selects its bank: it begins with anything selected
 block copy.0
-put bank rp1 0; bank rp0 1; movwf D86h; label L0; bank rp1 0; bank rp0 1; movwf D86h; page high L0; page low L0; goto L0
+put movwf D86h; label L0; movwf D86h; goto L0
 block copy.1
-put bank rp1 0; bank rp0 1; movwf D86h
-thinned 1 0 100h
+put movwf D86h
+selects 1 0 100h
 lengths 8 3
 case the vector stands behind a jump and one instruction: with the two selects of a page before the jump, the third instruction stands at 0004h
 start 3
@@ -298,7 +319,7 @@ end
 
 #[test]
 fn selects_stand_where_they_are_needed(rt: HostRuntime) -> Result<(), Fail> {
-    assert_eq!(rt; check(&rt, rt.alloc(), SELECTS)?, (19, 33));
+    assert_eq!(rt; check(&rt, rt.alloc(), SELECTS)?, (22, 42));
     Ok(())
 }
 

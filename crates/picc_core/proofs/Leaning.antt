@@ -14,6 +14,7 @@ use Rattle.call_graph.specs.Numbers.{handler_at}
 use Rattle.call_graph.specs.declared.types.FnCopy.{FnCopy}
 use Rattle.code_place.specs.Layouts.{layout_of}
 use Rattle.core_code.specs.declared.code.CoreProgram.{CoreProgram}
+use Rattle.flow_facts.specs.Selects.{HasSelects}
 use Rattle.headline_trace.proofs.Laid.{frame_few}
 use Rattle.lean_pass.specs.Made.{IsAsGiven, IsLean, Kept}
 use Rattle.lean_pass.specs.Views.{variables_of}
@@ -31,7 +32,7 @@ use Rattle.narrow_pass.specs.Narrowed.{IsNarrowed, lent_by}
 use Rattle.program_code.proofs.Bodies.{few_kept, short_kept}
 use Rattle.program_code.specs.Passed.{IsByteCode, AsLowered, Narrower}
 use Rattle.program_code.specs.Stated.{AreStated}
-use Rattle.picc_core.specs.Coded.{HasSelects, IsLeanTo, IsLeanOf, AsGiven, Seen, IsSymbolic}
+use Rattle.picc_core.specs.Coded.{IsLeanTo, IsLeanOf, AsGiven, Seen, IsSymbolic}
 use Rattle.picc_core.specs.Founded.{IsFounded}
 
 -- ---- lists

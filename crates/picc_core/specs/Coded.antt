@@ -1,6 +1,6 @@
 -- What is known of the code of a compiled program, from byte code on: what each pass promises of its part.
 use Rattle.std.specs.Prelude.{ℕ, ◌≡◌, Bool, List, map, Option, Some}
-use Rattle.std.specs.List.{All, AllZip}
+use Rattle.std.specs.List.{All}
 use Rattle.c_typed.specs.Trees.{Program}
 use Rattle.call_graph.specs.Numbers.{handler_at}
 use Rattle.call_graph.specs.declared.types.FnCopy.{FnCopy}
@@ -12,27 +12,15 @@ use Rattle.pic_map.specs.declared.Placed.{Placed}
 use Rattle.sym_code.specs.declared.code.BlockName.TheVariants.{Copy}
 use Rattle.sym_code.specs.declared.code.Label.TheVariants.{Halt}
 use Rattle.sym_code.specs.declared.code.SymBlock.{SymBlock}
-use Rattle.bank_page.specs.Selected.{names_of, bare_lists, IsApart, IsWithin, Reaches, IsExact}
 use Rattle.code_place.specs.Layouts.{layout_of}
 use Rattle.code_place.specs.Places.{block_place, label_place, BlocksHaveAddresses, HoldsInstructions, IsErasedElsewhere, TargetsStand}
 use Rattle.code_place.specs.Sizes.{Fit}
-use Rattle.flow_facts.specs.Thin.{IsThinned}
+use Rattle.flow_facts.specs.Selects.{HasSelects}
 use Rattle.lean_pass.specs.Made.{IsLean}
 use Rattle.narrow_pass.specs.Lent.{LendsOnly}
 use Rattle.program_code.specs.Joined.{IsJoined}
 use Rattle.program_code.specs.Passed.{IsByteCode}
 use Rattle.program_code.specs.Stated.{AreStated}
-
--- The blocks have the selects that they need, but for those that flow facts make needless at their addresses.
-pub record HasSelects (placed : Placed) (handler : Option ℕ) (at : List ℕ) (lean made : List SymBlock) : Type 0 where
-  pub whole : List SymBlock
-  pub names : names_of whole ≡ names_of lean
-  pub bare : bare_lists whole ≡ bare_lists lean
-  pub apart : All IsApart whole
-  pub reaches : All (Reaches placed) whole
-  pub few : AllZip IsWithin lean whole
-  pub exact : AllZip (IsExact placed) lean whole
-  pub thinned : IsThinned handler at whole made
 
 -- The code is as it was selected from byte code as it is lowered, or its blocks were seen to have at most their stated words. Either way they
 -- have room.

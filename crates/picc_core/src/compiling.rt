@@ -104,8 +104,8 @@ pub fn codes_of(alloc: Global, front: &Front) -> Result<Codes, AllocError>
     // Each copy has its block, a function the one that is selected for its body and a helper its routine, none is lost, and they stand in
     // the order of code.
     ensures plain { IfOk result (λ codes. IsJoined codes.core front.now.copies.list.items codes.plain.blocks.items) }
-    // Instructions on temporary bytes are left out by a certificate; the selects are those of `selects`, each for a need, but for those that
-    // flow facts which are consistent make needless.
+    // Instructions on temporary bytes are left out by a certificate; the selects are those of `selects`, each for a need, where flow facts which
+    // are consistent don't tell it to be met.
     ensures selected { IfOk result (λ codes. IsSymbolic (program_of front.now.typed) codes.core front.now.copies.list.items front.now.placed front.now.at.items codes.selected.blocks.items) }
     // Each block with its selects has at most the words that are stated of it, whatever is left out.
     ensures stated { IfOk result (λ codes. AreStated (program_of front.now.typed) front.now.copies.list.items codes.selected.blocks.items) }
@@ -180,8 +180,8 @@ pub fn compile(alloc: Global, text: &[u8]) -> Result<Built, CompileError>
     compiled(alloc, text, Saving::Lean)
 }
 
-/// The same where no instruction is left out but selects, and no flow facts are sought: each block is as it was selected, with the selects that it needs by
-/// what its straight code tells. `compile` is measured by it.
+/// The same where nothing is left out, and no flow facts are sought: each block is as it was selected, with the selects that it needs by what its straight
+/// code tells. `compile` is measured by it.
 pub fn compile_plain(alloc: Global, text: &[u8]) -> Result<Built, CompileError>
     // A text over 262,144 bytes is refused so.
     ensures text_limit { 262144 < length text.now → result ≡ Err (Refused (refusals.Limit kinds.Text 0)) }

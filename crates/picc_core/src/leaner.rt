@@ -6,21 +6,21 @@ ghost use Rattle.c_typed.specs.Nodes.{capped};
 ghost use Rattle.c_typed.specs.Views.{program_of};
 ghost use Rattle.call_graph.specs.declared.types.FnCopy.{FnCopy as Copied};
 ghost use Rattle.bank_page.specs.Ready.{CanSelect};
-ghost use Rattle.flow_facts.specs.Thin.{IsThinned};
+ghost use Rattle.flow_facts.specs.Selects.{HasSelects};
 ghost use Rattle.isr_save.specs.Start.{HasNumberedBytes};
 ghost use Rattle.program_code.specs.Joined.{IsJoined};
 ghost use Rattle.ram_place.specs.Sizes as sizes;
-ghost use Rattle.picc_core.specs.Coded.{HasSelects, IsLeanOf, IsLeanTo, IsSymbolic};
+ghost use Rattle.picc_core.specs.Coded.{IsLeanOf, IsLeanTo, IsSymbolic};
 ghost use Rattle.picc_core.specs.Founded.{IsFounded};
 ghost use Rattle.sym_code.specs.declared.code.SymBlock.{SymBlock as Block};
 
 use crate::joining::{handler_of, joined};
 use crate::stated::are_stated;
-use bank_page::{can_select, selects};
+use bank_page::{can_select, selects_plain};
 use c_check::Typed;
 use call_graph::{Copies, FnCopy};
 use core_code::CoreProgram;
-use flow_facts::{thinned, thinned_plainly};
+use flow_facts::selects;
 use lean_pass::lean;
 use narrow_pass::{lent_in, narrow};
 use pic_map::Placed;
@@ -37,23 +37,8 @@ pub(crate) enum Saving {
     Plain,
 }
 
-// The program without the selects that are needless by what is known. Some are so either way, where nothing comes.
-fn thinner(
-    alloc: Global,
-    program: &SymProgram,
-    handler: Option<u16>,
-    at: &[u16],
-    saving: Saving,
-) -> Result<SymProgram, AllocError>
-    ensures { IfOk result (λ made. IsThinned handler at.now program.now.blocks.items made.blocks.items) }
-{
-    match saving {
-        Saving::Lean => thinned(alloc, program, handler, at),
-        Saving::Plain => thinned_plainly(alloc, program, handler),
-    }
-}
-
-// The program with its selects, but for those that are needless by what is known.
+// The program with its selects.
+#[tactic(auto, using(flow_facts::proofs::Whole::whole_selects))]
 fn selected(
     alloc: Global,
     program: &SymProgram,
@@ -65,8 +50,11 @@ fn selected(
     requires { All (CanSelect placed.now) program.now.blocks.items }
     ensures { IfOk result (λ made. HasSelects placed.now handler at.now program.now.blocks.items made.blocks.items) }
 {
-    let whole = selects(alloc, program, placed)?;
-    let made = thinner(alloc, &whole, handler, at, saving)?;
+    if let Saving::Lean = saving {
+        let made = selects(alloc, program, placed, handler, at)?;
+        return Ok(made);
+    }
+    let made = selects_plain(alloc, program, placed)?;
     Ok(made)
 }
 

@@ -137,7 +137,7 @@ module _ (p : Program) (copies : List FnCopy) (core : CoreProgram) (given lean w
         name = m.is.name ∙ w.is.name ∙ x.is.name;
         labels_stay = λ label has.
             subst (λ (list : List Sym). has_label label list ≡ true) (sym m.is.code)
-            (thin_keeps label thinned.facts w.other
+            (thin_keeps label thinned.facts m.is.whole w.other
             (subst (λ (list : List Sym). has_label label list ≡ true) (sym w.is.code) (selected_keeps label placed x.other.name front x.other.list.items (lean_keeps label g x.other x.is has))));
       }
 
@@ -217,11 +217,11 @@ module _ (p : Program) (copies : List FnCopy) (core : CoreProgram) (given lean w
         let stays : (label : Label) → has_label label g.other.list.items ≡ true → has_label label m.list.items ≡ true =
         λ label has.
         subst (λ (list : List Sym). has_label label list ≡ true) (sym w.is.code)
-        (thin_keeps label thinned.facts w.other (subst (λ (list : List Sym). has_label label list ≡ true) (sym x.is.code) (selected_keeps label placed x.other.name front x.other.list.items (lean_keeps label g.other x.other g.is has)))) in
+        (thin_keeps label thinned.facts w.is.whole w.other (subst (λ (list : List Sym). has_label label list ≡ true) (sym x.is.code) (selected_keeps label placed x.other.name front x.other.list.items (lean_keeps label g.other x.other g.is has)))) in
         let before = given_have g.other g.there (all_found target g.other.list.items (λ label has. own_label label (stays label has))) in
         let selected : HaveTargets target w.other.list.items =
         subst (λ (list : List Sym). HaveTargets target list) (sym x.is.code) (selected_have target placed x.other.name front x.other.list.items (lean_have target g.other x.other g.is before)) in
-        subst (λ (list : List Sym). HaveTargets target list) (sym w.is.code) (thin_have target thinned.facts w.other selected)
+        subst (λ (list : List Sym). HaveTargets target list) (sym w.is.code) (thin_have target thinned.facts w.is.whole w.other selected)
 
 pub targets_are_there : TargetsAreThere
 targets_are_there p copies core given lean whole made placed at blocks thinned calls fit k block start found here = made_have p copies core given lean whole made placed at blocks thinned calls fit k block start found here

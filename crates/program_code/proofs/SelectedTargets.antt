@@ -1,10 +1,8 @@
 -- Selects name the target of an instruction behind them, and putting them in or leaving them out takes no label away.
 use Rattle.std.proofs.Common.{◌≡◌, ℕ, Bool, true, false, ◌||◌, if◌then◌else◌, List, [], ◌∷◌, ◌++◌, Option, Some, None, IsSome, refl, ap}
 use Rattle.pic_map.specs.declared.Placed.{Placed}
-use Rattle.sym_code.specs.Programs.{same_name}
 use Rattle.sym_code.specs.Selects.{is_select}
 use Rattle.sym_code.specs.declared.code.BlockName.{BlockName}
-use Rattle.sym_code.specs.declared.code.BlockName.TheVariants.{Start}
 use Rattle.sym_code.specs.declared.code.Label.{Label}
 use Rattle.sym_code.specs.declared.code.Sym.{Sym}
 use Rattle.sym_code.specs.declared.code.Sym.TheVariants as syms
@@ -120,11 +118,9 @@ module _ (target : Target → Option ℕ) where
         by true out in_it = out
         by false out in_it = (h.0, in_it)
 
-  pub thin_have : (f : Facts) (block : SymBlock) → HaveTargets target block.list.items → HaveTargets target (thin f block)
-  thin_have f block h = by (same_name block.name Start) where
-    by : (b : Bool) → HaveTargets target (if b then block.list.items else thin_from f block.name (f.front block.name) false block.list.items)
-    by true = h
-    by false = thin_have_from f block.name (f.front block.name) false block.list.items h
+  pub thin_have : (f : Facts) (whole : Bool) (block : SymBlock) → HaveTargets target block.list.items → HaveTargets target (thin f whole block)
+  thin_have f true block h = h
+  thin_have f false block h = thin_have_from f block.name (f.front block.name) false block.list.items h
 
 -- ---- labels stay
 no_select : (label : Label) (s : Sym) → placing.is_label label (placing.label_of s) ≡ true → is_select s ≡ false
@@ -191,8 +187,6 @@ thin_keeps_from label f own fact behind (s ∷ list) h =
       by false true is known all o i = o all
       by false false is known all o i = or_second (placing.is_label label (placing.label_of s)) (has_label label in_it) (i all)
 
-pub thin_keeps : (label : Label) (f : Facts) (block : SymBlock) → has_label label block.list.items ≡ true → has_label label (thin f block) ≡ true
-thin_keeps label f block h = by (same_name block.name Start) where
-  by : (b : Bool) → has_label label (if b then block.list.items else thin_from f block.name (f.front block.name) false block.list.items) ≡ true
-  by true = h
-  by false = thin_keeps_from label f block.name (f.front block.name) false block.list.items h
+pub thin_keeps : (label : Label) (f : Facts) (whole : Bool) (block : SymBlock) → has_label label block.list.items ≡ true → has_label label (thin f whole block) ≡ true
+thin_keeps label f true block h = h
+thin_keeps label f false block h = thin_keeps_from label f block.name (f.front block.name) false block.list.items h

@@ -1,12 +1,16 @@
-//! Leaner code with selects by flow facts takes fewer words than code as it was selected, with selects by straight code alone.
+//! Leaner code with selects by flow facts takes fewer words than code as it was selected, with selects by straight code alone; and of
+//! the selects alone there are fewer.
 
 use crate::comparing::real_words;
 use crate::firmware::{LOCK, METER, PUMP};
 use crate::interrupts::{KEY, TWO_COPIES};
 use crate::statements::TEXTS;
-use picc_core::{compile, compile_plain};
+use bank_page::kinds::{is_label, is_select};
+use bank_page::{can_select, selects_plain};
+use picc_core::{codes_of, compile, compile_plain, front};
 use std::alloc::Global;
 use std::test::Fail;
+use sym_code::SymBlock;
 
 // The words of a text's image as it is compiled.
 fn lean_words(alloc: Global, text: &str) -> Result<u32, Fail> {
@@ -29,6 +33,41 @@ fn words_of(alloc: Global, text: &str) -> Result<(u32, u32), Fail> {
     Ok((lean_words(alloc, text)?, plain_words(alloc, text)?))
 }
 
+// How many selects stand in blocks, and how many words of program memory they take, a label none.
+fn counted(blocks: &[SymBlock]) -> (u32, u32) {
+    let mut selects: u32 = 0;
+    let mut words: u32 = 0;
+    for block in blocks {
+        for sym in &block.list {
+            if is_select(*sym) {
+                selects = selects.saturating_add(1);
+            }
+            if !is_label(*sym) {
+                words = words.saturating_add(1);
+            }
+        }
+    }
+    (selects, words)
+}
+
+// How many selects stand in the code that a text is compiled to, and how many in the same code where straight code alone tells what is
+// selected.
+fn selects_of(alloc: Global, text: &str) -> Result<(u32, u32), Fail> {
+    let Ok(front) = front(alloc, text.as_bytes()) else {
+        return Err(Fail::new("refused"));
+    };
+    let codes = codes_of(alloc, &front)?;
+    let (selects, words) = counted(&codes.selected.blocks);
+    if words != lean_words(alloc, text)? {
+        return Err(Fail::new("the image has other words"));
+    }
+    if !can_select(&front.placed, &codes.selected.blocks) {
+        return Err(Fail::new("no selects can be put"));
+    }
+    let plain = selects_plain(alloc, &codes.selected, &front.placed)?;
+    Ok((selects, counted(&plain.blocks).0))
+}
+
 // Two sums: of one the upper byte is used, of the other it isn't.
 const SUMS: &str =
     "void main(void){unsigned char a=200;unsigned char b=100;PORTB=(a+b)>>1;PORTC=a+b;}";
@@ -45,6 +84,15 @@ fn firmware_has_fewer_words(rt: HostRuntime) -> Result<(), Fail> {
         lean < plain && 6 * lean as u64 <= 5 * plain as u64,
         "{lean} and {plain}"
     );
+    Ok(())
+}
+
+#[test]
+fn flow_facts_save_selects(rt: HostRuntime) -> Result<(), Fail> {
+    for text in [KEY, PUMP] {
+        let (flow, straight) = selects_of(rt.alloc(), text)?;
+        assert!(rt; flow < straight, "{flow} and {straight}: {text}");
+    }
     Ok(())
 }
 

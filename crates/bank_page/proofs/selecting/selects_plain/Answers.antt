@@ -1,5 +1,5 @@
 use Rattle.bank_page.proofs.Programs.{ready_at, blocks_none, blocks_more, whole}
-use Rattle.bank_page.proofs.selecting.selects.Goals as goal
+use Rattle.bank_page.proofs.selecting.selects_plain.Goals as goal
 
 pub loop-block-init : goal.loop-block-init
 loop-block-init c = blocks_none c.args.placed.now c.args.s.now.blocks.items c.new-blocks.result.items c.new-blocks.ensures.items
