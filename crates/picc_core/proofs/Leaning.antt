@@ -100,14 +100,14 @@ module _ (typed : Typed) (copies : List FnCopy) (placed : Placed) (at : List ℕ
 
   -- the same, of lists that were lent
   pub lean_lent : (core : CoreProgram) (frames lent_frames : List Bool) (lent_copies : List FnCopy) (list lent_list : List ℕ) (handler : Option ℕ) (given lent_given lean made lent_made : List SymBlock) → All (LendsOnly (lent_by frames)) core.bodies.items → lent_frames ≡ frames → lent_copies ≡ copies → list ≡ map bytes lent_copies → lent_list ≡ list
-      → lent_given ≡ given → lent_made ≡ made → handler ≡ handler_at copies → IsLean (layout_of placed) handler (variables_of lent_list) (lent_by lent_frames) lent_given lean → HasSelects placed handler at lean made → AreStated p lent_copies lent_made
+      → lent_given ≡ given → lent_made ≡ made → handler ≡ handler_at copies → IsLean (layout_of placed) handler (variables_of lent_list) (lent_by lent_frames) lent_given lean → HasSelects placed handler at lean made → AreStated p copies lent_made
       → IsLeanTo p core copies placed at given made
   lean_lent core frames lent_frames lent_copies list lent_list handler given lent_given lean made lent_made lends of_frames of_copies is of_list of_given of_made same leaner selects stated =
       lean_to core frames list handler given lean made lends (is ∙ ap (map bytes) of_copies) same
       (subst (λ (b : List Bool). IsLean (layout_of placed) handler (variables_of list) (lent_by b) given lean) of_frames
       (subst (λ (g : List SymBlock). IsLean (layout_of placed) handler (variables_of list) (lent_by lent_frames) g lean) of_given
       (subst (λ (l : List ℕ). IsLean (layout_of placed) handler (variables_of l) (lent_by lent_frames) lent_given lean) of_list leaner))) selects
-      (subst (λ (m : List SymBlock). AreStated p copies m) of_made (subst (λ (c : List FnCopy). AreStated p c lent_made) of_copies stated))
+      (subst (λ (m : List SymBlock). AreStated p copies m) of_made stated)
 
   -- ---- all that is known of the code
   -- leaner blocks of some byte code

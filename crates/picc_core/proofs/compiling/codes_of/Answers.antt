@@ -1,4 +1,4 @@
-use Rattle.picc_core.proofs.Founding.{copies_low, statics_low, ready}
+use Rattle.picc_core.proofs.Founding.{copies_low, statics_low, ready, stated}
 use Rattle.picc_core.proofs.Translating.{founded_at}
 use Rattle.picc_core.proofs.compiling.codes_of.Goals as goal
 
@@ -28,3 +28,8 @@ symbolic_by-requires-clause-ready c = ready c.args.front.now.typed c.args.front.
 
 pub symbolic_by-requires-clause-founded : goal.symbolic_by-requires-clause-founded
 symbolic_by-requires-clause-founded c = founded_at _ _ _ _ _ c.deref.ensures.value c.requires
+
+pub returns-clause-stated : goal.returns-clause-stated
+returns-clause-stated c =
+    stated _ _ _ _ (founded_at _ _ _ _ _ c.deref.ensures.value c.requires) c.in_ok-core.core c.in_ok-core.ensures.bodies c.in_ok-core.ensures.statics
+    c.in_ok-selected.selected.blocks.items c.in_ok-selected.ensures
