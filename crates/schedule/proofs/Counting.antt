@@ -1,11 +1,10 @@
 -- The events of a run, counted moment by moment.
 use Rattle.std.specs.Prelude.{if◌then◌else◌, ◌&&◌, ◌||◌}
-use Rattle.std.proofs.Common.{◌≡◌, ℕ, suc, ◌+◌, Bool, true, false, not, nat_eq, Option, Some, None, List, [], ◌∷◌, ◌++◌, length, refl, sym, ap, ◌∙◌, subst, append-nil, append_assoc, length-append, arith}
+use Rattle.std.proofs.Common.{◌≡◌, ℕ, suc, ◌+◌, Bool, true, false, not, nat_eq, Some, None, List, [], ◌∷◌, ◌++◌, length, refl, sym, ap, ◌∙◌, subst, append-nil, append_assoc, length-append, arith}
 use Rattle.pic_world.specs.declared.Event.{Event}
 use Rattle.pic_world.specs.declared.Event.TheVariants as events
 use Rattle.pic_world.specs.Arrivals.{arriving}
 use Rattle.pic_world.specs.Control.{is_due}
-use Rattle.pic_chip.specs.declared.access.Access.{Access}
 use Rattle.pic_chip.specs.declared.access.Accesses.{Accesses}
 use Rattle.pic_chip.specs.State.{State}
 use Rattle.pic_chip.specs.Act.{Made, accesses, perform}
@@ -14,7 +13,7 @@ use Rattle.pic_chip.specs.Interrupts.{control_of, raised, begun}
 use Rattle.pic_chip.specs.Machine.{Machine, stop_at, index_after}
 use Rattle.pic_chip.specs.Run.{Watch, Range, Setting, Moment, moment, observed, takes, cell_at, event_at, events_of}
 use Rattle.pic_chip.specs.Seen.{made_by, seen}
-use Rattle.pic_map.specs.Tracing.{Tracing, looked, told, shown}
+use Rattle.pic_map.specs.Tracing.{Tracing, looked, told}
 use Rattle.schedule.specs.Off.{runs_begun}
 use Rattle.schedule.specs.Watching.{IsRunAt, IsWatchedAt, AreLowest, shown_all}
 use Rattle.schedule.proofs.Boundaries.{taken_is, run_goes, run_ends}
@@ -38,21 +37,6 @@ shown-append xs ys t = by_test t.met
 lowest_split : (xs ys : List Made) → AreLowest (xs ++ ys) → AreLowest xs × AreLowest ys
 lowest_split [] ys h = (tt, h)
 lowest_split (x ∷ xs) ys h = let rest = lowest_split xs ys h.1 in ((h.0, rest.0), rest.1)
-
--- of no access, and of one
-pub none_shown : (write : Bool) (t : Tracing) → 0 ≡ length (shown_all (made_by write None) t)
-none_shown write t = by_test t.met
-  where
-    by_test : (b : Bool) → 0 ≡ length (if b then events_of t.watch.ranges [] else [])
-    by_test true = refl
-    by_test false = refl
-
-pub one_shown : (write : Bool) (a : Access) (t : Tracing) (count : ℕ) (event : List Event) → count ≡ length event → event ≡ shown write a.value (lowest a.address) t → AreLowest (made_by write (Some a)) → count ≡ length (shown_all (made_by write (Some a)) t)
-one_shown write a t count event e h low = e ∙ ap length (h ∙ ap (λ address. shown write a.value address t) low.0) ∙ ap length (by_test t.met)
-  where
-    by_test : (b : Bool) → (if b then event_at write a.value (cell_at t.watch.ranges a.address) else []) ≡ (if b then event_at write a.value (cell_at t.watch.ranges a.address) ++ [] else [])
-    by_test true = sym (append-nil _)
-    by_test false = refl
 
 -- of an instruction: of its read and of its write
 pub both_shown : (done : Accesses) (t : Tracing) (old new reads writes : ℕ)
