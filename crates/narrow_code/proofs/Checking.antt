@@ -15,7 +15,7 @@ use Rattle.core_code.specs.declared.code.Byte.{Byte}
 use Rattle.core_code.specs.declared.code.Byte.TheVariants.{Static, Frame, Result, Device}
 use Rattle.narrow_code.specs.Checked.{Turn, all_below, both_say, met, put, put_bytes, put_on, nowhere, allowed, walked_on, joined, comes_back, may_exit, may_repeat, same_at, number_at, same_from, small_at, may_cut, walk_binary, walk_leaf, walk, walk_all, TestIsRight}
 use Rattle.narrow_code.specs.Drafts.{Draft, Drafts, cuts, parts_of, way_of, first_of, second_of, front_of, behind_of, body_of, head_of, tail_of, marks_in, planned, all_planned, PlansAreOfCode}
-use Rattle.narrow_code.specs.Marks.{Mark, Numbers, Same, Differs, Marks, IsBelow, is_below, is_number, marked, marked_bytes, marked_on, own_mark, may_differ, Below}
+use Rattle.narrow_code.specs.Marks.{Mark, Numbers, Same, Differs, Marks, IsBelow, is_below, marked, marked_bytes, marked_on, own_mark, may_differ, Below}
 use Rattle.narrow_code.specs.Plans as plans
 use Rattle.narrow_code.specs.Plans.{Plan, Plans, NoPlan, AndPlan, given, all_given}
 use Rattle.narrow_code.specs.Right.{Ends, Exits, Repeats, is_low, set_mark, narrow_mark, are_low_alone, behind_binary, behind_convert, fits_way, FitsLeaf, FitsNarrowed, Fits, AllFit}

@@ -70,7 +70,7 @@ narrow_less ops.Le one other w small e h = omega arith
 narrow_less ops.Ge one other w small e h = omega arith
 narrow_less _ one other w small e h = never e
 
-width_positive : (ty : IntTy) → 1 ≤ bytes_of ty
+pub width_positive : (ty : IntTy) → 1 ≤ bytes_of ty
 width_positive ty = let w = width_suc ty in let is = w.1 in omega arith
 
 stays_most : (before with : List Tree) (t : Tree) (s : List Hold) → SameCounts before with → cost_of with t + leaving t (other_stack s) ≤ cost_of before t + leaving t (one_stack s)

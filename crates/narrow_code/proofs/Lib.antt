@@ -8,6 +8,8 @@ pub mod Values
 pub mod Narrow
 pub mod Costs
 pub mod Machines
+pub mod Transfers
 pub mod Whole
 pub mod Lending
 pub mod Checking
+pub mod Places

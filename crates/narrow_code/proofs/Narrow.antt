@@ -1,6 +1,6 @@
 -- The step of an operator that is done on low bytes.
 use Rattle.std.proofs.Common.{◌≡◌, ℕ, zero, suc, ◌+◌, ◌*◌, ◌/◌, ◌%◌, ◌^◌, ◌<◌, ◌≤◌, ◌≢◌, ℤ, pos, unsigned_abs, Bool, true, false, not, ◌&&◌, ◌||◌, nat_eq, nat_le, if◌then◌else◌, List, Option, Some, None, option_map, refl, sym, ap, ◌∙◌, subst, arith}
-use Rattle.std.proofs.lemmas.Bool.{and_parts, and_from, leb-true, leb-false, le-leb, eqb-true, eqb-false}
+use Rattle.std.proofs.lemmas.Bool.{and_parts, and_from, leb-false, le-leb, eqb-true, eqb-false}
 use Rattle.std.proofs.lemmas.Bool.Decides.{Decides-int_eq}
 use Rattle.std.specs.Ordering.{int_eq}
 use Rattle.c_ints.specs.Operators.{cut_to, truth, compares, comparison, type_of, exact}
@@ -9,7 +9,7 @@ use Rattle.c_ints.specs.Range.{bytes_of, cut, pattern}
 use Rattle.c_ints.specs.declared.operators.BinOp.{BinOp}
 use Rattle.c_ints.specs.declared.operators.BinOp.TheVariants as ops
 use Rattle.c_ints.specs.declared.types.IntTy.{IntTy}
-use Rattle.c_ints.specs.declared.types.IntTy.TheVariants.{Char, SChar, UChar, Short, UShort, Int, UInt, Long, ULong}
+use Rattle.c_ints.specs.declared.types.IntTy.TheVariants.{UChar, Int}
 use Rattle.pic_world.specs.Roots.{same_root}
 use Rattle.core_code.specs.Bytes.{Held, Memory, Place, same_byte, behind, with_bytes, are_apart, misses, is_same_or_misses}
 use Rattle.core_code.specs.Bytes as bytes

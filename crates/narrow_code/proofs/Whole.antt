@@ -12,12 +12,14 @@ use Rattle.core_code.specs.declared.code.Byte.TheVariants.{Static, Frame, Result
 use Rattle.narrow_code.specs.Marks.{Same, Holds}
 use Rattle.narrow_code.specs.Plans.{Narrowing, given_program, made_program, given_setting, made_setting}
 use Rattle.narrow_code.specs.Right.{IsSound}
+use Rattle.narrow_code.specs.InStep.{transfer_of, InStep, NarrowingGoesInStep}
 use Rattle.narrow_code.specs.Links.{reaches_lent, IsOpen, NarrowingKeeps}
 use Rattle.narrow_code.proofs.Memory.{never, Alike}
 use Rattle.narrow_code.proofs.Relation.{jobs, jobs_first, jobs_second, State, first_machine, second_machine, Stays, Outcome, Halts, Rests, Moves}
 use Rattle.narrow_code.proofs.Control.{body_runs}
 use Rattle.narrow_code.proofs.Costs.{most_less, least_is}
 use Rattle.narrow_code.proofs.Machines.{both_step}
+use Rattle.narrow_code.proofs.Transfers.{transfers_same}
 
 -- a relation of moments that holds of one and itself and goes on with each step holds of any two
 chain : (R : ℕ → ℕ → Type 0) (n : ℕ) → ((i : ℕ) → R i i) → ((i j : ℕ) → i ≤ j → j < n → R i j → R i (suc j)) → (i j : ℕ) → i ≤ j → j ≤ n → R i j
@@ -170,6 +172,25 @@ module _ (x : Narrowing) (sound : IsSound x) (o : Outside) where
     pub slow : IsSlow (λ event. event) a b n follows
     unfolding follows
     slow = chain (λ i j. b.least i + a.least j ≤ b.least j + a.least i) n (λ i. omega arith) (λ i j l lt before. let least = (hop_at j lt).least in omega arith)
+
+    pub in_step : (i : ℕ) → i ≤ n → InStep g h i
+    in_step i l =
+        let s = sim_at i l in
+        let less = most_less x o s.state s.stays in
+        let first = ap (step_most g) s.one in
+        let second = ap (step_most h) s.other in
+        record {
+          world = ap (λ (t : Machine). t.world) s.other ∙ sym (ap (λ (t : Machine). t.world) s.one);
+          copy = ap (λ (t : Machine). t.copy) s.other ∙ sym (ap (λ (t : Machine). t.copy) s.one);
+          transfer = ap (λ (t : Machine). transfer_of t.code) s.other ∙ transfers_same s.state.jobs ∙ sym (ap (λ (t : Machine). transfer_of t.code) s.one);
+          goes = λ goes_here. (hop i s goes_here (open_all i l)).goes;
+          rests = λ rests. rests_by i s rests (outcome i s (open_all i l));
+          most = omega (arith, less, first, second);
+          least = ap (step_least h) s.other ∙ least_is x o s.state ∙ sym (ap (step_least g) s.one);
+        }
+
+pub narrowing_in_step : NarrowingGoesInStep
+narrowing_in_step x sound o n goes open_all i l = in_step x sound o n goes open_all i l
 
 pub narrowing_keeps : NarrowingKeeps
 narrowing_keeps x sound o n goes open_all = (follows x sound o n goes open_all, slow x sound o n goes open_all)

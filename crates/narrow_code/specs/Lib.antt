@@ -3,5 +3,7 @@ pub mod Plans
 pub mod Right
 pub mod Links
 pub mod Lending
+pub mod InStep
+pub mod Places
 pub mod Drafts
 pub mod Checked

@@ -8,13 +8,15 @@
 
 ghost use Rattle.narrow_code.specs.Checked.{TestIsRight};
 ghost use Rattle.narrow_code.specs.Drafts.{PlansAreOfCode};
+ghost use Rattle.narrow_code.specs.InStep.{NarrowingGoesInStep};
 ghost use Rattle.narrow_code.specs.Lending.{AlwaysOpen, LeadsOnly};
 ghost use Rattle.narrow_code.specs.Links.{NarrowingKeeps};
 
-/// Code that is made by a plan that is right follows the given code; its premise on pointers holds where addresses are taken only of
-/// frames that the plan has as lent.
+/// Code that is made by a plan that is right follows the given code, and goes in step with it; the premise on pointers holds where
+/// addresses are taken only of frames that the plan has as lent.
 pub fn narrowing_keeps()
     ensures follows { NarrowingKeeps }
+    ensures in_step { NarrowingGoesInStep }
     ensures lending { AlwaysOpen }
 {}
 
