@@ -1,3 +1,4 @@
 pub mod Narrowed
+pub mod Kept
 pub mod Ways
 pub mod Lent

@@ -25,6 +25,12 @@ pub record IsNarrowedBody (lent : ℕ → Bool) (given made : Body) : Type 0 whe
   pub code : trees_in made.code.items ≡ list_of (all_made (all_planned (trees_of (trees_in given.code.items)) drafts))
   pub lends : all_lend lent (trees_of (trees_in given.code.items)) ≡ true
 
+-- the same body once more
+pub record IsSameBody (given made : Body) : Type 0 where
+  pub copy : made.copy ≡ given.copy
+  pub root : made.root ≡ given.root
+  pub code : trees_in made.code.items ≡ trees_in given.code.items
+
 abbrev pub items_of : Vec FirstByte Global → List FirstByte
 items_of bytes = bytes.items
 
@@ -32,7 +38,11 @@ items_of bytes = bytes.items
 abbrev pub lent_by : List Bool → ℕ → Bool
 lent_by lent copy = get_or lent copy false
 
+-- The bodies are made by plans, or they are the given ones.
+pub data AreNarrowed (given made : List Body) : Type 0 where
+  ByPlans : (lent : List Bool) → AllZip (IsNarrowedBody (lent_by lent)) given made → AreNarrowed given made
+  Unchanged : AllZip IsSameBody given made → AreNarrowed given made
+
 pub record IsNarrowed (given made : CoreProgram) : Type 0 where
-  pub lent : List Bool
   pub statics : map items_of made.statics.items ≡ map items_of given.statics.items
-  pub bodies : AllZip (IsNarrowedBody (lent_by lent)) given.bodies.items made.bodies.items
+  pub bodies : AreNarrowed given.bodies.items made.bodies.items

@@ -11,6 +11,7 @@ use Rattle.narrow_code.specs.Checked.{Turn, put, put_bytes, put_on, nowhere, sam
 use Rattle.narrow_code.specs.Drafts.{Draft, Drafts, marks_in, planned, all_planned}
 use Rattle.narrow_code.specs.Lending.{lends, all_lend}
 use Rattle.narrow_code.specs.Marks.{Mark, Zero, Numbers, Same, Tells, Denies, Cleared, Differs, is_same, is_cleared, own_mark}
+use Rattle.narrow_code.specs.Places.{AtEachPlace, AtAllPlaces, IsRetyped}
 use Rattle.narrow_code.specs.Plans.{Way, Whole, Low, Turned, made, all_made}
 use Rattle.narrow_code.specs.Right.{set_mark, behind_binary, behind_convert}
 use Rattle.narrow_pass.specs.declared.marks.Mark as kept
@@ -113,6 +114,13 @@ may_go turns here (tree.If test size first second) = false
 may_go turns here (tree.Loop body) = false
 may_go turns here _ = true
 
+-- an operation without parts
+abbrev pub is_single : Tree → Bool
+is_single (tree.Many ts) = false
+is_single (tree.If test size first second) = false
+is_single (tree.Loop body) = false
+is_single _ = true
+
 -- what is known behind it
 abbrev pub written : (ℕ → Bool) → ℕ → List Mark → Tree → List Mark
 written lent p here (tree.Set to value) = put p here to (set_mark value)
@@ -129,22 +137,24 @@ written lent p here (tree.Again n) = nowhere here
 written lent p here _ = here
 
 -- ---- what is made
--- Some code is what a plan makes of other code, whose draft passes.
-pub record IsMade (lent : ℕ → Bool) (p : ℕ) (turns : List Turn) (here : List Mark) (old new : Tree) (after : List Mark) : Type 0 where
+-- Some code is what a plan makes of other code, whose draft passes; where types alone are to change, nothing else does.
+pub record IsMade (alone : Bool) (lent : ℕ → Bool) (p : ℕ) (turns : List Turn) (here : List Mark) (old new : Tree) (after : List Mark) : Type 0 where
   pub draft : Draft
   pub passes : walk lent p turns here old draft ≡ Some after
   pub code : new ≡ made (planned old draft)
   pub lending : lends lent old ≡ true
+  pub places : alone ≡ true → AtEachPlace IsRetyped old new
 
-pub record AreMade (lent : ℕ → Bool) (p : ℕ) (turns : List Turn) (here : List Mark) (old new : List Tree) (after : List Mark) : Type 0 where
+pub record AreMade (alone : Bool) (lent : ℕ → Bool) (p : ℕ) (turns : List Turn) (here : List Mark) (old new : List Tree) (after : List Mark) : Type 0 where
   pub drafts : Drafts
   pub passes : walk_all lent p turns here (trees_of old) drafts ≡ Some after
   pub code : new ≡ list_of (all_made (all_planned (trees_of old) drafts))
   pub lending : all_lend lent (trees_of old) ≡ true
+  pub places : alone ≡ true → AtAllPlaces IsRetyped (trees_of old) (trees_of new)
 
 -- ---- a body
 -- What is made of a body, of whose frame so many bytes are known to be the same at its front.
-pub record IsTried (lent : ℕ → Bool) (p : ℕ) (old new : List Tree) : Type 0 where
+pub record IsTried (alone : Bool) (lent : ℕ → Bool) (p : ℕ) (old new : List Tree) : Type 0 where
   pub size : ℕ
   pub after : List Mark
-  pub are : AreMade lent p [] (replicate size Same) old new after
+  pub are : AreMade alone lent p [] (replicate size Same) old new after

@@ -1,6 +1,6 @@
 //! What an operation without parts reads and writes.
 
-ghost use Rattle.std.specs.Prelude.{◌≡◌, true, false, ◌&&◌, ◌||◌, if◌then◌else◌, IfSome};
+ghost use Rattle.std.specs.Prelude.{◌≡◌, true, false, not, ◌&&◌, ◌||◌, if◌then◌else◌, IfSome, IsSome};
 ghost use Rattle.c_ints.specs.Operators.{type_of, unary_type, compares, shifts};
 ghost use Rattle.c_ints.specs.Range.{bytes_of};
 ghost use Rattle.core_code.specs.Values.{right_type};
@@ -540,8 +540,8 @@ pub enum Way {
     Turned,
 }
 
-/// How a condition may be made, if at all.
-pub fn way_of(lent: &[bool], copy: u16, here: &[Mark], test: Byte, size: u8) -> Option<Way>
+// How a condition may be made, if at all.
+fn low_way(lent: &[bool], copy: u16, here: &[Mark], test: Byte, size: u8) -> Option<Way>
     ensures { IfSome result (λ way. rules.fits_way (lent_by lent.now) copy (marks_in (marks_of here.now)) test size (stated.way_in way) ≡ true) }
 {
     let run = Run {
@@ -562,6 +562,47 @@ pub fn way_of(lent: &[bool], copy: u16, here: &[Mark], test: Byte, size: u8) -> 
     None
 }
 
+// The condition as it is, where what it tests is the same.
+fn whole_way(lent: &[bool], copy: u16, here: &[Mark], test: Byte, size: u8) -> Option<Way>
+    ensures fits { IfSome result (λ way. rules.fits_way (lent_by lent.now) copy (marks_in (marks_of here.now)) test size (stated.way_in way) ≡ true) }
+    ensures whole { IfSome result (λ way. stated.way_in way ≡ plans.Whole) }
+{
+    let run = Run {
+        byte: test,
+        count: size as u16,
+    };
+    if same_from(lent, copy, here, run) {
+        return Some(Way::Whole);
+    }
+    None
+}
+
+/// How a condition may be made, if at all: as it is, where types alone are to change.
+pub fn way_of(
+    alone: bool,
+    lent: &[bool],
+    copy: u16,
+    here: &[Mark],
+    test: Byte,
+    size: u8,
+) -> Option<Way>
+    ensures fits { IfSome result (λ way. rules.fits_way (lent_by lent.now) copy (marks_in (marks_of here.now)) test size (stated.way_in way) ≡ true) }
+    ensures whole { IfSome result (λ way. alone ≡ true → stated.way_in way ≡ plans.Whole) }
+{
+    if alone {
+        whole_way(lent, copy, here, test, size)
+    } else {
+        low_way(lent, copy, here, test, size)
+    }
+}
+
+/// Whether an operator may be another one on low bytes: not where types alone are to change.
+pub fn may_change(alone: bool, op: BinOp) -> bool
+    ensures { result ≡ (not alone || rules.is_low op) }
+{
+    !alone || is_low(op)
+}
+
 /// Whether all that an operation reads is the same.
 #[tactic(auto, using(crate::proofs::Runs::both_same))]
 pub fn reads_same(lent: &[bool], copy: u16, here: &[Mark], c: &Core) -> bool
@@ -573,7 +614,8 @@ pub fn reads_same(lent: &[bool], copy: u16, here: &[Mark], c: &Core) -> bool
 /// The same operation, where it has no parts.
 #[tactic(auto, using(crate::proofs::Trees::trees))]
 pub fn same_operation(c: &Core) -> Option<Core>
-    ensures { IfSome result (λ made. made ≡ c.now) }
+    ensures same { IfSome result (λ made. made ≡ c.now) }
+    ensures there { stated.is_single (tree_of c.now) ≡ true → IsSome result }
 {
     Some(match c {
         Core::Set { to, value } => Core::Set {

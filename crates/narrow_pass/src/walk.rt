@@ -10,7 +10,8 @@ ghost use Rattle.narrow_pass.specs.Ways.{IsMade, AreMade, marks_of, turns_of, wa
 use crate::hints::Hints;
 use crate::marks::{Mark, all_below, copied, met};
 use crate::operations::{
-    Way, lends, low_op, may_cut, may_go, put_cut, reads_same, same_operation, way_of, write,
+    Way, lends, low_op, may_change, may_cut, may_go, put_cut, reads_same, same_operation, way_of,
+    write,
 };
 use crate::turns::Turns;
 use c_ints::IntTy;
@@ -19,8 +20,15 @@ use std::alloc::{AllocError, Global};
 
 // An operation without parts that stays.
 #[tactic(auto, using(crate::proofs::Making::stays_made))]
-fn stays(c: &Core, lent: &[bool], copy: u16, turns: &Turns, here: &mut Vec<Mark>) -> Option<Core>
-    ensures made { IfSome result (λ made. IsMade (lent_by lent.now) copy (turns_of turns.now.list.items) (marks_of here.old.items) (tree_of c.now) (tree_of made) (marks_of here.new.items)) }
+fn stays(
+    c: &Core,
+    alone: bool,
+    lent: &[bool],
+    copy: u16,
+    turns: &Turns,
+    here: &mut Vec<Mark>,
+) -> Option<Core>
+    ensures made { IfSome result (λ made. IsMade alone (lent_by lent.now) copy (turns_of turns.now.list.items) (marks_of here.old.items) (tree_of c.now) (tree_of made) (marks_of here.new.items)) }
 {
     if !may_go(turns, here, c) {
         return None;
@@ -38,8 +46,15 @@ fn stays(c: &Core, lent: &[bool], copy: u16, turns: &Turns, here: &mut Vec<Mark>
 
 // The same operator on the low bytes, or what serves as well, where that may be.
 #[tactic(auto, using(crate::proofs::Making::cut_made))]
-fn cut(c: &Core, lent: &[bool], copy: u16, turns: &Turns, here: &mut Vec<Mark>) -> Option<Core>
-    ensures made { IfSome result (λ made. IsMade (lent_by lent.now) copy (turns_of turns.now.list.items) (marks_of here.old.items) (tree_of c.now) (tree_of made) (marks_of here.new.items)) }
+fn cut(
+    c: &Core,
+    alone: bool,
+    lent: &[bool],
+    copy: u16,
+    turns: &Turns,
+    here: &mut Vec<Mark>,
+) -> Option<Core>
+    ensures made { IfSome result (λ made. IsMade alone (lent_by lent.now) copy (turns_of turns.now.list.items) (marks_of here.old.items) (tree_of c.now) (tree_of made) (marks_of here.new.items)) }
 {
     match c {
         Core::Binary {
@@ -49,6 +64,9 @@ fn cut(c: &Core, lent: &[bool], copy: u16, turns: &Turns, here: &mut Vec<Mark>) 
             left,
             right,
         } => {
+            if !may_change(alone, *op) {
+                return None;
+            }
             if !may_cut(lent, copy, here, *op, *ty, *to, *left, *right) {
                 return None;
             }
@@ -75,23 +93,24 @@ fn is_binary(c: &Core) -> bool {
 // An operation without parts.
 fn narrow_single(
     c: &Core,
+    alone: bool,
     lent: &[bool],
     copy: u16,
     turns: &Turns,
     hints: &mut Hints,
     here: &mut Vec<Mark>,
 ) -> Option<Core>
-    ensures made { IfSome result (λ made. IsMade (lent_by lent.now) copy (turns_of turns.now.list.items) (marks_of here.old.items) (tree_of c.now) (tree_of made) (marks_of here.new.items)) }
+    ensures made { IfSome result (λ made. IsMade alone (lent_by lent.now) copy (turns_of turns.now.list.items) (marks_of here.old.items) (tree_of c.now) (tree_of made) (marks_of here.new.items)) }
 {
     if is_binary(c) && hints.next_cut() {
-        cut(c, lent, copy, turns, here)
+        cut(c, alone, lent, copy, turns, here)
     } else {
-        stays(c, lent, copy, turns, here)
+        stays(c, alone, lent, copy, turns, here)
     }
 }
 
 #[tactic(auto, using(core_code::proofs::Views::tree_many))]
-fn made_many(parts: Vec<Core>) -> Core
+pub(crate) fn made_many(parts: Vec<Core>) -> Core
     ensures many { tree_of result ≡ Many (trees_of (trees_in parts.items)) }
 {
     Core::Many(parts)
@@ -99,7 +118,13 @@ fn made_many(parts: Vec<Core>) -> Core
 
 // A condition by its ways, the first of which is taken where the test holds.
 #[tactic(auto, using(core_code::proofs::Views::tree_if))]
-fn condition(alloc: Global, test: Byte, size: u8, yes: Core, no: Core) -> Result<Core, AllocError>
+pub(crate) fn condition(
+    alloc: Global,
+    test: Byte,
+    size: u8,
+    yes: Core,
+    no: Core,
+) -> Result<Core, AllocError>
     ensures condition { IfOk result (λ made. tree_of made ≡ If test size (tree_of yes) (tree_of no)) }
 {
     Ok(Core::If {
@@ -135,7 +160,7 @@ fn made_choice(
 }
 
 #[tactic(auto, using(core_code::proofs::Views::tree_loop))]
-fn made_loop(alloc: Global, body: Core) -> Result<Core, AllocError>
+pub(crate) fn made_loop(alloc: Global, body: Core) -> Result<Core, AllocError>
     ensures loop_made { IfOk result (λ made. tree_of made ≡ Loop (tree_of body)) }
 {
     Ok(Core::Loop(Box::new(alloc, body)?))
@@ -147,17 +172,19 @@ fn made_loop(alloc: Global, body: Core) -> Result<Core, AllocError>
 pub fn narrow_one(
     c: &Core,
     alloc: Global,
+    alone: bool,
     lent: &[bool],
     copy: u16,
     turns: &Turns,
     hints: &mut Hints,
     here: &mut Vec<Mark>,
 ) -> Result<Option<Core>, AllocError>
-    ensures made { IfOk result (λ found. IfSome found (λ made. IsMade (lent_by lent.now) copy (turns_of turns.now.list.items) (marks_of here.old.items) (tree_of c.now) (tree_of made) (marks_of here.new.items))) }
+    ensures made { IfOk result (λ found. IfSome found (λ made. IsMade alone (lent_by lent.now) copy (turns_of turns.now.list.items) (marks_of here.old.items) (tree_of c.now) (tree_of made) (marks_of here.new.items))) }
 {
     match c {
         Core::Many(parts) => {
-            let Some(made) = narrow_parts(parts, alloc, lent, copy, turns, hints, here)? else {
+            let Some(made) = narrow_parts(parts, alloc, alone, lent, copy, turns, hints, here)?
+            else {
                 return Ok(None);
             };
             Ok(Some(made_many(made)))
@@ -168,14 +195,15 @@ pub fn narrow_one(
             yes,
             no,
         } => {
-            let Some(way) = way_of(lent, copy, here, *test, *size) else {
+            let Some(way) = way_of(alone, lent, copy, here, *test, *size) else {
                 return Ok(None);
             };
             let mut other = copied(here)?;
-            let Some(first) = narrow_one(yes, alloc, lent, copy, turns, hints, here)? else {
+            let Some(first) = narrow_one(yes, alloc, alone, lent, copy, turns, hints, here)? else {
                 return Ok(None);
             };
-            let Some(second) = narrow_one(no, alloc, lent, copy, turns, hints, &mut other)? else {
+            let Some(second) = narrow_one(no, alloc, alone, lent, copy, turns, hints, &mut other)?
+            else {
                 return Ok(None);
             };
             let Some(both) = met(alloc, here, &other)? else {
@@ -185,8 +213,8 @@ pub fn narrow_one(
             *here = both;
             Ok(Some(made))
         }
-        Core::Loop(body) => narrow_loop(body, alloc, lent, copy, turns, hints, here),
-        _ => Ok(narrow_single(c, lent, copy, turns, hints, here)),
+        Core::Loop(body) => narrow_loop(body, alloc, alone, lent, copy, turns, hints, here),
+        _ => Ok(narrow_single(c, alone, lent, copy, turns, hints, here)),
     }
 }
 
@@ -196,13 +224,14 @@ pub fn narrow_one(
 fn narrow_loop(
     body: &Core,
     alloc: Global,
+    alone: bool,
     lent: &[bool],
     copy: u16,
     turns: &Turns,
     hints: &mut Hints,
     here: &mut Vec<Mark>,
 ) -> Result<Option<Core>, AllocError>
-    ensures made { IfOk result (λ found. IfSome found (λ made. IsMade (lent_by lent.now) copy (turns_of turns.now.list.items) (marks_of here.old.items) (Loop (tree_of body.now)) (tree_of made) (marks_of here.new.items))) }
+    ensures made { IfOk result (λ found. IfSome found (λ made. IsMade alone (lent_by lent.now) copy (turns_of turns.now.list.items) (marks_of here.old.items) (Loop (tree_of body.now)) (tree_of made) (marks_of here.new.items))) }
 {
     let turn = hints.next_turn(alloc, here.len())?;
     if !all_below(&turn.front, here) {
@@ -210,7 +239,7 @@ fn narrow_loop(
     }
     let inside = turns.with(alloc, &turn)?;
     let mut end = copied(&turn.front)?;
-    let Some(one) = narrow_one(body, alloc, lent, copy, &inside, hints, &mut end)? else {
+    let Some(one) = narrow_one(body, alloc, alone, lent, copy, &inside, hints, &mut end)? else {
         return Ok(None);
     };
     if !all_below(&turn.front, &end) {
@@ -227,17 +256,18 @@ fn narrow_loop(
 pub fn narrow_parts(
     parts: &[Core],
     alloc: Global,
+    alone: bool,
     lent: &[bool],
     copy: u16,
     turns: &Turns,
     hints: &mut Hints,
     here: &mut Vec<Mark>,
 ) -> Result<Option<Vec<Core>>, AllocError>
-    ensures made { IfOk result (λ found. IfSome found (λ made. AreMade (lent_by lent.now) copy (turns_of turns.now.list.items) (marks_of here.old.items) (trees_in parts.now) (trees_in made.items) (marks_of here.new.items))) }
+    ensures made { IfOk result (λ found. IfSome found (λ made. AreMade alone (lent_by lent.now) copy (turns_of turns.now.list.items) (marks_of here.old.items) (trees_in parts.now) (trees_in made.items) (marks_of here.new.items))) }
 {
     let mut made = Vec::new(alloc);
     for k in 0..parts.len() {
-        let Some(one) = narrow_one(&parts[k], alloc, lent, copy, turns, hints, here)? else {
+        let Some(one) = narrow_one(&parts[k], alloc, alone, lent, copy, turns, hints, here)? else {
             return Ok(None);
         };
         made.push(one)?;

@@ -1,7 +1,7 @@
 //! What is known along a body, found by going along it until nothing changes.
 
 use crate::marks::{Mark, both_say, copied, own_at};
-use crate::operations::{are_low_alone, may_cut, put_cut, write};
+use crate::operations::{are_low_alone, may_change, may_cut, put_cut, write};
 use crate::search::flat::{Flat, Step};
 use crate::turns::Turn;
 use core_code::Core;
@@ -14,9 +14,9 @@ const ROUNDS: usize = 16;
 #[derive(Clone, Copy, PartialEq, Eq)]
 pub enum Able {
     Never,
-    /// Where no more of the result is asked for.
+    /// Where types alone are to change, and no more of the result is asked for.
     Low,
-    /// And the low bytes stand for the operands.
+    /// Where comparisons and conditions are, and the low bytes stand for the operands.
     Small,
 }
 
@@ -29,6 +29,8 @@ pub struct Known {
 
 #[derive(Drop)]
 struct Round {
+    // whether types alone are to change
+    alone: bool,
     here: Vec<Mark>,
     // what is known of the other part of a condition
     saved: Vec<Vec<Mark>>,
@@ -85,13 +87,15 @@ fn is_cut(cuts: &[bool], at: usize) -> bool {
     }
 }
 
-fn able_of(may: bool, small: bool) -> Able {
+fn able_of(alone: bool, may: bool, small: bool) -> Able {
     if !may {
         Able::Never
+    } else if alone {
+        Able::Low
     } else if small {
         Able::Small
     } else {
-        Able::Low
+        Able::Never
     }
 }
 
@@ -129,9 +133,10 @@ impl Round {
                 right,
             } => {
                 let at = self.able.len();
-                let may = may_cut(lent, copy, &self.here, *op, *ty, *to, *left, *right);
+                let may = may_change(self.alone, *op)
+                    && may_cut(lent, copy, &self.here, *op, *ty, *to, *left, *right);
                 let small = are_low_alone(lent, copy, &self.here, *ty, *left, *right);
-                self.able.push(able_of(may, small))?;
+                self.able.push(able_of(self.alone, may, small))?;
                 if may && is_cut(cuts, at) {
                     put_cut(lent, copy, &mut self.here, *op, *ty, *to, *left, *right);
                     return Ok(true);
@@ -241,6 +246,7 @@ fn first_turns(alloc: Global, loops: usize, size: usize) -> Result<Vec<Turn>, Al
 
 fn known_round(
     alloc: Global,
+    alone: bool,
     flat: &Flat,
     lent: &[bool],
     copy: u16,
@@ -249,6 +255,7 @@ fn known_round(
     turns: &mut Vec<Turn>,
 ) -> Result<Round, AllocError> {
     let mut round = Round {
+        alone,
         here: filled(alloc, size, Mark::Same)?,
         saved: Vec::new(alloc),
         loops: Vec::new(alloc),
@@ -264,6 +271,7 @@ fn known_round(
 /// What is known along a body where these operators are done on the low bytes.
 pub fn known_in(
     alloc: Global,
+    alone: bool,
     flat: &Flat,
     lent: &[bool],
     copy: u16,
@@ -273,7 +281,7 @@ pub fn known_in(
     let mut turns = first_turns(alloc, flat.loops, size)?;
     let mut able = Vec::new(alloc);
     for _ in 0..ROUNDS {
-        let last = known_round(alloc, flat, lent, copy, size, cuts, &mut turns)?;
+        let last = known_round(alloc, alone, flat, lent, copy, size, cuts, &mut turns)?;
         able = last.able;
         if !last.changed {
             return Ok(Known { turns, able });

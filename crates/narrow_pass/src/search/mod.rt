@@ -32,20 +32,22 @@ fn turned(alloc: Global, mut turns: Vec<Turn>) -> Result<Vec<Turn>, AllocError> 
     Ok(back)
 }
 
-/// A proposal for a body with a frame of so many bytes, or none where nothing is gained.
+/// A proposal for a body with a frame of so many bytes, or none where no operator is to change. Where types alone are to change, no
+/// operator becomes another one, and conditions ask for all bytes of what they test.
 pub fn search(
     alloc: Global,
+    alone: bool,
     flat: &Flat,
     lent: &[bool],
     copy: u16,
     size: usize,
 ) -> Result<Option<Hints>, AllocError> {
     let none = Vec::new(alloc);
-    let before = known_in(alloc, flat, lent, copy, size, &none)?;
+    let before = known_in(alloc, alone, flat, lent, copy, size, &none)?;
     let cuts = cuts_in(alloc, flat, copy, size, &before.able)?;
     if !is_any(&cuts) {
         return Ok(None);
     }
-    let behind = known_in(alloc, flat, lent, copy, size, &cuts)?;
+    let behind = known_in(alloc, alone, flat, lent, copy, size, &cuts)?;
     Ok(Some(Hints::new(cuts, turned(alloc, behind.turns)?)))
 }

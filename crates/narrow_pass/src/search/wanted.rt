@@ -133,9 +133,9 @@ fn is_cut(copy: u16, wanted: &[Asked], c: &Core, able: Able) -> bool {
             BinOp::Lt | BinOp::Gt | BinOp::Le | BinOp::Ge => small,
             BinOp::Eq | BinOp::Ne => small && low != Asked::Value && high != Asked::Value,
             BinOp::And | BinOp::Or | BinOp::Xor => {
-                small && high != Asked::Value || able == Able::Low && high == Asked::Nothing
+                small && high == Asked::Test || able == Able::Low && high == Asked::Nothing
             }
-            _ => able != Able::Never && high == Asked::Nothing,
+            _ => able == Able::Low && high == Asked::Nothing,
         },
         _ => false,
     }

@@ -1,5 +1,5 @@
 use Rattle.std.proofs.Common.{◌≡◌, take}
-use Rattle.narrow_pass.proofs.pass.copied.Given as goal
+use Rattle.narrow_pass.proofs.copying.copied.Given as goal
 
 abbrev pub invariant-loop-byte : goal.invariant-loop-byte
 invariant-loop-byte l = l.made.items ≡ take l.byte-index l.bytes

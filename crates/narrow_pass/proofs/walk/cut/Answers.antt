@@ -15,7 +15,7 @@ returns-else-not-may_cut c =
     let b = c.in-Binary in
     record {
       made =
-          cut_made (lent_by c.args.lent.now) c.args.copy (turns_of c.args.turns.now.list.items) (marks_of c.args.here.now.items) (marks_of c.put_cut.new.here.items) b.op b.ty b.to b.left b.right (tree_of c.args.c.now)
-          (tree_of (Core.Binary c.low_op.result UChar b.to b.left b.right)) (rw c.deref.ensures.value at (sym c.may_cut.ensures ∙ c.if-not-may_cut.false)) (ap tree_of b.is ∙ tree_binary b.op b.ty b.to b.left b.right)
+          cut_made c.args.alone (lent_by c.args.lent.now) c.args.copy (turns_of c.args.turns.now.list.items) (marks_of c.args.here.now.items) (marks_of c.put_cut.new.here.items) b.op b.ty b.to b.left b.right (tree_of c.args.c.now)
+          (tree_of (Core.Binary c.low_op.result UChar b.to b.left b.right)) (sym c.may_change.ensures ∙ c.if-not-may_change.false) (rw c.deref.ensures.value at (sym c.may_cut.ensures ∙ c.if-not-may_cut.false)) (ap tree_of b.is ∙ tree_binary b.op b.ty b.to b.left b.right)
           (tree_binary c.low_op.result UChar b.to b.left b.right ∙ ap (λ (o : BinOp). tree.Binary o UChar b.to b.left b.right) c.low_op.ensures) c.put_cut.ensures;
     }
