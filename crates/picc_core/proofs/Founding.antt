@@ -31,8 +31,8 @@ use Rattle.code_place.specs.Places.{BlocksHaveAddresses, HasEnds}
 use Rattle.code_place.specs.Sizes.{Fit}
 use Rattle.flow_facts.proofs.Kept.{thinning_keeps}
 use Rattle.program_code.specs.Joined.{IsJoined}
-use Rattle.program_code.proofs.Bodies.{statics_kept}
-use Rattle.program_code.specs.Passed.{AreBlocks, AsLowered}
+use Rattle.program_code.proofs.Bodies.{as_lowered, statics_kept}
+use Rattle.program_code.specs.Passed.{AreBlocks}
 use Rattle.program_code.specs.Stated.{AreStated}
 use Rattle.ram_place.specs.Placement.{IsPlacing, LiveFramesAreDisjoint, FramesAreClear, ObjectsAreDisjoint}
 use Rattle.src_rules.specs.Numbers.{ProgramHasNumbers}
@@ -91,7 +91,7 @@ module _ (typed : Typed) (copies : List FnCopy) (placed : Placed) (at : List ℕ
   -- ---- code
   module _ (core : CoreProgram) (bodies : map body_of core.bodies.items ≡ bodies_of (program_of typed) copies) (statics : map items_of core.statics.items ≡ first_bytes (program_of typed)) where
     operands : (given : List SymBlock) → IsJoined core copies given → BlocksHaveOperands placed given × BlocksStandInside placed given
-    operands given joined = operands_have_addresses typed copies core core given placed founded.sound founded.roots founded.numbers bodies (AsLowered refl) joined founded.calls founded.spread.placing statics statics_few
+    operands given joined = operands_have_addresses typed copies core core given placed founded.sound founded.roots founded.numbers bodies (as_lowered core) joined founded.calls founded.spread.placing statics statics_few
 
     -- Selects can be put into the blocks that are joined from it.
     pub ready : (given : List SymBlock) → IsJoined core copies given → All (CanSelect placed) given

@@ -28,9 +28,9 @@ use Rattle.sym_code.specs.declared.code.SymBlock.{SymBlock}
 use Rattle.sym_code.specs.declared.code.SymProgram.{SymProgram}
 use Rattle.narrow_pass.proofs.Taken.{all_lent}
 use Rattle.narrow_pass.specs.Lent.{LendsOnly}
-use Rattle.narrow_pass.specs.Narrowed.{IsNarrowed, lent_by}
-use Rattle.program_code.proofs.Bodies.{few_kept, short_kept}
-use Rattle.program_code.specs.Passed.{IsByteCode, AsLowered, Narrower}
+use Rattle.narrow_pass.specs.Narrowed.{lent_by}
+use Rattle.program_code.proofs.Bodies.{as_lowered}
+use Rattle.program_code.specs.Passed.{IsByteCode}
 use Rattle.program_code.specs.Stated.{AreStated}
 use Rattle.picc_core.specs.Coded.{IsLeanTo, IsLeanOf, AsGiven, Seen, IsSymbolic}
 use Rattle.picc_core.specs.Founded.{IsFounded}
@@ -48,16 +48,6 @@ map_or f (x ∷ xs) (suc k) = map_or f xs k
 -- a count that is small is kept whole
 capped_is : (n : ℕ) → n ≤ 96 → capped n ≡ n
 capped_is n few = min-eq_left (omega (arith, few))
-
--- ---- byte code with operators on low bytes
-narrowed_code : (lowered : CoreProgram) (narrowed : Option CoreProgram) (core : CoreProgram) → IfSome narrowed (λ n. IsNarrowed lowered n) → narrowed ≡ Some core → IsByteCode lowered core
-narrowed_code lowered narrowed core all is = Narrower (subst (λ (o : Option CoreProgram). IfSome o (λ n. IsNarrowed lowered n)) is all)
-
-pub narrowed_few : (lowered : CoreProgram) (narrowed : Option CoreProgram) (core : CoreProgram) → IfSome narrowed (λ n. IsNarrowed lowered n) → narrowed ≡ Some core → length lowered.statics.items ≤ 65536 → length core.statics.items ≤ 65536
-narrowed_few lowered narrowed core all is few = let same = few_kept lowered core (narrowed_code lowered narrowed core all is) in omega (arith, same, few)
-
-pub narrowed_short : (lowered : CoreProgram) (narrowed : Option CoreProgram) (core : CoreProgram) → IfSome narrowed (λ n. IsNarrowed lowered n) → narrowed ≡ Some core → All HasNumberedBytes lowered.statics.items → All HasNumberedBytes core.statics.items
-narrowed_short lowered narrowed core all is short = short_kept lowered core (narrowed_code lowered narrowed core all is) short
 
 -- ---- bytes of variables
 module _ (typed : Typed) (copies : List FnCopy) (placed : Placed) (at : List ℕ) (founded : IsFounded typed copies placed at) where
@@ -118,14 +108,10 @@ module _ (typed : Typed) (copies : List FnCopy) (placed : Placed) (at : List ℕ
   symbolic_of : (lowered core : CoreProgram) (made : List SymBlock) → IsByteCode lowered core → IsLeanOf p core copies placed at made → IsSymbolic p lowered copies placed at made
   symbolic_of lowered core made code of = record { core = core; code = code; given = of.given; joined = of.joined; lent = of.is.lent; lends = of.is.lends; lean = of.is.lean; leaner = of.is.leaner; selects = of.is.selects; room = Seen of.is.stated }
 
-  -- of byte code with operators on low bytes,
-  from_narrower : (lowered core : CoreProgram) (found : Option SymProgram) → IsByteCode lowered core → IfSome found (λ m. IsLeanOf p core copies placed at m.blocks.items) → IfSome found (λ m. IsSymbolic p lowered copies placed at m.blocks.items)
-  from_narrower lowered core None is all = tt
-  from_narrower lowered core (Some made) is of = symbolic_of lowered core made.blocks.items is of
-
-  pub narrower_symbolic : (lowered : CoreProgram) (narrowed : Option CoreProgram) (core : CoreProgram) (found : Option SymProgram) → IfSome narrowed (λ n. IsNarrowed lowered n) → narrowed ≡ Some core
-      → IfSome found (λ m. IsLeanOf p core copies placed at m.blocks.items) → IfSome found (λ m. IsSymbolic p lowered copies placed at m.blocks.items)
-  narrower_symbolic lowered narrowed core found all is of = from_narrower lowered core found (narrowed_code lowered narrowed core all is) of
+  -- of byte code that goes by low bytes,
+  pub from_low : (lowered core : CoreProgram) (found : Option SymProgram) → IsByteCode lowered core → IfSome found (λ m. IsLeanOf p core copies placed at m.blocks.items) → IfSome found (λ m. IsSymbolic p lowered copies placed at m.blocks.items)
+  from_low lowered core None is all = tt
+  from_low lowered core (Some made) is of = symbolic_of lowered core made.blocks.items is of
 
   -- what is found is such code
   pub some_symbolic : (lowered : CoreProgram) (found : Option SymProgram) (made : SymProgram) → IfSome found (λ m. IsSymbolic p lowered copies placed at m.blocks.items) → found ≡ Some made → IsSymbolic p lowered copies placed at made.blocks.items
@@ -134,7 +120,7 @@ module _ (typed : Typed) (copies : List FnCopy) (placed : Placed) (at : List ℕ
   -- and of byte code as it is lowered
   pub lowered_symbolic : (core : CoreProgram) (found : Option SymProgram) → IfSome found (λ m. IsLeanOf p core copies placed at m.blocks.items) → IfSome found (λ m. IsSymbolic p core copies placed at m.blocks.items)
   lowered_symbolic core None all = tt
-  lowered_symbolic core (Some made) of = symbolic_of core core made.blocks.items (AsLowered refl) of
+  lowered_symbolic core (Some made) of = symbolic_of core core made.blocks.items (as_lowered core) of
 
   all_as_given : (blocks : List SymBlock) → AllZip IsAsGiven blocks blocks
   all_as_given [] = tt
@@ -144,7 +130,7 @@ module _ (typed : Typed) (copies : List FnCopy) (placed : Placed) (at : List ℕ
   pub given_symbolic : (core : CoreProgram) (handler : Option ℕ) (given made : List SymBlock) → IsJoined core copies given → handler ≡ handler_at copies → HasSelects placed handler at given made → IsSymbolic p core copies placed at made
   given_symbolic core handler given made joined same selects = record {
     core = core;
-    code = AsLowered refl;
+    code = as_lowered core;
     given = given;
     joined = joined;
     lent = λ c. true;

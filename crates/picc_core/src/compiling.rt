@@ -9,6 +9,7 @@ ghost use Rattle.headline.specs.SourceOf.{IsFaithfulTo};
 ghost use Rattle.pic_map.specs.MapText.{AreInRange};
 ghost use Rattle.pic_map.specs.MapView.{content_of, object_of, frame_of};
 ghost use Rattle.program_code.specs.Joined.{IsJoined};
+ghost use Rattle.program_code.specs.Passed.{IsByteCode};
 ghost use Rattle.program_code.specs.Stated.{AreStated};
 ghost use Rattle.program_code.specs.Translated.{IsTranslated};
 ghost use Rattle.ram_place.specs.Placement.{addresses_covered};
@@ -27,7 +28,7 @@ ghost use Rattle.picc_core.specs.declared.refusal.Refusal.TheVariants as refusal
 
 use crate::joining::joined;
 use crate::known::{Built, Front};
-use crate::leaner::{Saving, symbolic_by};
+use crate::leaner::{Saving, on_low_bytes, symbolic_by};
 use crate::refusal::CompileError;
 use crate::stages::front;
 use c_check::Typed;
@@ -90,10 +91,12 @@ fn built(alloc: Global, front: Front, saving: Saving) -> Result<Built, AllocErro
     })
 }
 
-/// Byte code, symbolic code as it was selected, and what is placed: leaner where that has room, with its selects.
+/// Byte code as it was lowered, and by low bytes; symbolic code as it was selected, and what is placed: leaner where that has room, with its
+/// selects.
 #[derive(Drop)]
 pub struct Codes {
     pub core: CoreProgram,
+    pub low: CoreProgram,
     pub plain: SymProgram,
     pub selected: SymProgram,
 }
@@ -101,6 +104,8 @@ pub struct Codes {
 /// The code of a text of which this is known, in each language below C.
 pub fn codes_of(alloc: Global, front: &Front) -> Result<Codes, AllocError>
     requires { IsFounded front.now.typed front.now.copies.list.items front.now.placed front.now.at.items }
+    // The other byte code is made of it with operators, comparisons and conditions on low bytes.
+    ensures low { IfOk result (λ codes. IsByteCode codes.core codes.low) }
     // Each copy has its block, a function the one that is selected for its body and a helper its routine, none is lost, and they stand in
     // the order of code.
     ensures plain { IfOk result (λ codes. IsJoined codes.core front.now.copies.list.items codes.plain.blocks.items) }
@@ -111,6 +116,7 @@ pub fn codes_of(alloc: Global, front: &Front) -> Result<Codes, AllocError>
     ensures stated { IfOk result (λ codes. AreStated (program_of front.now.typed) front.now.copies.list.items codes.selected.blocks.items) }
 {
     let core = lower(alloc, &front.typed, &front.copies)?;
+    let low = on_low_bytes(alloc, &core)?;
     let plain = joined(alloc, &core, &front.copies)?;
     let selected = symbolic_by(
         alloc,
@@ -123,6 +129,7 @@ pub fn codes_of(alloc: Global, front: &Front) -> Result<Codes, AllocError>
     )?;
     Ok(Codes {
         core,
+        low,
         plain,
         selected,
     })

@@ -9,6 +9,7 @@ ghost use Rattle.bank_page.specs.Ready.{CanSelect};
 ghost use Rattle.flow_facts.specs.Selects.{HasSelects};
 ghost use Rattle.isr_save.specs.Start.{HasNumberedBytes};
 ghost use Rattle.program_code.specs.Joined.{IsJoined};
+ghost use Rattle.program_code.specs.Passed.{IsByteCode};
 ghost use Rattle.ram_place.specs.Sizes as sizes;
 ghost use Rattle.picc_core.specs.Coded.{IsLeanOf, IsLeanTo, IsSymbolic};
 ghost use Rattle.picc_core.specs.Founded.{IsFounded};
@@ -22,7 +23,7 @@ use call_graph::{Copies, FnCopy};
 use core_code::CoreProgram;
 use flow_facts::selects;
 use lean_pass::lean;
-use narrow_pass::{lent_in, narrow};
+use narrow_pass::{lent_in, narrow, test_low_bytes};
 use pic_map::Placed;
 use ram_place::variable_bytes;
 use std::alloc::{AllocError, Global};
@@ -119,7 +120,17 @@ fn leaner_of(
     Ok(found)
 }
 
-// Such blocks of byte code whose operators are done on low bytes, where nothing needs the others.
+/// Byte code whose operators are done on low bytes, where nothing needs the others, and whose comparisons and conditions go by low bytes,
+/// where these tell as much.
+pub(crate) fn on_low_bytes(alloc: Global, core: &CoreProgram) -> Result<CoreProgram, AllocError>
+    ensures low { IfOk result (λ made. IsByteCode core.now made) }
+{
+    let narrowed = narrow(alloc, core)?;
+    let tested = test_low_bytes(alloc, &narrowed)?;
+    Ok(tested)
+}
+
+// Such blocks of byte code that goes by low bytes.
 fn narrower(
     alloc: Global,
     core: &CoreProgram,
@@ -133,11 +144,9 @@ fn narrower(
     requires short { All HasNumberedBytes core.now.statics.items }
     ensures { IfOk result (λ found. IfSome found (λ made. IsSymbolic (program_of typed.now) core.now copies.now.list.items placed.now at.now made.blocks.items)) }
 {
-    if let Some(narrowed) = narrow(alloc, core)? {
-        let found = leaner_of(alloc, &narrowed, typed, copies, placed, at)?;
-        return Ok(found);
-    }
-    Ok(None)
+    let low = on_low_bytes(alloc, core)?;
+    let found = leaner_of(alloc, &low, typed, copies, placed, at)?;
+    Ok(found)
 }
 
 // The leanest blocks: of byte code with operators on low bytes, or of byte code as it is.

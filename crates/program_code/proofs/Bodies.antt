@@ -1,5 +1,5 @@
--- Bodies of which blocks are made, beside those that were lowered: by their numbers they are the same ones, with operators done on low
--- bytes alone. So what such a change keeps of code holds of them where it held of lowered code.
+-- Bodies of which blocks are made, beside those that were lowered: by their numbers they are the same ones, with operators, comparisons and
+-- conditions on low bytes alone. So what such a change keeps of code holds of them where it held of lowered code.
 use Rattle.std.proofs.Common.{◌≡◌, ℕ, zero, suc, Bool, true, false, nat_eq, if◌then◌else◌, List, [], ◌∷◌, length, ◌≤◌, map, Option, Some, None, refl, sym, ap, ◌∙◌, subst, arith}
 use Rattle.std.specs.List.{All, AllZip}
 use Rattle.std.specs.Global.{Global}
@@ -16,9 +16,9 @@ use Rattle.lower_stmt.specs.FirstBytes.{items_of}
 use Rattle.narrow_code.specs.Plans.{Plans, all_given, all_made}
 use Rattle.narrow_code.specs.Drafts.{all_planned}
 use Rattle.narrow_code.proofs.Checking.{plans_are_of_code}
-use Rattle.narrow_pass.specs.Narrowed.{IsNarrowedBody, IsNarrowed, lent_by}
+use Rattle.narrow_pass.specs.Narrowed.{IsNarrowedBody, IsSameBody, AreNarrowed, ByPlans, Unchanged, IsNarrowed, lent_by}
 use Rattle.select_wide.specs.Blocks.{body_at}
-use Rattle.program_code.specs.Passed.{IsByteCode, AsLowered, Narrower}
+use Rattle.program_code.specs.Passed.{IsByteCode}
 
 pub trees_again : (ts : Trees) → trees_of (list_of ts) ≡ ts
 trees_again NoTree = refl
@@ -56,13 +56,32 @@ module _ (P : Trees → Type 0) (kept : (ps : Plans) → P (all_given ps) → P 
     by true false e below = absurd (cc)
     by false true e below = absurd (cc)
 
-  itself : (o : Option Body) → AreAlike P o o
-  itself None = tt
-  itself (Some body) = (refl, λ holds. holds)
+  same_alike : (given made : List Body) → AllZip IsSameBody given made → (c : ℕ) → AreAlike P (body_at given c) (body_at made c)
+  same_alike [] [] z c = tt
+  same_alike [] (m ∷ made) z c = absurd z
+  same_alike (g ∷ given) [] z c = absurd z
+  same_alike (g ∷ given) (m ∷ made) z c = by (nat_eq g.copy c) (nat_eq m.copy c) (ap (λ (n : ℕ). nat_eq n c) z.0.copy) (same_alike given made z.1 c) where
+    by : (s t : Bool) → t ≡ s → AreAlike P (body_at given c) (body_at made c) → AreAlike P (if s then Some g else body_at given c) (if t then Some m else body_at made c)
+    by true true e below = (z.0.root, λ holds. subst (λ (l : List Tree). P (trees_of l)) (sym z.0.code) holds)
+    by false false e below = below
+    by true false e below = absurd (cc)
+    by false true e below = absurd (cc)
+
+  all_alike : (given made : List Body) → AreNarrowed given made → (c : ℕ) → AreAlike P (body_at given c) (body_at made c)
+  all_alike given made (ByPlans flags z) c = zip_alike (lent_by flags) given made z c
+  all_alike given made (Unchanged z) c = same_alike given made z c
+
+  chained : (a b c : Option Body) → AreAlike P a b → AreAlike P b c → AreAlike P a c
+  chained None None c first second = second
+  chained None (Some m) c first second = absurd first
+  chained (Some g) None c first second = absurd first
+  chained (Some g) (Some m) None first second = absurd second
+  chained (Some g) (Some m) (Some n) first second = (second.0 ∙ first.0, λ holds. second.1 (first.1 holds))
 
   pub alike : (lowered core : CoreProgram) → IsByteCode lowered core → (c : ℕ) → AreAlike P (body_at lowered.bodies.items c) (body_at core.bodies.items c)
-  alike lowered core (AsLowered same) c = subst (λ (q : CoreProgram). AreAlike P (body_at lowered.bodies.items c) (body_at q.bodies.items c)) (sym same) (itself (body_at lowered.bodies.items c))
-  alike lowered core (Narrower is) c = zip_alike (lent_by is.lent) lowered.bodies.items core.bodies.items is.bodies c
+  alike lowered core code c =
+      chained (body_at lowered.bodies.items c) (body_at code.between.bodies.items c) (body_at core.bodies.items c) (all_alike lowered.bodies.items code.between.bodies.items code.narrowed.bodies c)
+      (all_alike code.between.bodies.items core.bodies.items code.tested.bodies c)
 
   -- so each body comes from one of its number,
   pub record IsFrom (lowered : List Body) (c : ℕ) (body : Body) : Type 0 where
@@ -92,8 +111,7 @@ module _ (P : Trees → Type 0) (kept : (ps : Plans) → P (all_given ps) → P 
 
 -- ---- first bytes
 pub statics_kept : (lowered core : CoreProgram) → IsByteCode lowered core → map items_of core.statics.items ≡ map items_of lowered.statics.items
-statics_kept lowered core (AsLowered same) = ap (λ (q : CoreProgram). map items_of q.statics.items) same
-statics_kept lowered core (Narrower is) = is.statics
+statics_kept lowered core code = code.tested.statics ∙ code.narrowed.statics
 
 -- static objects are as many, and have as many bytes
 pub few_kept : (lowered core : CoreProgram) → IsByteCode lowered core → length core.statics.items ≡ length lowered.statics.items
@@ -116,3 +134,14 @@ short_alike (x ∷ xs) (y ∷ ys) same all (suc k) d lt = short_alike xs ys (ap 
 
 pub short_kept : (lowered core : CoreProgram) → IsByteCode lowered core → All HasNumberedBytes lowered.statics.items → All HasNumberedBytes core.statics.items
 short_kept lowered core code all = short_alike core.statics.items lowered.statics.items (statics_kept lowered core code) all
+
+-- ---- byte code as it is lowered
+all_same : (bodies : List Body) → AllZip IsSameBody bodies bodies
+all_same [] = tt
+all_same (b ∷ bodies) = (record { copy = refl; root = refl; code = refl }, all_same bodies)
+
+unchanged : (core : CoreProgram) → IsNarrowed core core
+unchanged core = record { statics = refl; bodies = Unchanged (all_same core.bodies.items) }
+
+pub as_lowered : (core : CoreProgram) → IsByteCode core core
+as_lowered core = record { between = core; narrowed = unchanged core; tested = unchanged core }

@@ -24,10 +24,12 @@ use Rattle.narrow_pass.specs.Narrowed.{IsNarrowed}
 use Rattle.program_code.specs.Joined.{IsJoined}
 use Rattle.program_code.specs.Stated.{AreStated}
 
--- Byte code of which blocks are made: as it was lowered, or with operators that are done on low bytes alone.
-pub data IsByteCode (lowered core : CoreProgram) : Type 0 where
-  AsLowered : core ≡ lowered → IsByteCode lowered core
-  Narrower : IsNarrowed lowered core → IsByteCode lowered core
+-- Byte code of which blocks are made: as it was lowered, then with operators that are done on low bytes alone, and then with comparisons
+-- and conditions by low bytes. Each step may leave all as it was.
+pub record IsByteCode (lowered core : CoreProgram) : Type 0 where
+  pub between : CoreProgram
+  pub narrowed : IsNarrowed lowered between
+  pub tested : IsNarrowed between core
 
 -- The blocks of a program as they were selected, leaner, and with their selects: what each pass promises, from a typed program on.
 pub record AreBlocks (p : Program) (copies : List FnCopy) (core : CoreProgram) (given lean made : List SymBlock) (placed : Placed) : Type 0 where
