@@ -4,7 +4,7 @@ ghost use Rattle.std.specs.Prelude.{◌≤◌, length, IfOk};
 ghost use Rattle.std.specs.List.{All};
 ghost use Rattle.isr_save.specs.Start.{HasNumberedBytes};
 
-use crate::narrow::{is_low, narrowed, tests_byte};
+use crate::narrow::{is_low, narrowed, operators_on_bytes, tested, tests_byte};
 use crate::operations::{operator, put_operation};
 use crate::reading::{block, cut, instruction, number, small};
 use bank_page::{can_select, selects_plain};
@@ -258,6 +258,13 @@ impl Bench {
         Ok(())
     }
 
+    fn test_low_bytes(&mut self, alloc: Global) -> Result<(), AllocError> {
+        let mut code = self.taken_code(alloc);
+        code.push(Core::Leave)?;
+        self.low = tested(alloc, code)?;
+        Ok(())
+    }
+
     // One of the passes; whether it is one.
     fn pass(&mut self, alloc: Global, key: &str, rest: &str) -> Result<bool, AllocError> {
         match key {
@@ -268,6 +275,7 @@ impl Bench {
             "code" => self.select_byte(alloc)?,
             "select" => self.select(alloc)?,
             "narrow" => self.narrow(alloc)?,
+            "test" => self.test_low_bytes(alloc)?,
             _ => return Ok(false),
         }
         Ok(true)
@@ -372,7 +380,7 @@ impl Bench {
                 let (at, part) = cut(rest);
                 tests_byte(&self.low, number(at) as usize, part == "no")
             }
-            "stays" => self.low.is_empty(),
+            "operators" => operators_on_bytes(&self.low) == number(rest) as u32,
             _ => return None,
         };
         Some(holds && self.is_read)

@@ -3,13 +3,13 @@
 //! A case begins with its name. `object` and `frame` say where a static object and a copy's frame stand, with their sizes; `block`
 //! begins a block, and `put` has its instructions; `do` has operations of main's body, each behind those in it. Then comes a pass:
 //! `code` and `select` select instructions for the last operation and for main's body, `narrow` does operators of it on low bytes
-//! alone, `plain` puts the selects of banks and pages into the blocks that they need by straight code, `selects` those that they need by
-//! flow facts, for a handler and blocks at these addresses, `start` makes the start block for a handler, of an object of two bytes, 0 and the low byte of its
+//! alone, `test` comparisons and conditions, `plain` puts the selects of banks and pages into the blocks that they need by straight code,
+//! `selects` those that they need by flow facts, for a handler and blocks at these addresses, `start` makes the start block for a handler, of an object of two bytes, 0 and the low byte of its
 //! own address. What is wanted of what is made: `blocks`, how many; `made`, that there is a block of this number, to which `wants`,
 //! its instructions (`*` is any), and `end` belong; `lengths`, how many instructions each block has; `name`, a block's name. Of
 //! narrowed operations by their places: `low`, that it is an operator on bytes or a loop that ends by one, `high`, that it is not,
-//! `operator`, which one on bytes it is, `tests`, that it is a condition on one byte with something to do in this part alone;
-//! and `stays`, that nothing is gained.
+//! `operator`, which one on bytes it is, `operators`, how many on bytes there are, and `tests`, that it is a condition on one byte
+//! with something to do in this part alone.
 //!
 //! The instructions were written by hand from the instruction table of the data sheet DS39582.
 
@@ -346,33 +346,46 @@ high 4
 case what is equal has no bit that differs: `if (a == b)` of chars: the bytes have no bit that differs just where they are equal
 do copy F0.0 S0.0; convert uchar int F0.0; copy F0.2 S0.0; convert uchar int F0.2; eq int F0.0 F0.0 F0.2; copy S0.4 F0.4
 do many 0; if F0.0 2
-narrow
+test
 operator 4 xor
 tests 5 no
 case what differs has a bit that does
 do copy F0.0 S0.0; convert uchar int F0.0; copy F0.2 S0.0; convert uchar int F0.2; ne int F0.0 F0.0 F0.2; copy S0.4 F0.4
 do many 0; if F0.0 2
-narrow
+test
 operator 4 xor
 tests 5 yes
 case equality whose answer is used stays: the answer is written, so it has to be 0 or 1
 do copy F0.0 S0.0; convert uchar int F0.0; copy F0.2 S0.0; convert uchar int F0.2; eq int F0.0 F0.0 F0.2; copy S0.0 F0.0
-narrow
-stays
+test
+operators 0
 case an order of chars is one of bytes, and the answer is the same
 do copy F0.0 S0.0; convert uchar int F0.0; copy F0.2 S0.0; convert uchar int F0.2; lt int F0.0 F0.0 F0.2; copy S0.0 F0.0
 do copy S0.1 F0.1
-narrow
+test
 operator 4 lt
 case a comparison of ints stays: the high byte of an int is not known
 do copy F0.2 S0.0; convert uchar int F0.2; copy F0.0 S0.0; copy F0.1 S0.1; eq int F0.0 F0.0 F0.2; copy S0.4 F0.4; many 0
 do if F0.0 2
+test
+operators 0
+case comparisons are none of the operators whose types alone change
+do copy F0.0 S0.0; convert uchar int F0.0; copy F0.2 S0.0; convert uchar int F0.2; lt int F0.0 F0.0 F0.2; copy S0.0 F0.0
 narrow
-stays
+operators 0
+high 4
+case of two sums of a and b, of one of which the upper byte is shifted into the answer, the other one is narrowed
+do copy F0.0 S0.0; convert uchar int F0.0; copy F0.2 S0.1; convert uchar int F0.2; add int F0.0 F0.0 F0.2
+do set F0.2 1; set F0.3 0; shr int F0.0 F0.0 F0.2; copy D6 F0.0
+do copy F0.0 S0.0; convert uchar int F0.0; copy F0.2 S0.1; convert uchar int F0.2; add int F0.0 F0.0 F0.2; copy D7 F0.0
+narrow
+operators 1
+high 4
+operator 13 add
 ";
 
 #[test]
 fn operators_are_done_on_low_bytes(rt: HostRuntime) -> Result<(), Fail> {
-    assert_eq!(rt; check(&rt, rt.alloc(), NARROW)?, (9, 11));
+    assert_eq!(rt; check(&rt, rt.alloc(), NARROW)?, (11, 16));
     Ok(())
 }

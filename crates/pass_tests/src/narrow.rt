@@ -2,19 +2,27 @@
 
 use crate::bench::program;
 use c_ints::IntTy;
-use core_code::Core;
-use narrow_pass::narrow;
+use core_code::{Core, CoreProgram};
+use narrow_pass::{narrow, test_low_bytes};
 use std::alloc::{AllocError, Global};
 
-/// What becomes of main's body; nothing, where nothing is gained.
+/// What becomes of main's body.
 pub fn narrowed(alloc: Global, code: Vec<Core>) -> Result<Vec<Core>, AllocError> {
     let given = program(alloc, code)?;
-    if let Some(mut made) = narrow(alloc, &given)? {
-        if let Some(body) = made.bodies.pop() {
-            return Ok(body.code);
-        }
+    Ok(main_in(alloc, narrow(alloc, &given)?))
+}
+
+/// The same of comparisons and conditions.
+pub fn tested(alloc: Global, code: Vec<Core>) -> Result<Vec<Core>, AllocError> {
+    let given = program(alloc, code)?;
+    Ok(main_in(alloc, test_low_bytes(alloc, &given)?))
+}
+
+fn main_in(alloc: Global, mut made: CoreProgram) -> Vec<Core> {
+    match made.bodies.pop() {
+        Some(body) => body.code,
+        None => Vec::new(alloc),
     }
-    Ok(Vec::new(alloc))
 }
 
 fn is_operator_on_bytes(c: Option<&Core>) -> bool {
@@ -33,6 +41,17 @@ pub fn is_low(code: &[Core], at: usize) -> bool {
         },
         other => is_operator_on_bytes(other),
     }
+}
+
+/// How many operators on bytes there are, but for those in loops and conditions.
+pub fn operators_on_bytes(code: &[Core]) -> u32 {
+    let mut count: u32 = 0;
+    for c in code {
+        if is_operator_on_bytes(Some(c)) {
+            count = count.saturating_add(1);
+        }
+    }
+    count
 }
 
 fn is_empty(c: &Core) -> bool {

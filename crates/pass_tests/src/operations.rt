@@ -5,9 +5,10 @@ use c_ints::{BinOp, IntTy, UnOp};
 use core_code::Core;
 use std::alloc::{AllocError, Global};
 
-const OPERATORS: [(&str, BinOp); 6] = [
+const OPERATORS: [(&str, BinOp); 7] = [
     ("add", BinOp::Add),
     ("shl", BinOp::Shl),
+    ("shr", BinOp::Shr),
     ("lt", BinOp::Lt),
     ("eq", BinOp::Eq),
     ("ne", BinOp::Ne),

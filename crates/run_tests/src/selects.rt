@@ -1,5 +1,6 @@
 //! Leaner code with selects by flow facts takes fewer words than code as it was selected, with selects by straight code alone; and of
-//! the selects alone there are fewer.
+//! the selects alone there are fewer. It is made of byte code with operators on
+//! low bytes.
 
 use crate::comparing::real_words;
 use crate::firmware::{LOCK, METER, PUMP};
@@ -7,6 +8,8 @@ use crate::interrupts::{KEY, TWO_COPIES};
 use crate::statements::TEXTS;
 use bank_page::kinds::{is_label, is_select};
 use bank_page::{can_select, selects_plain};
+use c_ints::IntTy;
+use core_code::{Core, CoreProgram};
 use picc_core::{codes_of, compile, compile_plain, front};
 use std::alloc::Global;
 use std::test::Fail;
@@ -71,6 +74,53 @@ fn selects_of(alloc: Global, text: &str) -> Result<(u32, u32), Fail> {
 // Two sums: of one the upper byte is used, of the other it isn't.
 const SUMS: &str =
     "void main(void){unsigned char a=200;unsigned char b=100;PORTB=(a+b)>>1;PORTC=a+b;}";
+
+// How many operators on bytes there are in an operation, but for those in loops and conditions.
+#[cycle(counting)]
+fn byte_operators_of(c: &Core) -> u32 {
+    match c {
+        Core::Binary { ty, .. } => { if *ty == IntTy::UChar { 1 } else { 0 } }
+        Core::Many(parts) => byte_operators_of_all(parts),
+        _ => 0,
+    }
+}
+
+#[cycle(counting)]
+fn byte_operators_of_all(code: &[Core]) -> u32 {
+    let mut count: u32 = 0;
+    for c in code {
+        count = count.saturating_add(byte_operators_of(c));
+    }
+    count
+}
+
+fn byte_operators_in(program: &CoreProgram) -> u32 {
+    let mut count: u32 = 0;
+    for body in &program.bodies {
+        count = count.saturating_add(byte_operators_of_all(&body.code));
+    }
+    count
+}
+
+// These of a text's byte code as it was lowered, and of that of which its blocks are made.
+fn byte_operators(alloc: Global, text: &str) -> Result<(u32, u32), Fail> {
+    let Ok(front) = front(alloc, text.as_bytes()) else {
+        return Err(Fail::new("refused"));
+    };
+    let codes = codes_of(alloc, &front)?;
+    Ok((
+        byte_operators_in(&codes.core),
+        byte_operators_in(&codes.low),
+    ))
+}
+
+// C does sums as ints. Of the first one the upper byte is shifted into the answer, of the second one nothing asks for it. `test_low_bytes` alone
+// changes no sum.
+#[test]
+fn a_sum_of_which_the_low_byte_is_used_is_done_on_bytes(rt: HostRuntime) -> Result<(), Fail> {
+    assert_eq!(rt; byte_operators(rt.alloc(), SUMS)?, (0, 1));
+    Ok(())
+}
 
 #[test]
 fn firmware_has_fewer_words(rt: HostRuntime) -> Result<(), Fail> {
