@@ -24,4 +24,3 @@ pub mod Cells
 pub mod Through
 pub mod Bounds
 pub mod Ordering
-pub mod Twins
