@@ -8,7 +8,7 @@ use Rattle.pic_chip.specs.Changes.{after_reading, flagged, keeps_flags, finished
 use Rattle.pic_chip.specs.State.{State, AtW, AtZ}
 use Rattle.pic_chip.specs.Act.{Derived, Act, value_in, apply, effect, perform, accesses, made}
 use Rattle.pic_chip.specs.Address.{Place, operand}
-use Rattle.pic_chip.specs.Instructions.{contents, row, byte_row, test_row, bit_row, sum, difference, complement, increment, decrement, swap, is_zero, is_empty, note, write_note, number, part, of, following, to}
+use Rattle.pic_chip.specs.Instructions.{contents, big, row, byte_row, test_row, bit_row, sum, difference, complement, increment, decrement, swap, is_zero, is_empty, note, write_note, number, part, of, following, to}
 use Rattle.pic_chip.specs.Operations.{result_of, flags_of, next_of}
 use Rattle.pic_chip.proofs.Done.{row_runs, row_notes, test_runs, test_notes, write_runs, write_notes}
 use Rattle.pic_isa.specs.declared.Ins.TheVariants as isa
@@ -178,39 +178,39 @@ module _ (inputs : List ℕ) (s : State) (f : ℕ) (p : Place) (leads : (next : 
   file_done op d =
       let v = contents inputs s.pc p in
       ap (λ a. perform a s) (row_is inputs s.pc op f d)
-      ∙ sym (row_runs inputs s f p leads d (result_of (operation_of op)) (flags_of (operation_of op)) (next_of s.pc (operation_of op)) (res op s.w s.c read_value) _ (flg op s.w read_value)
+      ∙ sym (row_runs big inputs s f p leads d (result_of (operation_of op)) (flags_of (operation_of op)) (next_of s.pc (operation_of op)) (res op s.w s.c read_value) _ (flg op s.w read_value)
       (result_is s v op) (next_is s v s.pc op) (flags_are s v op) (empty_is s v op))
 
   pub file_notes : (op : FileOperation) (d : Bool) → accesses (row inputs s.pc (file_row op f d)) s
       ≡ made (note false p (contents inputs s.pc p) ++ write_note d p (result_of (operation_of op) (contents inputs s.pc p))) s
-  file_notes op d = ap (λ a. accesses a s) (row_is inputs s.pc op f d) ∙ sym (row_notes inputs s f p leads d (result_of (operation_of op)) (flags_of (operation_of op)) (next_of s.pc (operation_of op)))
+  file_notes op d = ap (λ a. accesses a s) (row_is inputs s.pc op f d) ∙ sym (row_notes big inputs s f p leads d (result_of (operation_of op)) (flags_of (operation_of op)) (next_of s.pc (operation_of op)))
 
   -- BCF and BSF
   pub change_done : (change : ℕ → ℕ) → perform (bit_row inputs s.pc f change) s ≡ row_done ((s.pc + 1) % 8192) p true (change read_value) Keep s
-  change_done change = sym (row_runs inputs s f p leads true (of change) (λ x. []) (λ x. following s.pc) (change read_value) ((s.pc + 1) % 8192) Keep refl refl (λ t. refl) refl)
+  change_done change = sym (row_runs big inputs s f p leads true (of change) (λ x. []) (λ x. following s.pc) (change read_value) ((s.pc + 1) % 8192) Keep refl refl (λ t. refl) refl)
 
   pub change_notes : (change : ℕ → ℕ) → accesses (bit_row inputs s.pc f change) s ≡ made (note false p (contents inputs s.pc p) ++ write_note true p (of change (contents inputs s.pc p))) s
-  change_notes change = sym (row_notes inputs s f p leads true (of change) (λ x. []) (λ x. following s.pc))
+  change_notes change = sym (row_notes big inputs s f p leads true (of change) (λ x. []) (λ x. following s.pc))
 
   -- BTFSC and BTFSS
   pub test_done : (b v : ℕ) → perform (test_row inputs s.pc f b v) s ≡ after_reading p (record s { pc = (s.pc + (if nat_eq (bit read_value b) v then 2 else 1)) % 8192 })
-  test_done b v = sym (test_runs inputs s f p leads b v _ refl)
+  test_done b v = sym (test_runs big inputs s f p leads b v _ refl)
 
   pub tested : (b v : ℕ) → accesses (test_row inputs s.pc f b v) s ≡ made (note false p (contents inputs s.pc p)) s
-  tested b v = sym (test_notes inputs s f p leads b v)
+  tested b v = sym (test_notes big inputs s f p leads b v)
 
   -- MOVWF and CLRF
   pub movwf_done : perform (row inputs s.pc (isa.Movwf f)) s ≡ finished p true s.w Keep (record s { pc = (s.pc + 1) % 8192 })
-  movwf_done = sym (write_runs inputs s f p leads (part AtW) [] s.w Keep refl (λ t. refl) refl)
+  movwf_done = sym (write_runs big inputs s f p leads (part AtW) [] s.w Keep refl (λ t. refl) refl)
 
   pub movwf_notes : accesses (row inputs s.pc (isa.Movwf f)) s ≡ made (note true p (part AtW)) s
-  movwf_notes = sym (write_notes inputs s f p leads (part AtW) [])
+  movwf_notes = sym (write_notes big inputs s f p leads (part AtW) [])
 
   pub clrf_done : perform (row inputs s.pc (isa.Clrf f)) s ≡ finished p true 0 OnlyZ (record s { pc = (s.pc + 1) % 8192 })
-  clrf_done = sym (write_runs inputs s f p leads (number 0) (to AtZ (number 1) ∷ []) 0 OnlyZ refl (λ t. refl) refl)
+  clrf_done = sym (write_runs big inputs s f p leads (number 0) (to AtZ (number 1) ∷ []) 0 OnlyZ refl (λ t. refl) refl)
 
   pub clrf_notes : accesses (row inputs s.pc (isa.Clrf f)) s ≡ made (note true p (number 0)) s
-  clrf_notes = sym (write_notes inputs s f p leads (number 0) (to AtZ (number 1) ∷ []))
+  clrf_notes = sym (write_notes big inputs s f p leads (number 0) (to AtZ (number 1) ∷ []))
 
 -- ---- symbolic code
 module _ (r : Registers) (x : ℕ) where
