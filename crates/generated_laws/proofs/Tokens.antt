@@ -40,7 +40,7 @@ abbrev pub in_turn : ℕ → ℕ → List Tok → Bool
 in_turn at size [] = true
 in_turn at size (t ∷ ts) = nat_le at t.start && (nat_le t.start t.end && (nat_le t.end size && in_turn t.start size ts))
 
-drop_none : (n : ℕ) → drop n [] ≡ []
+drop_none : (n : ℕ) → drop {A = ℕ} n [] ≡ []
 drop_none zero = refl
 drop_none (suc n) = refl
 

@@ -48,11 +48,11 @@ seen_symbols : (a c : Bool × Symbols) → Some a ≡ Some c → a ≡ c
 seen_symbols a c is = cc
 
 tree_of : (text : List ℕ) (tree : List ItemTree) (r : Result (List Tok) LexError) → tokens_of text ≡ r → seen text r ≡ Some (true, spelled_unit tree) → IsUnit tree → IsTreeOf text tree
-tree_of text tree (Ok raw) is as unit =
-    let both = seen_symbols (is_kept text raw (words_along 0 text raw), symbols_by raw (words_along 0 text raw)) (true, spelled_unit tree) as in
+tree_of text tree (Ok raw) is same unit =
+    let both = seen_symbols (is_kept text raw (words_along 0 text raw), symbols_by raw (words_along 0 text raw)) (true, spelled_unit tree) same in
     let read = plainly_read text raw is (ap (λ (x : Bool × Symbols). x.0) both) in
     record { toks = raw; tokens = read.0; grammar = unit; spelled = read.1 ∙ ap (λ (x : Bool × Symbols). x.1) both }
-tree_of text tree (Err e) is as unit = absurd (cc)
+tree_of text tree (Err e) is same unit = absurd (cc)
 
 module _ (k : ℕ) (low : 0 < k) (high : k ≤ 64) where
   abbrev p : Program
@@ -141,7 +141,7 @@ module _ (k : ℕ) (low : 0 < k) (high : k ≤ 64) where
       }
     where
       has_tree : HasTree (generated k)
-      has_tree = let is = typed.of_text in record { toks = is.toks; tree = generated_tree k; tokens = is.tokens; grammar = is.grammar; spelled = is.spelled }
+      has_tree = let is = typed.of_text in record { toks = is.toks; tree = typed.tree; tokens = is.tokens; grammar = is.grammar; spelled = is.spelled }
 
       ordered : IsCodeOrder (generated_copies k) (generated_order k)
       ordered = in_order k
