@@ -123,9 +123,10 @@ module _ (p : Program) (k : ℕ) (graph : graph_of p ≡ generated_graph k) wher
   main_lowest b lt low free = free 0x20 (omega (arith, lt)) (omega (arith, low)) (inl refl)
 
   main_stands : Stands TakenForMain 4 0x21
-  main_stands =
-      (λ zero. absurd (omega (arith, zero)),
-      λ some. inl (((omega arith, omega arith), λ x low high taken. main_free x low taken), λ b lt place. main_lowest b lt place.0.0 (λ x l h t. place.1 x l h t)))
+  main_stands = (
+    λ zero. absurd (omega (arith, zero)),
+    λ some. inl (((omega arith, omega arith), λ x low high taken. main_free x low taken), λ b lt place. main_lowest b lt place.0.0 (λ x l h t. place.1 x l h t)),
+  )
 
   abbrev TakenFor : ℕ → ℕ → Type 0
   TakenFor j x = IsTakenFor p generated_objects (generated_copies k) (main_frame ∷ take j (frames_from 0 k)) (copy_of j) x
@@ -139,18 +140,21 @@ module _ (p : Program) (k : ℕ) (graph : graph_of p ≡ generated_graph k) wher
   function_lowest j b lt low high free = free 0x24 (omega (arith, low)) (omega (arith, high)) (inr (inl (main_lives j lt, refl)))
 
   function_stands : (j : ℕ) → j < k → Stands (TakenFor j) 9 0x25
-  function_stands j lt =
-      (λ zero. absurd (omega (arith, zero)),
-      λ some. inl (((omega arith, omega arith), λ x low high taken. function_free j x lt low taken), λ b less place. function_lowest j b lt less place.0.0 (λ x l h t. place.1 x l h t)))
+  function_stands j lt = (
+    λ zero. absurd (omega (arith, zero)),
+    λ some. inl (((omega arith, omega arith), λ x low high taken. function_free j x lt low taken), λ b less place. function_lowest j b lt less place.0.0 (λ x l h t. place.1 x l h t)),
+  )
 
 -- ---- the placing
 object_stands : Stands (IsTaken []) 1 0x20
-object_stands =
-    (λ zero. absurd (omega (arith, zero)),
-    λ some. inl (((omega arith, omega arith), λ x low high taken. false_true taken), λ b lt place. below b lt place.0.0))
+object_stands = (
+  λ zero. absurd (omega (arith, zero)),
+  λ some. inl (((omega arith, omega arith), λ x low high taken. false_true taken), λ b lt place. below b lt place.0.0),
+)
   where
     false_true : false ≡ true → ⊥
     false_true e = absurd (cc)
+
     below : (b : ℕ) → b < 0x20 → 0x20 ≤ b → ⊥
     below b lt low = omega (arith, lt, low)
 

@@ -215,6 +215,7 @@ plainly_read text raw is all =
     let d = and_parts (list_all is_plain raw) (nat_le (length raw) 262144 && is_none (first_over 0 0 raw)) c.1 in
     let e = and_parts (nat_le (length raw) 262144) (is_none (first_over 0 0 raw)) d.1 in
     let same : map (word_of text) raw ≡ spelled = words_same text 0 raw b.0 in
-    let free : list_all is_free (map (word_of text) raw) ≡ true = ap (list_all is_free) same ∙ c.0 in
-    (ap within_limits (left_all text raw is a.0 (kept_all text raw d.0 free (leb-true (length raw) 262144 e.0)) d.0) ∙ within raw (first_over 0 0 raw) e.1,
-    symbols_same text raw ∙ ap (symbols_by raw) same)
+    let free : list_all is_free (map (word_of text) raw) ≡ true = ap (list_all is_free) same ∙ c.0 in (
+      ap within_limits (left_all text raw is a.0 (kept_all text raw d.0 free (leb-true (length raw) 262144 e.0)) d.0) ∙ within raw (first_over 0 0 raw) e.1,
+      symbols_same text raw ∙ ap (symbols_by raw) same,
+    )

@@ -182,7 +182,8 @@ module _ (p : Program) (copies : List FnCopy) where
   -- objects and frames have one placing
   pub one_placing : (objects others : List ObjectLine) (frames more : List FrameLine) → IsPlacing p copies objects frames → IsPlacing p copies others more → (objects ≡ others) × (frames ≡ more)
   one_placing objects others frames more here there =
-      let same : objects ≡ others = objects_once p objects others here.objects_stand there.objects_stand here.each_object there.each_object in
-      (same,
-      whole_once copies (IsFrame p objects copies) (frame_once p objects copies) frames more here.frames_stand
-      (subst (λ (l : List ObjectLine). AreFrames p l copies more) (sym same) there.frames_stand) here.each_frame there.each_frame)
+      let same : objects ≡ others = objects_once p objects others here.objects_stand there.objects_stand here.each_object there.each_object in (
+        same,
+        whole_once copies (IsFrame p objects copies) (frame_once p objects copies) frames more here.frames_stand
+            (subst (λ (l : List ObjectLine). AreFrames p l copies more) (sym same) there.frames_stand) here.each_frame there.each_frame,
+      )
