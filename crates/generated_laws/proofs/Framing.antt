@@ -1,17 +1,17 @@
 -- Where the object and the frames of a generated program stand.
-use Rattle.std.proofs.Common.{◌≡◌, ℕ, zero, suc, ◌+◌, ◌<◌, ◌≤◌, ◌⊎◌, inl, inr, ⊎_elim, Bool, true, false, ◌||◌, List, [], ◌∷◌, length, take, Option, Some, None, refl, ap, sym, ◌∙◌, subst, arith, if◌then◌else◌}
+use Rattle.std.proofs.Common.{◌≡◌, ℕ, zero, suc, ◌+◌, ◌<◌, ◌≤◌, inl, inr, Bool, true, false, ◌||◌, List, [], ◌∷◌, length, take, Option, Some, refl, ap, sym, ◌∙◌, subst, arith, if◌then◌else◌}
 use Rattle.std.specs.Prelude.{slice_get}
 use Rattle.std.proofs.lemmas.Option.{slice_get_within}
-use Rattle.c_typed.specs.Chains.{graph_of, IsChain, Reaches}
+use Rattle.c_typed.specs.Chains.{graph_of, IsChain}
 use Rattle.c_typed.specs.Room.{frame_size, room, place_room, arguments_room, statement_room, statements_room, arm_room, arms_room, last_room}
 use Rattle.c_typed.specs.Trees.{FunctionTree, StaticTree, Program}
 use Rattle.call_graph.specs.declared.types.FnCopy.{FnCopy}
-use Rattle.live_frames.specs.Memory.{covers, Stands, IsLowestIn, IsPlace, regions, count_below, counted}
+use Rattle.live_frames.specs.Memory.{covers, Stands, count_below, counted}
 use Rattle.live_frames.specs.Together.{MayBeLive, LiveFramesHave}
 use Rattle.live_frames.proofs.FreeRuns.{covers_tells}
 use Rattle.pic_map.specs.MapContent.{ObjectLine, FrameLine}
 use Rattle.pic_world.specs.declared.Root.TheVariants as root
-use Rattle.ram_place.specs.Placement.{objects_have, frames_have, IsTaken, IsTakenFor, object_line, frame_line, IsObject, IsFrame, AreObjects, AreFrames, IsPlacing, addresses_covered}
+use Rattle.ram_place.specs.Placement.{objects_have, frames_have, IsTaken, IsTakenFor, frame_line, IsObject, IsFrame, AreObjects, AreFrames, IsPlacing, addresses_covered}
 use Rattle.ram_place.specs.Sizes.{name_or_none, size_or_none}
 use Rattle.generated_laws.specs.Placed.{main_copy, copy_of, copies_from, generated_copies, object_at, main_frame, frame_of, frames_from, generated_objects, generated_frames, generated_graph}
 use Rattle.generated_laws.specs.Tree.{function_name}
@@ -123,9 +123,10 @@ module _ (p : Program) (k : ℕ) (graph : graph_of p ≡ generated_graph k) wher
   main_lowest b lt low free = free 0x20 (omega (arith, lt)) (omega (arith, low)) (inl refl)
 
   main_stands : Stands TakenForMain 4 0x21
-  main_stands =
-      (λ zero. absurd (omega (arith, zero)),
-      λ some. inl (((omega arith, omega arith), λ x low high taken. main_free x low taken), λ b lt place. main_lowest b lt place.0.0 (λ x l h t. place.1 x l h t)))
+  main_stands = (
+    λ zero. absurd (omega (arith, zero)),
+    λ some. inl (((omega arith, omega arith), λ x low high taken. main_free x low taken), λ b lt place. main_lowest b lt place.0.0 (λ x l h t. place.1 x l h t)),
+  )
 
   abbrev TakenFor : ℕ → ℕ → Type 0
   TakenFor j x = IsTakenFor p generated_objects (generated_copies k) (main_frame ∷ take j (frames_from 0 k)) (copy_of j) x
@@ -139,18 +140,21 @@ module _ (p : Program) (k : ℕ) (graph : graph_of p ≡ generated_graph k) wher
   function_lowest j b lt low high free = free 0x24 (omega (arith, low)) (omega (arith, high)) (inr (inl (main_lives j lt, refl)))
 
   function_stands : (j : ℕ) → j < k → Stands (TakenFor j) 9 0x25
-  function_stands j lt =
-      (λ zero. absurd (omega (arith, zero)),
-      λ some. inl (((omega arith, omega arith), λ x low high taken. function_free j x lt low taken), λ b less place. function_lowest j b lt less place.0.0 (λ x l h t. place.1 x l h t)))
+  function_stands j lt = (
+    λ zero. absurd (omega (arith, zero)),
+    λ some. inl (((omega arith, omega arith), λ x low high taken. function_free j x lt low taken), λ b less place. function_lowest j b lt less place.0.0 (λ x l h t. place.1 x l h t)),
+  )
 
 -- ---- the placing
 object_stands : Stands (IsTaken []) 1 0x20
-object_stands =
-    (λ zero. absurd (omega (arith, zero)),
-    λ some. inl (((omega arith, omega arith), λ x low high taken. false_true taken), λ b lt place. below b lt place.0.0))
+object_stands = (
+  λ zero. absurd (omega (arith, zero)),
+  λ some. inl (((omega arith, omega arith), λ x low high taken. false_true taken), λ b lt place. below b lt place.0.0),
+)
   where
     false_true : false ≡ true → ⊥
     false_true e = absurd (cc)
+
     below : (b : ℕ) → b < 0x20 → 0x20 ≤ b → ⊥
     below b lt low = omega (arith, lt, low)
 

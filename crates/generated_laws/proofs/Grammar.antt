@@ -1,9 +1,9 @@
 -- A generated tree is one of the grammar.
 use Rattle.std.proofs.Common.{◌≡◌, ℕ, zero, suc, ◌+◌, ◌≤◌, List, [], ◌∷◌, refl, arith, codes}
 use Rattle.c_nodes.specs.Programs as unit
-use Rattle.c_nodes.specs.Programs.{Statements, StatementTree, ItemTree, IsDeclaration, IsStatement, AreStatements, depth_statements, IsItem, IsUnit}
+use Rattle.c_nodes.specs.Programs.{Statements, ItemTree, IsDeclaration, IsStatement, AreStatements, depth_statements, IsItem, IsUnit}
 use Rattle.c_nodes.specs.Trees.{Tree, IsTree, AreSpecs, IsDeclarator, rank}
-use Rattle.generated_laws.specs.Tree.{byte_specs, object, declared_byte, variable, function_name, function_at, functions_from, assigned, call_at, calls_from, main_statements, main_at, generated_tree}
+use Rattle.generated_laws.specs.Tree.{byte_specs, object, declared_byte, variable, function_at, functions_from, assigned, call_at, calls_from, main_statements, main_at, generated_tree}
 
 byte_is : (line : ℕ) → AreSpecs (byte_specs line)
 byte_is line = (refl, (refl, tt))
@@ -29,9 +29,10 @@ calls_are line i zero rest are = are
 calls_are line i (suc n) rest are = (call_is (line + i) i, calls_are line (suc i) n rest are)
 
 statements_are : (line functions : ℕ) → AreStatements (main_statements line functions)
-statements_are line functions =
-    (assigned_is (line + 1) (codes "x") (variable (line + 1) (codes "PORTB")) refl (omega arith),
-    calls_are (line + 2) 0 functions (unit.AndStatement (assigned (line + 2 + functions) (codes "PORTC") (variable (line + 2 + functions) (codes "x"))) unit.NoStatement) (assigned_is (line + 2 + functions) (codes "PORTC") (variable (line + 2 + functions) (codes "x")) refl (omega arith), tt))
+statements_are line functions = (
+  assigned_is (line + 1) (codes "x") (variable (line + 1) (codes "PORTB")) refl (omega arith),
+  calls_are (line + 2) 0 functions (unit.AndStatement (assigned (line + 2 + functions) (codes "PORTC") (variable (line + 2 + functions) (codes "x"))) unit.NoStatement) (assigned_is (line + 2 + functions) (codes "PORTC") (variable (line + 2 + functions) (codes "x")) refl (omega arith), tt),
+)
 
 main_is : (line functions : ℕ) → depth_statements (main_statements line functions) ≡ 1 → IsItem (main_at line functions)
 main_is line functions deep = ((refl, tt), (refl, refl, (tt, tt)), refl, ((declared_is line (codes "x"), tt), statements_are line functions), omega (arith, deep))

@@ -1,12 +1,11 @@
 -- The tokens of a text that has neither directives nor names of types, and their words, read along the text. (Each word by itself would be
 -- read from the front of the text.)
-use Rattle.std.proofs.Common.{◌≡◌, ℕ, zero, suc, ◌+◌, ◌-◌, ◌<◌, ◌≤◌, nat_eq, nat_le, nat_lt, Bool, true, false, ◌&&◌, not, if◌then◌else◌, List, [], ◌∷◌, ◌++◌, length, take, drop, map, Option, Some, None, Result, Ok, Err, refl, sym, ap, ◌∙◌, arith}
+use Rattle.std.proofs.Common.{◌≡◌, ℕ, zero, suc, ◌+◌, ◌-◌, ◌≤◌, nat_eq, nat_le, nat_lt, Bool, true, false, ◌&&◌, not, if◌then◌else◌, List, [], ◌∷◌, length, take, drop, map, Option, Some, None, Result, Ok, Err, refl, sym, ap, ◌∙◌, arith}
 use Rattle.std.specs.Prelude.{is_some, slice_range}
 use Rattle.std.specs.List.{flat_map, list_all}
 use Rattle.std.proofs.lemmas.Bool.{and_parts, leb-true, le-ltb}
 use Rattle.c_token.specs.Text.{tokens_of}
 use Rattle.c_token.specs.declared.token.Keyword.TheVariants as words
-use Rattle.c_token.specs.declared.token.LexError.{LexError}
 use Rattle.c_token.specs.declared.token.Punct.TheVariants as marks
 use Rattle.c_token.specs.declared.token.Tok.{Tok}
 use Rattle.c_token.specs.declared.token.TokKind.{TokKind}
@@ -215,6 +214,7 @@ plainly_read text raw is all =
     let d = and_parts (list_all is_plain raw) (nat_le (length raw) 262144 && is_none (first_over 0 0 raw)) c.1 in
     let e = and_parts (nat_le (length raw) 262144) (is_none (first_over 0 0 raw)) d.1 in
     let same : map (word_of text) raw ≡ spelled = words_same text 0 raw b.0 in
-    let free : list_all is_free (map (word_of text) raw) ≡ true = ap (list_all is_free) same ∙ c.0 in
-    (ap within_limits (left_all text raw is a.0 (kept_all text raw d.0 free (leb-true (length raw) 262144 e.0)) d.0) ∙ within raw (first_over 0 0 raw) e.1,
-    symbols_same text raw ∙ ap (symbols_by raw) same)
+    let free : list_all is_free (map (word_of text) raw) ≡ true = ap (list_all is_free) same ∙ c.0 in (
+      ap within_limits (left_all text raw is a.0 (kept_all text raw d.0 free (leb-true (length raw) 262144 e.0)) d.0) ∙ within raw (first_over 0 0 raw) e.1,
+      symbols_same text raw ∙ ap (symbols_by raw) same,
+    )

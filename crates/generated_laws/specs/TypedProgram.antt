@@ -71,9 +71,9 @@ main_at line functions = record {
   params = [];
   locals = variable line ∷ [];
   body = typed.AndStatement (typed.Declare 0 line)
-  (typed.AndStatement (assigned (line + 1) (local (line + 1)) (typed.Read (register 6 (line + 1)) byte (line + 1)))
-  (calls_from (line + 2) 0 functions
-  (typed.AndStatement (assigned (line + 2 + functions) (register 7 (line + 2 + functions)) (typed.Read (local (line + 2 + functions)) byte (line + 2 + functions))) typed.NoStatement)));
+      (typed.AndStatement (assigned (line + 1) (local (line + 1)) (typed.Read (register 6 (line + 1)) byte (line + 1)))
+      (calls_from (line + 2) 0 functions
+      (typed.AndStatement (assigned (line + 2 + functions) (register 7 (line + 2 + functions)) (typed.Read (local (line + 2 + functions)) byte (line + 2 + functions))) typed.NoStatement)));
   interrupt = false;
   line = line;
 }

@@ -15,5 +15,4 @@ pub fn generated_accepted()
     ensures accepted { (functions : ℕ) → 0 < functions → functions ≤ 64 → IsAcceptedText (generated functions) }
     ensures sizes { (functions : ℕ) → 0 < functions → functions ≤ 64 → AreSizes (generated functions) (132 + 92 * functions) 14 1 }
     ensures no_others { (functions words ram depth : ℕ) → 0 < functions → functions ≤ 64 → AreSizes (generated functions) words ram depth → (words ≡ 132 + 92 * functions) × (ram ≡ 14) × (depth ≡ 1) }
-{
-}
+{}
