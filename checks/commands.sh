@@ -1,9 +1,9 @@
 #!/bin/sh
-# The five commands on the firmware of examples/, through ./picc and the real file system. Traces stand beside the examples; they
+# The commands on the firmware of examples/, through ./picc and the real file system. Traces stand beside the examples; they
 # were worked out apart from the compiler. Of each example: `build` prints nothing and writes two files. `trace` prints the kept
 # trace. `sim` of the two files, under the input bytes of its script alone, prints the trace of the source under these bytes, as far
 # as it comes: the kept one where the program ends. `agree` prints the number of lines that `sim` prints. `gen 2` prints the kept text
-# of crates/picc.
+# of crates/picc. (`check` on them is in depth.sh.)
 set -u
 . "$(dirname -- "$0")/lib/common.sh" || exit 1
 enter_folder

@@ -1,7 +1,7 @@
 #!/bin/sh
 # The depth of the return stack that depth_show finds of each image of examples/ and bench/kernels/ is that of the program by the
 # definition (crates/call_graph, HasDepth), or it prints a reason why there is no certificate that the definition of certificates has: the
-# table. PICC, PICC_SHOW and DEPTH_SHOW name programs in place of the launcher, of picc_show and of depth_show.
+# table. `picc check` prints its first line, with its status. PICC, PICC_SHOW and DEPTH_SHOW name programs in place of the launcher, of picc_show and of depth_show.
 set -u
 . "$(dirname -- "$0")/lib/common.sh" || exit 1
 if ! command -v python3 >/dev/null; then

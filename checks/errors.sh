@@ -7,7 +7,7 @@ page=$top/docs/errors.md
 
 # the texts of these definitions, one a line
 texts() {
-    (cd -- "$top/crates/picc_cli/specs" && cat Lines.antt Refusals.antt HexReasons.antt Inputs.antt) |
+    (cd -- "$top/crates/picc_cli/specs" && cat Lines.antt Refusals.antt Inputs.antt Checked.antt ../../hex_image/specs/Faults.antt) |
         grep -o 'codes "[^"]*"' | sed 's/^codes "//; s/"$//; s/^: //; s/ *$//' | sort -u
 }
 

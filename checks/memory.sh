@@ -116,4 +116,5 @@ try_each trace two.c flags 1000
 try_each sim two.hex two.map flags 2000
 try_each agree two.c flags 2000
 try_each gen 2
+try_each check two.hex
 exit $failed

@@ -1,5 +1,5 @@
 #!/bin/sh
-# The cases of checks/cases/simulations.jsonl through `picc sim`: one JSON object a line, with the files by their names, the words of
+# The cases of checks/cases/simulations.jsonl through `picc sim` and `picc check`: one JSON object a line, with the files by their names, the words of
 # the command, and the status and the printed text that were worked out by hand.
 set -u
 . "$(dirname -- "$0")/lib/common.sh" || exit 1

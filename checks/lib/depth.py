@@ -2,7 +2,8 @@
 table. Arguments: depth_show, picc, picc_show, the name that begins each printed line, and files of programs.
 
 The depth of a program is the longest chain of calls from main, and with a handler one more and the longest chain from that (HasDepth of
-crates/call_graph). An image may have no certificate, for one of REASONS: these the definition of a certificate doesn't allow."""
+crates/call_graph). An image may have no certificate, for one of REASONS: these the definition of a certificate doesn't allow.
+`picc check` of the image prints the first line that depth_show prints, with the same status."""
 import os
 import subprocess
 import sys
@@ -40,6 +41,8 @@ def row_of(show, picc, picc_show, path, folder):
     depth = depth_of(Shown(output(picc_show, 'code', path)[1]).program)
     status, text = output(show, image)
     lines = text.splitlines()
+    if output(picc, 'check', image) != (status, lines[0] + '\n'):
+        return f'{lines[0]}, and picc check tells another thing', False
     if status == 0:
         return f'{lines[0]}, by the definition {depth}', lines[0] == f'depth {depth}'
     reason = lines[1] if len(lines) > 1 else text

@@ -19,7 +19,7 @@ sim a.hex a.map a.s 0@0@@a.hex=:020000040000FA$:100000000528FF3FFF3FFF3F09000530
 # the jump from reset, and two instructions of main
 sim a.hex a.map a.s 3@0@@a.hex=:020000040000FA$:100000000528FF3FFF3FFF3F0900053083128600B0$:100010000828FF3FFF3FFF3FFF3FFF3FFF3FFF3FFE$:00000001FF$
 sim a.hex a.map a.s 4@0@W PORTB 05$End$@a.hex=:020000040000FA$:100000000528FF3FFF3FFF3F0900053083128600B0$:100010000828FF3FFF3FFF3FFF3FFF3FFF3FFF3FFE$:00000001FF$
-sim a.hex a.map a.s 1000001@2@usage: picc build IN OUT MAP | trace IN SCRIPT M | sim HEX MAP SCRIPT N | agree IN SCRIPT N | gen K$@a.hex=:020000040000FA$:100000000528FF3FFF3FFF3F0900053083128600B0$:100010000828FF3FFF3FFF3FFF3FFF3FFF3FFF3FFE$:00000001FF$
+sim a.hex a.map a.s 1000001@2@usage: picc build IN OUT MAP | trace IN SCRIPT M | sim HEX MAP SCRIPT N | agree IN SCRIPT N | gen K | check HEX$@a.hex=:020000040000FA$:100000000528FF3FFF3FFF3F0900053083128600B0$:100010000828FF3FFF3FFF3FFF3FFF3FFF3FFF3FFE$:00000001FF$
 sim a.hex a.map a.s 1000@6@unmodelled 0000$@a.hex=:0200000063009B$:00000001FF$
 sim a.hex a.map a.s 1@6@unmodelled 0000$@a.hex=:0200000063009B$:00000001FF$
 sim a.hex a.map a.s 0@0@@a.hex=:0200000063009B$:00000001FF$
@@ -63,14 +63,24 @@ sim a.hex a.map a.s 3@5@a.map:0: too long$@a.hex=:020000040000FA$:020000000528D1
 sim a.hex a.map a.s 3@0@End$@a.hex=:020000040000FA$:020000000528D1$:00000001FF$@a.map=picc map 1$main 0005$halt 0006$end$@a.s=`4194304*$`
 sim a.hex a.map a.s 3@5@a.s:0: too long$@a.hex=:020000040000FA$:020000000528D1$:00000001FF$@a.map=picc map 1$main 0005$halt 0006$end$@a.s=`4194305*$`
 gen 2@0@unsigned char s;$unsigned char f0(unsigned char x){return x+0;}$unsigned char f1(unsigned char x){return x+1;}$void main(void){unsigned char x;$x=PORTB;$x=f0(x);$x=f1(x);$PORTC=x;$}$/* gen 2: words 316 ram 14 depth 1 */$
+check a.hex@3@cannot read a.hex$@a.c=void main(void){PORTB=5;}
+check a.hex@5@a.hex:2: checksum 00, wanted C9$@a.hex=:020000040000FA$:02000000053000$:00000001FF$
+check a.hex@5@a.hex:1: type 02$@a.hex=:00000002FE
+check a.hex@5@a.hex:1: bad record$@a.hex=:0100000100FE
+check a.hex@5@a.hex:2: outside 00010000$@a.hex=:020000040001F9$:0100000000FF
+check a.hex@5@a.hex:2: twice 00000000$@a.hex=:0100000000FF$:0100000000FF
+check a.hex@5@a.hex:0: no end$@a.hex=
+check a.hex@0@depth 0$@a.hex=:020000040000FA$:020000000528D1$:00000001FF$`1048532*$`
+check a.hex@5@a.hex:0: too long$@a.hex=:020000040000FA$:020000000528D1$:00000001FF$`1048533*$`
 ";
 
 #[test]
 fn files_in_the_order_of_the_words(rt: HostRuntime) -> Result<(), Fail> {
-    Ok(check_all(&rt, rt.alloc(), FILES, "", 18)?)
+    Ok(check_all(&rt, rt.alloc(), FILES, "", 27)?)
 }
 
-// GOTO 5 at 0000h, and all else erased: the chip then goes through ADDLW FFh.
+// GOTO 5 at 0000h, and all else erased: the chip then goes through ADDLW FFh. The depths of other images follow from the rules of a
+// certificate (crates/depth_check/specs/Valid.antt).
 const HOSTILE: &str = "\
 sim a.hex a.map a.s 3@0@End$@a.hex=:020000040000FA$:020000000528D1$:00000001FF$@a.map=picc map 1$main 0005$halt 0006$end$@a.s=
 # the bytes 02, 05 and 30 need C9 to make the sum 0
@@ -88,13 +98,36 @@ sim a.hex a.map a.s 3@5@a.s:1: bad line$@a.hex=:020000040000FA$:020000000528D1$:
 sim a.hex a.map a.s 3@5@a.s:1: bad line$@a.hex=:020000040000FA$:020000000528D1$:00000001FF$@a.map=picc map 1$main 0005$halt 0006$end$@a.s=at 1 GIE
 sim a.hex a.map a.s 3@0@End$@a.hex=:020000040000FA$:020000000528D1$:00000001FF$@a.map=picc map 1$main 0005$halt 0006$end$@a.s=input
 sim a.hex a.map a.s 3@5@a.s:2: bad line$@a.hex=:020000040000FA$:020000000528D1$:00000001FF$@a.map=picc map 1$main 0005$halt 0006$end$@a.s=at 5 INTF$at 4 INTF
+# the words that the check of the return stack can follow, and how deep they go: a jump alone; SLEEP
+check a.hex@0@depth 0$@a.hex=:020000040000FA$:020000000528D1$:00000001FF$
+check a.hex@0@depth 0$@a.hex=:0200000063009B$:00000001FF$
+# CALL 2, where RETURN is; and eight such calls within one another, where nine are too many
+check a.hex@0@depth 1$@a.hex=:06000000022001280800A7$:00000001FF$
+check a.hex@0@depth 8$@a.hex=:10000000022001280420080006200800082008001B$:100010000A2008000C2008000E200800102008000C$:020020000800D6$:00000001FF$
+check a.hex@7@no certificate$@a.hex=:10000000022001280420080006200800082008001B$:100010000A2008000C2008000E200800102008000C$:0600200012200800080098$:00000001FF$
+# GIE is set, and RETFIE stands at 0004: the interrupt takes one word, so seven calls are the most beside it
+check a.hex@0@depth 1$@a.hex=:040000008B17012831$:020008000900ED$:00000001FF$
+check a.hex@0@depth 8$@a.hex=:040000008B17102822$:020008000900ED$:1000200012201128142008001620080018200800AB$:0E0030001A2008001C2008001E2008000800EE$:00000001FF$
+check a.hex@7@no certificate$@a.hex=:040000008B17102822$:020008000900ED$:1000200012201128142008001620080018200800AB$:100030001A2008001C2008001E20080020200800AC$:020040000800B6$:00000001FF$
+# the handler keeps PCLATH in 70h, and calls; without that PCLATH is lost
+check a.hex@0@depth 2$@a.hex=:040000008B17012831$:0E0008000A08F0008A010B2070088A00090027$:020016000800E0$:00000001FF$
+check a.hex@7@no certificate$@a.hex=:040000008B17012831$:040008008A01090060$:00000001FF$
+# a jump to page 1 and back; and one by a page that is not known
+check a.hex@0@depth 0$@a.hex=:040000008A15002835$:041000008A11002829$:00000001FF$
+check a.hex@7@no certificate$@a.hex=:040000008A0000284A$:00000001FF$
+# CALL 0 at 0; RETURN; INTCON without a handler; writes of INDF and of PCL
+check a.hex@7@no certificate$@a.hex=:020000000020DE$:00000001FF$
+check a.hex@7@no certificate$@a.hex=:020000000800F6$:00000001FF$
+check a.hex@7@no certificate$@a.hex=:040000000B110128B7$:00000001FF$
+check a.hex@7@no certificate$@a.hex=:0200000080017D$:00000001FF$
+check a.hex@7@no certificate$@a.hex=:02000000820775$:00000001FF$
 ";
 
 const TEXT: &str = "@a.c=void main(void){PORTB=5;}";
 
 #[test]
 fn hostile_files_are_read_or_told_at_their_line(rt: HostRuntime) -> Result<(), Fail> {
-    Ok(check_all(&rt, rt.alloc(), HOSTILE, TEXT, 14)?)
+    Ok(check_all(&rt, rt.alloc(), HOSTILE, TEXT, 31)?)
 }
 
 /// A board that answers nothing.

@@ -17,6 +17,8 @@ agree|a.c|s|100000=agree|a.c|s|100000
 agree|a.c|s|0=agree|a.c|s|0
 gen|1=gen|1
 gen|0000000064=gen|64
+check|a.hex=check|a.hex
+check|check=check|check
 =none
 help=none
 help|build=none
@@ -66,6 +68,11 @@ gen|65=none
 gen|1|2=none
 gen|00000000001=none
 gen|k=none
+check=none
+check||=none
+check|a|b=none
+check|-a=none
+CHECK|a=none
 ";
 
 fn words_between_bars(alloc: Global, line: &str) -> Result<Vec<String>, AllocError> {
@@ -98,6 +105,7 @@ fn shown(alloc: Global, command: Option<Command<'_>>) -> Result<String, AllocErr
             )
         }
         Some(Command::Generate(size)) => format!(in alloc; "gen|{size}"),
+        Some(Command::Check(hex)) => format!(in alloc; "check|{hex}"),
         None => String::from_str(alloc, "none"),
     }
 }
@@ -124,6 +132,6 @@ fn each_form_and_no_other_is_read(rt: HostRuntime) -> Result<(), Failure> {
         assert!(rt; is_asked(rt.alloc(), line)?, "{line}");
         count = count.saturating_add(1);
     }
-    assert!(rt; count == 60, "{count} cases");
+    assert!(rt; count == 67, "{count} cases");
     Ok(())
 }

@@ -1,115 +1,26 @@
 -- Two certificates that are valid for one image, whatever their cells are, have rows at the same addresses, which tell nothing different of
--- PCLATH, and so they have one total.
-use Rattle.std.proofs.Common.{◌≡◌, ℕ, zero, suc, ◌+◌, ◌<◌, ◌≤◌, Bool, true, false, List, Option, Some, None, inl, inr, refl, sym, ap, ◌∙◌, subst, ⊎_elim, arith}
-use Rattle.std.specs.Prelude.{if◌then◌else◌, not, ◌&&◌, ◌||◌, nat_eq}
+-- PCLATH.
+use Rattle.std.proofs.Common.{◌≡◌, ℕ, zero, suc, ◌<◌, ◌≤◌, Bool, true, false, List, Option, Some, None, refl, sym, ap, ◌∙◌, subst, ⊎_elim, arith}
+use Rattle.std.specs.Prelude.{◌&&◌, ◌||◌, nat_eq}
 use Rattle.std.specs.List.{list_any}
-use Rattle.std.proofs.lemmas.Bool.{and_parts, and_from, or_cases, eqb-true, eq-eqb, not-true}
+use Rattle.std.proofs.lemmas.Bool.{and_parts, and_from, or_cases, eqb-true, eq-eqb}
 use Rattle.pic_isa.specs.declared.Ins.{Ins}
-use Rattle.pic_isa.specs.declared.Ins.TheVariants.{Bcf, Bsf, Call, Clrf, Goto, Retfie, Retlw, Return, Sleep}
+use Rattle.pic_isa.specs.declared.Ins.TheVariants.{Call, Goto, Retfie, Retlw, Return, Sleep}
 use Rattle.pic_isa.specs.Lookup.{row_of}
 use Rattle.std.specs.Prelude.{slice_index}
 use Rattle.depth_check.specs.declared.Facts.{Facts}
 use Rattle.depth_check.specs.declared.Row.{Row}
 use Rattle.depth_check.specs.Certificate.{Certificate}
 use Rattle.depth_check.specs.Found.{routine_or_none}
-use Rattle.depth_check.specs.Facts.{writes, bit_written, may_skip, after, known_in, is_known, fits, bits, target, at_reset, at_interrupt}
-use Rattle.depth_check.specs.Valid.{routine, row_at, has_row, instruction, next, next_but_one, is_return, returns, spares_gie, is_allowed, agree, is_place, returns_from, call_returns, asks, is_met, row_holds, call_height, height_at, height_of, height, lets_in, writes_intcon, total_of, is_valid}
+use Rattle.depth_check.specs.Facts.{writes, bit_written, may_skip, after, known_in, fits, bits, target, at_reset, at_interrupt}
+use Rattle.depth_check.specs.Valid.{routine, row_at, has_row, instruction, next, next_but_one, is_return, returns, is_place, returns_from, call_returns, asks, is_met, row_holds, is_valid}
 use Rattle.depth_check.proofs.Step.{is_straight}
-use Rattle.depth_check.proofs.Threads.{In, in_any, in_height, main_row, main_isr, main_entry, handler, handler_entry, rises, every_met, let_in}
-use Rattle.depth_check.proofs.Below.{less_of, less_same, fits_of}
-use Rattle.depth_check.proofs.Transfer.{IsCalled, allowed, straight_on, jump, call, left, left_with}
+use Rattle.depth_check.proofs.Threads.{In, in_any, main_row, main_entry, handler, handler_entry, rises, every_met}
+use Rattle.depth_check.proofs.Below.{less_of}
+use Rattle.depth_check.proofs.Transfer.{IsCalled, straight_on, jump, call}
 use Rattle.depth_check.proofs.Complete.{any_in, all_in, own, found_in, same_row}
-use Rattle.depth_check.proofs.Bounds.{height_least}
 use Rattle.depth_check.proofs.Sure.{fact, falls, stands_at}
-use Rattle.depth_check.proofs.Through.{each_met}
-
--- ---- one fact
--- where both are known they are the same
-abbrev pub Agrees : Option Bool → Option Bool → Type 0
-Agrees a b = (x y : Bool) → a ≡ Some x → b ≡ Some y → x ≡ y
-
-same_bit : (x y : Bool) → ◌≡◌ {A = Option Bool} (Some x) (Some y) → x ≡ y
-same_bit x y e = cc
-
-agrees_self : (a : Option Bool) → Agrees a a
-agrees_self a x y e f = same_bit x y (sym e ∙ f)
-
-known_some : (x : Bool) (a : Option Bool) → known_in (Some x) a ≡ true → a ≡ Some x
-known_some true None h = absurd (cc)
-known_some false None h = absurd (cc)
-known_some true (Some true) h = refl
-known_some true (Some false) h = absurd (cc)
-known_some false (Some true) h = absurd (cc)
-known_some false (Some false) h = refl
-
-agrees_less : (a b u v : Option Bool) → known_in u a ≡ true → known_in v b ≡ true → Agrees a b → Agrees u v
-agrees_less a b u v g h same x y e f = same x y (known_some x a (subst (λ z. known_in z a ≡ true) e g)) (known_some y b (subst (λ z. known_in z b ≡ true) f h))
-
-written_agrees : (n : ℕ) (i : Ins) (a b : Option Bool) → Agrees a b → Agrees (bit_written n i a) (bit_written n i b)
-written_agrees n (Bcf f k) a b same = by (nat_eq k n) where
-  by : (t : Bool) → Agrees (if t then Some false else a) (if t then Some false else b)
-  by true = agrees_self (Some false)
-  by false = same
-written_agrees n (Bsf f k) a b same = by (nat_eq k n) where
-  by : (t : Bool) → Agrees (if t then Some true else a) (if t then Some true else b)
-  by true = agrees_self (Some true)
-  by false = same
-written_agrees n (Clrf f) a b same = agrees_self (Some false)
-written_agrees n _ a b same = agrees_self None
-
-chosen_agrees : (t : Bool) (a b u v : Option Bool) → Agrees a b → Agrees u v → Agrees (if t then a else u) (if t then b else v)
-chosen_agrees true a b u v g h = g
-chosen_agrees false a b u v g h = h
-
-inside : (m n : ℕ) → Some m ≡ Some n → m ≡ n
-inside m n e = cc
-
-same_place : (a3 a4 b3 b4 : Option Bool) (k m n : ℕ) → Agrees a3 b3 → Agrees a4 b4 → target a3 a4 k ≡ Some m → target b3 b4 k ≡ Some n → m ≡ n
-same_place None a4 b3 b4 k m n g h e f = absurd (cc)
-same_place (Some p) None b3 b4 k m n g h e f = absurd (cc)
-same_place (Some p) (Some q) None b4 k m n g h e f = absurd (cc)
-same_place (Some p) (Some q) (Some r) None k m n g h e f = absurd (cc)
-same_place (Some p) (Some q) (Some r) (Some s) k m n g h e f =
-    inside m n (sym e ∙ ap (λ z. target (Some z) (Some q) k) (g p r refl refl) ∙ ap (λ z. target (Some r) (Some z) k) (h q s refl refl) ∙ f)
-
-itself : (x : Facts) → fits x x ≡ true
-itself x = fits_of x x (less_same x)
-
-same_flag : (x y : Bool) → agree x y ≡ true → y ≡ x
-same_flag true y e = e
-same_flag false true e = absurd (cc)
-same_flag false false e = refl
-
--- what is known where a routine is left is known by the routine
-left_known : (image : List ℕ) (c : Certificate) (r : Row) → row_holds image c r ≡ true → is_return (instruction image r) ≡ true
-    → (known_in (routine c r.routine).out3 r.facts.p3 ≡ true) × (known_in (routine c r.routine).out4 r.facts.p4 ≡ true)
-left_known image c r ok h = by (instruction image r) refl h where
-  by : (o : Option Ins) → instruction image r ≡ o → is_return o ≡ true → (known_in (routine c r.routine).out3 r.facts.p3 ≡ true) × (known_in (routine c r.routine).out4 r.facts.p4 ≡ true)
-  by None e h = absurd (cc)
-  by (Some (Retlw k)) e h = left_with image c r ok r.facts (itself r.facts) k e
-  by (Some Return) e h = left image c r ok r.facts (itself r.facts) e
-  by (Some _) e h = absurd (cc)
-
--- what writes INTCON is allowed only where interrupts come
-interrupts_come : (c : Certificate) (n : ℕ) (i : Ins) → writes 11 i ≡ true → is_allowed c n i ≡ true → c.interrupts ≡ true
-interrupts_come c n (Call k) w h = absurd (cc)
-interrupts_come c n (Goto k) w h = absurd (cc)
-interrupts_come c n Retfie w h = absurd (cc)
-interrupts_come c n (Retlw k) w h = absurd (cc)
-interrupts_come c n Return w h = absurd (cc)
-interrupts_come c n Sleep w h = absurd (cc)
-interrupts_come c n i w h = parts i w h where
-  second : (p q : Bool) → p ≡ true → (not p || q) ≡ true → q ≡ true
-  second true q e h = h
-  second false q e h = absurd (cc)
-
-  parts : (i : Ins) → writes 11 i ≡ true
-      → (not (writes 2 i) && not (writes 0 i) && (not (writes 11 i) || (c.interrupts && (not (routine c n).isr || spares_gie i))) && not ((routine c n).isr && not (nat_eq n 1) && writes c.cell i)) ≡ true
-      → c.interrupts ≡ true
-  parts i w h =
-      let a = and_parts _ (not ((routine c n).isr && not (nat_eq n 1) && writes c.cell i)) h in
-      let b = and_parts _ (not (writes 11 i) || (c.interrupts && (not (routine c n).isr || spares_gie i))) a.0 in
-      (and_parts c.interrupts (not (routine c n).isr || spares_gie i) (second (writes 11 i) _ w b.1)).0
+use Rattle.depth_check.proofs.Agreeing.{Agrees, agrees_self, agrees_less, written_agrees, chosen_agrees, inside, same_place, itself, left_known}
 
 module _ (image : List ℕ) (c d : Certificate) (valid : is_valid image c ≡ true) (other : is_valid image d ≡ true) where
   -- a row of the one has such a row of the other at its address
@@ -120,21 +31,21 @@ module _ (image : List ℕ) (c d : Certificate) (valid : is_valid image c ≡ tr
     pub p3 : Agrees r.facts.p3 its.facts.p3
     pub p4 : Agrees r.facts.p4 its.facts.p4
 
-  abbrev At : ℕ → Type 0
+  abbrev pub At : ℕ → Type 0
   At at = (r : Row) × (row_at c.rows at ≡ Some r) × Twin r
 
   -- all rows of a routine
-  abbrev Whole : ℕ → Type 0
+  abbrev pub Whole : ℕ → Type 0
   Whole k = (v : Row) → In v c.rows → v.routine ≡ k → Twin v
 
   twin_of : (at : ℕ) (s : Row) → row_at c.rows at ≡ Some s → At at → Twin s
   twin_of at s e a = subst Twin (same_row (row_at c.rows at) a.0 s a.1 e) a.2
 
-  own_c : (t : Row) → In t c.rows → row_at c.rows t.at ≡ Some t
+  pub own_c : (t : Row) → In t c.rows → row_at c.rows t.at ≡ Some t
   own_c t is = own 0 t c.rows (rises image c valid) is
 
   -- routines of the other with one entry are one
-  one_routine : (at to : ℕ) (u v : Row) → row_at d.rows at ≡ Some u → row_at d.rows to ≡ Some v → (routine d u.routine).entry ≡ (routine d v.routine).entry → u.routine ≡ v.routine
+  pub one_routine : (at to : ℕ) (u v : Row) → row_at d.rows at ≡ Some u → row_at d.rows to ≡ Some v → (routine d u.routine).entry ≡ (routine d v.routine).entry → u.routine ≡ v.routine
   one_routine at to u v a b e = sym (fact image d other at u a).first ∙ ap (λ k. routine_or_none (row_at d.rows k)) e ∙ (fact image d other to v b).first
 
   -- ---- what a row and its twin ask for
@@ -142,13 +53,13 @@ module _ (image : List ℕ) (c d : Certificate) (valid : is_valid image c ≡ tr
     ok : row_holds image c t ≡ true
     ok = (fact image c valid t.at t (own_c t is)).ok
 
-    its_ok : row_holds image d w.its ≡ true
+    pub its_ok : row_holds image d w.its ≡ true
     its_ok = (fact image d other t.at w.its w.is).ok
 
     same_at : w.its.at ≡ t.at
     same_at = (fact image d other t.at w.its w.is).at_is
 
-    there : (i : Ins) → instruction image t ≡ Some i → instruction image w.its ≡ Some i
+    pub there : (i : Ins) → instruction image t ≡ Some i → instruction image w.its ≡ Some i
     there i e = ap (λ a. row_of (slice_index image a)) same_at ∙ e
 
     -- of the same routine
@@ -193,17 +104,17 @@ module _ (image : List ℕ) (c d : Certificate) (valid : is_valid image c ≡ tr
         (subst (λ z. has_row d z w.its.routine (after d.cell i w.its.facts) ≡ true) (ap next_but_one same_at ∙ nx) (q.1 sk))
 
     module _ (k : ℕ) (e : instruction image t ≡ Some (Call k)) where
-      mine : IsCalled image c t ok t.facts (itself t.facts) k
+      pub mine : IsCalled image c t ok t.facts (itself t.facts) k
       mine = call image c t ok t.facts (itself t.facts) k e
 
-      others : IsCalled image d w.its its_ok w.its.facts (itself w.its.facts) k
+      pub others : IsCalled image d w.its its_ok w.its.facts (itself w.its.facts) k
       others = call image d w.its its_ok w.its.facts (itself w.its.facts) k (there (Call k) e)
 
       one_place : mine.at ≡ others.at
       one_place = same_place t.facts.p3 t.facts.p4 w.its.facts.p3 w.its.facts.p4 k mine.at others.at w.p3 w.p4 mine.target_is others.target_is
 
       -- the entries of what is called
-      called : Twin mine.entry
+      pub called : Twin mine.entry
       called =
           let a = stands_at image c valid mine.at mine.entry.routine (bits t.facts.p3 t.facts.p4 false) mine.stands_there in
           let b = stands_at image d other others.at others.entry.routine (bits w.its.facts.p3 w.its.facts.p4 false) others.stands_there in
@@ -354,7 +265,7 @@ module _ (image : List ℕ) (c d : Certificate) (valid : is_valid image c ≡ tr
   met_row : (m : ℕ) → At (routine c m).entry → ((k : ℕ) → (routine c k).bound < (routine c m).bound → At (routine c k).entry → Whole k) → Whole m
   met_row m en small v is r = rounds m en small 8192 v.at v (all_in (λ z. is_met image c 8192 z.at) v c.rows (every_met image c valid) is) (own_c v is) r
 
-  all_twins : (b m : ℕ) → (routine c m).bound ≤ b → At (routine c m).entry → Whole m
+  pub all_twins : (b m : ℕ) → (routine c m).bound ≤ b → At (routine c m).entry → Whole m
   all_twins zero m le en = met_row m en (λ k lt h. absurd (omega arith))
   all_twins (suc b) m le en = met_row m en (λ k lt h. all_twins b k (omega arith) h)
 
@@ -374,121 +285,8 @@ module _ (image : List ℕ) (c d : Certificate) (valid : is_valid image c ≡ tr
         },
       )
 
-  main_twin : At 0
+  pub main_twin : At 0
   main_twin = root_twin 0 0 0 at_reset (main_row image c valid) (main_row image d other) (main_entry image c valid) (main_entry image d other)
 
-  handler_twin : c.interrupts ≡ true → d.interrupts ≡ true → At 4
+  pub handler_twin : c.interrupts ≡ true → d.interrupts ≡ true → At 4
   handler_twin e f = root_twin 4 1 1 at_interrupt (handler image c valid e).1 (handler image d other f).1 (handler_entry image c valid e) (handler_entry image d other f)
-
-  -- ---- all rows of main's routines, or of all
-  module _ (Side : Bool → Type 0) (handled : Side true → c.interrupts ≡ true → d.interrupts ≡ true) where
-    abbrev Q : ℕ → Type 0
-    Q m = Side (routine c m).isr → At (routine c m).entry
-
-    handler_side : c.interrupts ≡ true → Q 1
-    handler_side e side = subst At (sym (handler_entry image c valid e)) (handler_twin e (handled (subst Side (handler image c valid e).0 side) e))
-
-    callee_side : (r : Row) → In r c.rows → (k at : ℕ) (e : Row) → instruction image r ≡ Some (Call k) → target r.facts.p3 r.facts.p4 k ≡ Some at → row_at c.rows at ≡ Some e → Q r.routine → Q e.routine
-    callee_side r is k at e i t at_e q side =
-        let ok = (fact image c valid r.at r (own_c r is)).ok in
-        let z = call image c r ok r.facts (itself r.facts) k i in
-        let same : z.at ≡ at = inside z.at at (sym z.target_is ∙ t) in
-        let row : z.entry ≡ e = same_row (row_at c.rows at) z.entry e (subst (λ a. row_at c.rows a ≡ Some z.entry) same z.row_is) at_e in
-        let n : z.entry.routine ≡ e.routine = ap (λ (y : Row). y.routine) row in
-        let f : (routine c r.routine).isr ≡ (routine c e.routine).isr = same_flag (routine c z.entry.routine).isr (routine c r.routine).isr z.same ∙ ap (λ y. (routine c y).isr) n in
-        let w = all_twins (routine c r.routine).bound r.routine (omega arith) (q (subst Side (sym f) side)) r is refl in
-        let x : Twin z.entry = called r is w k i in
-        let en : z.at ≡ (routine c e.routine).entry = sym z.entry_is ∙ ap (λ y. (routine c y).entry) n in
-        (z.entry, subst (λ a. row_at c.rows a ≡ Some z.entry) en z.row_is, x)
-
-    entries : (v : Row) → In v c.rows → Q v.routine
-    entries v is = each_met image c valid Q (λ side. subst At (sym (main_entry image c valid)) main_twin) handler_side callee_side 8192 v.at v
-        (all_in (λ z. is_met image c 8192 z.at) v c.rows (every_met image c valid) is) (own_c v is)
-
-    pub twins : (v : Row) → In v c.rows → Side (routine c v.routine).isr → Twin v
-    twins v is side = all_twins (routine c v.routine).bound v.routine (omega arith) (entries v is side) v is refl
-
-  -- ---- interrupts
-  main_twins : (v : Row) → In v c.rows → (routine c v.routine).isr ≡ false → Twin v
-  main_twins = twins (λ b. b ≡ false) (λ no e. absurd (cc))
-
-  written : (v : Row) (is : In v c.rows) → Twin v → (o : Option Ins) → instruction image v ≡ o → writes_intcon o ≡ true → d.interrupts ≡ true
-  written v is w None e h = absurd (cc)
-  written v is w (Some i) e h =
-      interrupts_come d w.its.routine i h (allowed image d w.its (its_ok v is w) w.its.facts (itself w.its.facts) i (there v is w i e))
-
-  pub same_interrupts : c.interrupts ≡ true → d.interrupts ≡ true
-  same_interrupts e =
-      let a = any_in (λ r. not (routine c r.routine).isr && writes_intcon (instruction image r)) c.rows (second c.interrupts (lets_in image c c.rows) e (let_in image c valid)) in
-      let p = and_parts (not (routine c a.0.routine).isr) (writes_intcon (instruction image a.0)) a.2 in
-      written a.0 a.1 (main_twins a.0 a.1 (not-true _ p.0)) (instruction image a.0) refl p.1
-    where
-      second : (p q : Bool) → p ≡ true → (not p || q) ≡ true → q ≡ true
-      second true q e h = h
-      second false q e h = absurd (cc)
-
-  -- ---- bounds
-  -- one call goes no deeper in the one than in the other
-  module _ (m : ℕ) (en : At (routine c m).entry) (small : (e : Row) (at : ℕ) (w : Twin e) → row_at c.rows at ≡ Some e → (routine c e.routine).entry ≡ at → (routine c e.routine).bound < (routine c m).bound → (routine c e.routine).bound ≤ (routine d w.its.routine).bound) (n : ℕ)
-      (entry_d : (v : Row) (w : Twin v) → v.routine ≡ m → w.its.routine ≡ n) (t : Row) (is : In t c.rows) (is_m : t.routine ≡ m) where
-    w : Twin t
-    w = all_twins (routine c m).bound m (omega arith) en t is is_m
-
-    call_less : (k : ℕ) → instruction image t ≡ Some (Call k) → call_height c t (Some (Call k)) ≤ (routine d n).bound
-    call_less k e =
-        let a = mine t is w k e in
-        let b = others t is w k e in
-        let x = called t is w k e in
-        let u : call_height c t (Some (Call k)) ≡ 1 + (routine c a.entry.routine).bound = ap (height_at c) a.target_is ∙ ap (height_of c) a.row_is in
-        let v : call_height d w.its (instruction image w.its) ≡ 1 + (routine d b.entry.routine).bound = ap (call_height d w.its) (there t is w (Call k) e) ∙ ap (height_at d) b.target_is ∙ ap (height_of d) b.row_is in
-        let g = fact image d other t.at w.its w.is in
-        let y = in_height image d w.its.routine 0 w.its d.rows g.member (eq-eqb w.its.routine w.its.routine refl) in
-        let z = g.bound in
-        let low : (routine c a.entry.routine).bound < (routine c m).bound = subst (λ i. (routine c a.entry.routine).bound < (routine c i).bound) is_m (falls image c valid t is k a.at a.entry e a.target_is a.row_is) in
-        let s : (routine c a.entry.routine).bound ≤ (routine d b.entry.routine).bound = small a.entry a.at x a.row_is a.entry_is low in
-        let its_n = entry_d t w is_m in
-        subst (λ i. call_height c t (Some (Call k)) ≤ (routine d i).bound) its_n (omega (arith, u, v, y, z, s))
-
-    height_less : (o : Option Ins) → instruction image t ≡ o → call_height c t o ≤ (routine d n).bound
-    height_less None e = omega arith
-    height_less (Some (Call k)) e = call_less k e
-    height_less (Some _) e = omega arith
-
-  bounds_by : (b : ℕ) (e : Row) (at : ℕ) (w : Twin e) → row_at c.rows at ≡ Some e → (routine c e.routine).entry ≡ at
-      → ((f : Row) (to : ℕ) (x : Twin f) → row_at c.rows to ≡ Some f → (routine c f.routine).entry ≡ to → (routine c f.routine).bound < (routine c e.routine).bound → (routine c f.routine).bound ≤ (routine d x.its.routine).bound)
-      → (routine c e.routine).bound ≤ (routine d w.its.routine).bound
-  bounds_by b e at w at_e en small =
-      let h = (fact image c valid at e at_e).bound in
-      let l = height_least image c e.routine 0 (routine d w.its.routine).bound c.rows (omega arith) (λ r is q.
-      height_less e.routine (e, subst (λ a. row_at c.rows a ≡ Some e) (sym en) at_e, w) small w.its.routine
-      (λ v x n. one_routine v.at e.at x.its w.its x.is w.is (sym x.entry ∙ ap (λ k. (routine c k).entry) n ∙ w.entry)) r is (eqb-true r.routine e.routine q) (instruction image r) refl) in
-      omega (arith, h, l)
-
-  bounds : (b : ℕ) (e : Row) (at : ℕ) (w : Twin e) → row_at c.rows at ≡ Some e → (routine c e.routine).entry ≡ at → (routine c e.routine).bound ≤ b → (routine c e.routine).bound ≤ (routine d w.its.routine).bound
-  bounds zero e at w at_e en le = bounds_by zero e at w at_e en (λ f to x at_f ef lt. absurd (omega arith))
-  bounds (suc b) e at w at_e en le = bounds_by (suc b) e at w at_e en (λ f to x at_f ef lt. bounds b f to x at_f ef (omega arith))
-
-  root_bound : (at n k : ℕ) (x : Facts) → At at → has_row c at n x ≡ true → has_row d at k x ≡ true → (routine c n).entry ≡ at → (routine c n).bound ≤ (routine d k).bound
-  root_bound at n k x a h g en =
-      let u = stands_at image c valid at n x h in
-      let v = stands_at image d other at k x g in
-      let e : a.0.routine ≡ n = ap (λ (z : Row). z.routine) (same_row (row_at c.rows at) a.0 u.row a.1 u.is) ∙ u.same in
-      let there_d : row_at d.rows at ≡ Some a.2.its = subst (λ z. row_at d.rows z ≡ Some a.2.its) (found_in c.rows at a.0 a.1).0 a.2.is in
-      let f : a.2.its.routine ≡ k = ap (λ (z : Row). z.routine) (same_row (row_at d.rows at) a.2.its v.row there_d v.is) ∙ v.same in
-      let l = bounds (routine c a.0.routine).bound a.0 at a.2 a.1 (ap (λ z. (routine c z).entry) e ∙ en) (omega arith) in
-      subst (λ z. (routine c z).bound ≤ (routine d k).bound) e (subst (λ z. (routine c a.0.routine).bound ≤ (routine d z).bound) f l)
-
-  pub total_less : total_of c ≤ total_of d
-  total_less = by c.interrupts refl where
-    main_less : (routine c 0).bound ≤ (routine d 0).bound
-    main_less = root_bound 0 0 0 at_reset main_twin (main_row image c valid) (main_row image d other) (main_entry image c valid)
-
-    by : (b : Bool) → c.interrupts ≡ b → (routine c 0).bound + (if b then 1 + (routine c 1).bound else 0) ≤ (routine d 0).bound + (if d.interrupts then 1 + (routine d 1).bound else 0)
-    by false e = omega (arith, main_less)
-    by true e =
-        let f = same_interrupts e in
-        let l = root_bound 4 1 1 at_interrupt (handler_twin e f) (handler image c valid e).1 (handler image d other f).1 (handler_entry image c valid e) in
-        subst (λ z. (routine c 0).bound + (1 + (routine c 1).bound) ≤ (routine d 0).bound + (if z then 1 + (routine d 1).bound else 0)) (sym f) (omega (arith, main_less, l))
-
-pub one_total : (image : List ℕ) (c d : Certificate) → is_valid image c ≡ true → is_valid image d ≡ true → total_of c ≡ total_of d
-one_total image c d valid other = let a = total_less image c d valid other in let b = total_less image d c other valid in omega (arith, a, b)

@@ -1,9 +1,11 @@
 -- How a check of the depth of the return stack ends, by the certificate that was found or not, and by what was printed.
-use Rattle.std.proofs.Common.{◌≡◌, ◌≢◌, ◌≤◌, ℕ, ◌⊎◌, inl, inr, ⊎_elim, true, false, IsTrue, Option, Some, None, IfSome, List, ◌++◌, Ok, Err, refl, sym, ap, ◌∙◌, subst, arith, option_map}
-use Rattle.depth_check.proofs.Threads.{small_total}
+use Rattle.std.proofs.Common.{◌≡◌, ◌≤◌, ◌<◌, ℕ, ◌⊎◌, inl, inr, ⊎_elim, true, false, IsTrue, Option, Some, None, IfSome, List, ◌++◌, length, Ok, Err, refl, sym, ap, ◌∙◌, subst, arith, option_map}
+use Rattle.depth_check.proofs.Sure.{fact, stands_at}
+use Rattle.depth_check.proofs.Threads.{handler, main_row, small_total}
 use Rattle.depth_check.proofs.Whole.{stays_within}
 use Rattle.depth_check.specs.Certificate.{Certificate}
 use Rattle.depth_check.specs.Depth.{StaysWithin}
+use Rattle.depth_check.specs.Facts.{at_interrupt, at_reset}
 use Rattle.depth_check.specs.Valid.{is_valid, total_of}
 use Rattle.host_io.specs.Host.{Kind, Contents, Lacks}
 use Rattle.host_lines.specs.Said.{GivesUp, HasOutcomeCause, Says}
@@ -25,6 +27,17 @@ use Rattle.picc_cli.proofs.FormPrints.{prints_line}
 use Rattle.picc_cli.proofs.InputFiles.{file_three, file_fault}
 
 -- ---- the image
+-- a valid certificate has the routines from which its total is taken
+pub has_main : (image : List ℕ) (c : Certificate) → is_valid image c ≡ true → 0 < length c.routines
+has_main image c valid =
+    let s = stands_at image c valid 0 0 at_reset (main_row image c valid) in
+    subst (λ n. n < length c.routines) s.same (fact image c valid 0 s.row s.is).exists
+
+pub has_handler : (image : List ℕ) (c : Certificate) → is_valid image c ≡ true → c.interrupts ≡ true → 1 < length c.routines
+has_handler image c valid e =
+    let s = stands_at image c valid 4 1 at_interrupt (handler image c valid e).1 in
+    subst (λ n. n < length c.routines) s.same (fact image c valid 4 s.row s.is).exists
+
 pub bounded : (image : List ℕ) (c : Certificate) (depth : ℕ) → is_valid image c ≡ true → depth ≡ total_of c → IsBounded image depth
 bounded image c depth valid is =
     record {
@@ -90,7 +103,7 @@ check_fault (NoHex end) e = file_fault end e
 check_fault NoMemory e = absurd (cc)
 
 -- a file ends a command with 3, 5 or 9
-file_apart : {P : Type 0} (n : ℕ) (end : FileEnd) → n ≢ 3 → n ≢ 5 → n ≢ 9 → inputs.status_of end ≡ n → P
+file_apart : {P : Type 0} (n : ℕ) (end : FileEnd) → (n ≡ 3 → ⊥) → (n ≡ 5 → ⊥) → (n ≡ 9 → ⊥) → inputs.status_of end ≡ n → P
 file_apart n files.CannotRead three five nine e = absurd (three (sym e))
 file_apart n files.TooLong three five nine e = absurd (five (sym e))
 file_apart n (files.BadHex error) three five nine e = absurd (five (sym e))

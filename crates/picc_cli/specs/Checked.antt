@@ -1,5 +1,5 @@
 -- How a check of the depth of the return stack ends: what is known of its file and of the image, what it prints, and its exit status.
-use Rattle.std.specs.Prelude.{ℕ, ◌≡◌, ◌≤◌, ◌⊎◌, Bool, true, false, IsTrue, Option, Some, List, [], ◌∷◌, ◌++◌, codes, decimal, option_map}
+use Rattle.std.specs.Prelude.{ℕ, ◌≡◌, ◌≤◌, ◌⊎◌, Bool, true, false, IsTrue, Option, List, [], ◌∷◌, ◌++◌, codes, decimal, option_map}
 use Rattle.depth_check.specs.Certificate.{Certificate}
 use Rattle.depth_check.specs.Depth.{StaysWithin}
 use Rattle.depth_check.specs.Valid.{is_valid, total_of}
@@ -11,7 +11,7 @@ use Rattle.picc_cli.specs.declared.inputs.FileEnd.TheVariants.{CannotRead}
 use Rattle.picc_cli.specs.Inputs as inputs
 use Rattle.picc_cli.specs.Inputs.{IsHexInput, HasNoHex}
 use Rattle.picc_cli.specs.Lines.{cannot_read}
-use Rattle.host_lines.specs.Said.{GivesUp, Prints}
+use Rattle.host_lines.specs.Said.{Prints}
 use Rattle.picc_cli.specs.ScriptInput.{IsFile}
 
 -- ---- the image

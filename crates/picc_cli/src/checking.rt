@@ -1,15 +1,17 @@
 //! The form `check`: from a HEX file's name to an exit status.
 
-ghost use Rattle.std.specs.Prelude.{◌≡◌, IfOk, IfSome, Some};
+ghost use Rattle.std.specs.Prelude.{◌≡◌, true, IfOk, IfSome, Some};
+ghost use Rattle.depth_check.specs.Certificate.{seen};
+ghost use Rattle.depth_check.specs.Valid.{is_valid};
 ghost use Rattle.host_io.specs.Host.{Closed};
-ghost use Rattle.picc_cli.specs.Checked.{FailsWithoutFile, ImageKnows, IsImageEnd, Knows, depth_line as line_of_depth, is_fault, last_line, status_of};
+ghost use Rattle.picc_cli.specs.Checked.{FailsWithoutFile, IsBounded, ImageKnows, IsImageEnd, Knows, depth_line as line_of_depth, is_fault, last_line, status_of};
 ghost use Rattle.picc_cli.specs.Command.{Check};
 ghost use Rattle.picc_cli.specs.Finished.{HasFaults, HasPrinted, HasStatus, HasTold, IsComplete};
 ghost use Rattle.host_lines.specs.Said.{Says, HasOutcomeCause};
 
 use crate::inputs::{FileEnd, hex_in, say_file_end};
 use crate::refusal::push_counted;
-use depth_check::{certify, total};
+use depth_check::{Heights, certify, total};
 use host_io::Host;
 use host_lines::{say, say_line};
 use pic_chip::Image;
@@ -104,11 +106,22 @@ fn certified(alloc: Global, image: &Image) -> Ended
     ensures end { IsImageEnd result }
     ensures knows { ImageKnows image.now result }
 {
-    match certify(alloc, image) {
-        Ok(Some(certificate)) => Ended::Within {
-            depth: total(&certificate),
+    let found = match certify(alloc, image) {
+        Ok(found) => found,
+        Err(_) => return Ended::NoMemory,
+    };
+    match found {
+        Some(certificate) => Ended::Within {
+            depth: depth_by(image, &certificate),
         },
-        Ok(None) => Ended::Uncertified,
-        Err(_) => Ended::NoMemory,
+        None => Ended::Uncertified,
     }
+}
+
+/// How deep the return stack becomes by a certificate that is valid for the image.
+fn depth_by(image: &Image, certificate: &Heights) -> u64
+    requires { is_valid image.now (seen certificate.now) ≡ true }
+    ensures { IsBounded image.now result }
+{
+    total(certificate)
 }

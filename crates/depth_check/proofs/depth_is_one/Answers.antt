@@ -1,5 +1,5 @@
 use Rattle.depth_check.proofs.Threads.{small_total}
-use Rattle.depth_check.proofs.Twins.{one_total}
+use Rattle.depth_check.proofs.Totals.{one_total}
 use Rattle.depth_check.proofs.depth_is_one.Goals as goal
 
 pub returns-clause-one : goal.returns-clause-one

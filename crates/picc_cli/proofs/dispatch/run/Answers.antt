@@ -14,3 +14,8 @@ pub returns-in-Some-Agree-clause-complete : goal.returns-in-Some-Agree-clause-co
 returns-in-Some-Agree-clause-complete g c =
     let command = rw c.in-Some-Agree.is at c.in-Some-Agree.field-0-is in
     rw (c.in-Some-Agree.is, command) c.compare.ensures.complete
+
+pub returns-in-Some-Check-clause-complete : goal.returns-in-Some-Check-clause-complete
+returns-in-Some-Check-clause-complete g c =
+    let command = rw c.in-Some-Check.is at c.in-Some-Check.field-0-is in
+    rw (c.in-Some-Check.is, command) c.check.ensures.complete
