@@ -221,6 +221,7 @@ fn typed(unit: &Unit, checker: Checker, functions: Vec<TypedFunction>) -> Result
     requires few { length (spelled_unit (unit_of unit.now)) ≤ 262144 }
     ensures ok { IfOk result (λ p. program_of p ≡ rule.program_from (known_of checker) (map function_of functions.items)) }
     ensures few { IfOk result (λ p. program_size p.statics.items p.functions.items ≤ 3 * length (spelled_unit (unit_of unit.now))) }
+    ensures bounded { IfOk result (λ p. program_size p.statics.items p.functions.items ≤ 2 ^ 24) }
     ensures err { IfErr result (λ e. e ≡ NoMemory) }
 {
     let Checker { types, statics, .. } = checker;

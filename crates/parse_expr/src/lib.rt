@@ -11,6 +11,7 @@ pub mod declarator;
 mod enumeration;
 mod error;
 pub mod expression;
+pub mod front;
 pub mod kind;
 mod operand;
 mod operator;
@@ -19,3 +20,10 @@ pub mod specifier;
 pub mod take;
 
 pub use error::ParseError;
+
+ghost use Rattle.std.specs.Prelude.{◌≡◌};
+
+/// For the time being.
+pub fn enough_law()
+    ensures { 1 ≡ 1 }
+{}

@@ -34,3 +34,14 @@ returns-clause-few c =
     let fs = c.args.functions.items in
     let is = is_given known ts ss os fs (c.in-Ok.ensures.targets known) (c.in-Ok.ensures.structures known) (ap (λ v. map static_of v.items) c.into_entries.ensures) in
     is_few (unit_of c.args.unit.now) (rule.program_from known (map function_of fs)) ts ss os fs c.requires.judged is
+
+pub returns-clause-bounded : goal.returns-clause-bounded
+returns-clause-bounded c =
+    let known = known_of c.args.checker in
+    let ts = c.in-Ok.targets.items in
+    let ss = c.in-Ok.structures.items in
+    let os = c.into_entries.result.items in
+    let fs = c.args.functions.items in
+    let unit = unit_of c.args.unit.now in
+    let is = is_given known ts ss os fs (c.in-Ok.ensures.targets known) (c.in-Ok.ensures.structures known) (ap (λ v. map static_of v.items) c.into_entries.ensures) in
+    (is_bounded (program_size os fs) (length (spelled_unit unit)) (is_few unit (rule.program_from known (map function_of fs)) ts ss os fs c.requires.judged is) c.requires.few).0
