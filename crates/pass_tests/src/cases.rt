@@ -376,8 +376,8 @@ operators 0
 high 4
 case of two sums of a and b, of one of which the upper byte is shifted into the answer, the other one is narrowed
 do copy F0.0 S0.0; convert uchar int F0.0; copy F0.2 S0.1; convert uchar int F0.2; add int F0.0 F0.0 F0.2
-do set F0.2 1; set F0.3 0; shr int F0.0 F0.0 F0.2; copy D6 F0.0
-do copy F0.0 S0.0; convert uchar int F0.0; copy F0.2 S0.1; convert uchar int F0.2; add int F0.0 F0.0 F0.2; copy D7 F0.0
+do set F0.2 1; set F0.3 0; shr int F0.0 F0.0 F0.2; copy D06h F0.0
+do copy F0.0 S0.0; convert uchar int F0.0; copy F0.2 S0.1; convert uchar int F0.2; add int F0.0 F0.0 F0.2; copy D07h F0.0
 narrow
 operators 1
 high 4
