@@ -1,45 +1,10 @@
--- One token more is counted, of a run and of the `?` that wait.
+-- One token more is counted, of the `?` that wait.
 use Rattle.std.proofs.Common.{◌≡◌, ℕ, ◌+◌, ◌<◌, ◌≤◌, List, length, drop, Option, Some, None, Bool, true, false, ◌&&◌, nat_lt, if◌then◌else◌, refl, sym, ap, ◌∙◌, arith}
 use Rattle.std.proofs.Math.ListN.{get_or}
 use Rattle.std.proofs.lemmas.List.{drop_more, drop_all}
 use Rattle.std.proofs.lemmas.Bool.Decides.{nat_tests}
 use Rattle.c_token.specs.declared.token.Tok.{Tok}
-use Rattle.c_parse.specs.Limits.{run_after}
-use Rattle.c_parse.specs.Choices.{choices_after, ends_run, is_crowded, crowded, inside_after, waiting_after, is_deep}
-
--- ---- runs
-
-abbrev judged : ℕ → ℕ → ℕ → Tok → List Tok → Option ℕ
-judged last n q t rest = if ends_run t.kind && is_crowded n q then Some t.line else crowded last (run_after n t.kind) (choices_after q t.kind) rest
-
-at_token : (last n q : ℕ) (xs : List Tok) (i : ℕ) (d : Tok) → i < length xs → crowded last n q (drop i xs) ≡ judged last n q (get_or xs i d) (drop (i + 1) xs)
-unfolding crowded
-at_token last n q xs i d lt = ap (crowded last n q) (drop_more xs i d lt)
-
-pub run_goes_on : (last n q : ℕ) (xs : List Tok) (i : ℕ) (d : Tok) (n2 q2 : ℕ) (total : Option ℕ) → i < length xs → (ends_run (get_or xs i d).kind && is_crowded n q) ≡ false → n2 ≡ run_after n (get_or xs i d).kind → q2 ≡ choices_after q (get_or xs i d).kind → crowded last n q (drop i xs) ≡ total → crowded last n2 q2 (drop (i + 1) xs) ≡ total
-run_goes_on last n q xs i d n2 q2 total lt fine en eq so_far =
-    let more : judged last n q (get_or xs i d) (drop (i + 1) xs) ≡ crowded last (run_after n (get_or xs i d).kind) (choices_after q (get_or xs i d).kind) (drop (i + 1) xs) = rw fine refl in
-    let counts : crowded last n2 q2 (drop (i + 1) xs) ≡ crowded last (run_after n (get_or xs i d).kind) (choices_after q (get_or xs i d).kind) (drop (i + 1) xs) = rw (en, eq) refl in
-    counts ∙ sym more ∙ sym (at_token last n q xs i d lt) ∙ so_far
-
-pub run_ends : (last n q : ℕ) (xs : List Tok) (i : ℕ) (d : Tok) (total : Option ℕ) → i < length xs → (ends_run (get_or xs i d).kind && is_crowded n q) ≡ true → crowded last n q (drop i xs) ≡ total → Some (get_or xs i d).line ≡ total
-run_ends last n q xs i d total lt over so_far =
-    let told : judged last n q (get_or xs i d) (drop (i + 1) xs) ≡ Some (get_or xs i d).line = rw over refl in
-    sym told ∙ sym (at_token last n q xs i d lt) ∙ so_far
-
-pub last_crowded : (last n q : ℕ) (xs : List Tok) (i : ℕ) (total : Option ℕ) → length xs ≤ i → is_crowded n q ≡ true → crowded last n q (drop i xs) ≡ total → Some last ≡ total
-unfolding crowded
-last_crowded last n q xs i total le over so_far =
-    let told : (if is_crowded n q then Some last else None) ≡ Some last = rw over refl in
-    sym told ∙ sym (ap (crowded last n q) (drop_all i xs le)) ∙ so_far
-
-pub last_fits : (last n q : ℕ) (xs : List Tok) (i : ℕ) (total : Option ℕ) → length xs ≤ i → is_crowded n q ≡ false → crowded last n q (drop i xs) ≡ total → None ≡ total
-unfolding crowded
-last_fits last n q xs i total le fine so_far =
-    let told : (if is_crowded n q then Some last else None) ≡ None = rw fine refl in
-    sym told ∙ sym (ap (crowded last n q) (drop_all i xs le)) ∙ so_far
-
--- ---- `?` that wait
+use Rattle.c_parse.specs.Choices.{inside_after, waiting_after, is_deep}
 
 abbrev deeper : ℕ → ℕ → Tok → List Tok → Bool
 deeper p w t rest = if nat_lt 2048 (waiting_after p w t.kind) then true else is_deep (inside_after p t.kind) (waiting_after p w t.kind) rest

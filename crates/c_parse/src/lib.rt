@@ -5,8 +5,9 @@
 //! The promise: the first token that passes a limit is reported. Where none does, the answer is the one
 //! tree of the grammar that the tokens spell, or that they spell none. It may be out of memory in
 //! place of either.
-//! The call stack is bounded: at most 64 brackets, 256 statements and 2,048 `?` are entered in one
-//! another, and everything else that may be long is read by loops.
+//! The call stack is bounded: at most 64 brackets and 256 statements are entered in one another, and
+//! everything else that may be long is read by loops. A tree with more than 2,048 `?` in one another
+//! is not given to the checker, which enters them by calls.
 #![tactic(auto)]
 
 mod build;

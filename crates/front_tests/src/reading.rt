@@ -236,7 +236,7 @@ Parse(Syntax { line: 1 }) => void main(void){PORTB=`2730*a?``2730*:`;}
 // A structure's body ends a run in the middle of an expression.
 tree => void main(void){x=`2048*a?`sizeof(struct{int y;})`2048*:c`;}
 Parse(NoMemory) => void main(void){x=`2049*a?`sizeof(struct{int y;})`2049*:c`;}
-Parse(NoMemory) => void main(void){x=`2049*a?`sizeof(struct{int y;})`2048*:c`;}
+Parse(Syntax { line: 1 }) => void main(void){x=`2049*a?`sizeof(struct{int y;})`2048*:c`;}
 // Many of them, one behind the other.
 tree => void main(void){`20000*x=a?b:c;`}"#;
 
