@@ -20,7 +20,7 @@ mod words;
 
 pub use address::address_of;
 pub use assembly::{Assembled, assemble};
-pub use fitting::{fits, real_words};
+pub use fitting::real_words;
 use std::alloc::{AllocError, Global};
 
 // A call and a jump reach within a page of program memory (Microchip data sheet DS39582, PCL and PCLATH).
