@@ -24,3 +24,6 @@ pub mod Cells
 pub mod Through
 pub mod Bounds
 pub mod Ordering
+pub mod Agreeing
+pub mod Twins
+pub mod Totals

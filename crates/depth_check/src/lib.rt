@@ -82,3 +82,9 @@ pub struct Heights {
 pub fn depth_stays_within()
     ensures { (image : List ℕ) (c : Certificate) → is_valid image c ≡ true → StaysWithin image (total_of c) }
 {}
+
+/// All certificates that are valid for an image have one total, whatever bytes their handlers keep PCLATH in, and it is at most 8.
+pub fn depth_is_one()
+    ensures one { (image : List ℕ) (c d : Certificate) → is_valid image c ≡ true → is_valid image d ≡ true → total_of c ≡ total_of d }
+    ensures most { (image : List ℕ) (c : Certificate) → is_valid image c ≡ true → total_of c ≤ 8 }
+{}
