@@ -4,3 +4,4 @@ pub mod Programs
 pub mod Sizes
 pub mod Steps
 pub mod Renewed
+pub mod Nearby

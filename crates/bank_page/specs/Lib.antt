@@ -6,3 +6,4 @@ pub mod Step
 pub mod Links
 pub mod Ready
 pub mod Needless
+pub mod Near

@@ -18,6 +18,7 @@ use Rattle.code_place.specs.Places.{BlocksHaveAddresses}
 use Rattle.code_place.specs.Sizes.{Fit}
 use Rattle.sym_code.specs.Selects.{is_select}
 use Rattle.bank_page.specs.Kinds.{is_label}
+use Rattle.bank_page.specs.Near.{KeepNear}
 use Rattle.sym_code.specs.Selects.{bare}
 use Rattle.bank_page.specs.Selected.{Reaches, IsApart}
 
@@ -41,7 +42,7 @@ one_each name n = 1
 -- ---- what is given
 -- Blocks with their selects: by what is known on every way through a block each access finds its bank selected, and each jump and
 -- call its page; between a skip and the instruction behind it stands none. All that is named has an address: a result is one of
--- four bytes, which stand in every bank.
+-- four bytes, which stand in every bank. And where objects and frames end below 100h, no select sets RP1.
 pub record HasSelects (given made : List SymBlock) (handler : Option ℕ) (placed : Placed) (at : List ℕ) (g h : Setting) : Type 0 where
   pub given_code : g.program ≡ program_of given handler placed
   pub made_code : h.program ≡ program_of made handler placed
@@ -54,6 +55,7 @@ pub record HasSelects (given made : List SymBlock) (handler : Option ℕ) (place
   pub same : (name : BlockName) → bare (block_in made name) ≡ block_in given name
   pub apart : All IsApart made
   pub reaches : All (Reaches placed) made
+  pub near : KeepNear placed made
 
 -- ---- what is kept
 abbrev pub SelectsKeep : Setting → Setting → Type 0

@@ -19,7 +19,7 @@ use Rattle.flow_facts.proofs.Along.{right_whole}
 use Rattle.flow_facts.proofs.Plain.{unknown_consistent}
 use Rattle.bank_trace.proofs.Holding.{both_first, both_last}
 use Rattle.bank_trace.proofs.Sites.{Site, IsSound, plain_setting, banked_setting}
-use Rattle.bank_trace.proofs.Premises.{page_within, named_at, apart_at, reaches_at, lead_at}
+use Rattle.bank_trace.proofs.Premises.{page_within, named_at, near_at, apart_at, reaches_at, lead_at}
 use Rattle.bank_trace.proofs.Following.{follows, slow}
 
 keeps : (x : Site) → IsSound x → SelectsKeep (plain_setting x) (banked_setting x)
@@ -42,6 +42,7 @@ module _ (given made : List SymBlock) (handler : Option ℕ) (placed : Placed) (
     main = both_first (is_open facts 0) (is_open_at facts handler && all_lead facts made) has.consistent;
     entry = both_first (is_open_at facts handler) (all_lead facts made) later;
     named = named_at placed made at has.fit has.named;
+    near = near_at placed made has.near;
   }
 
   given_setting : plain_setting site ≡ g
@@ -87,6 +88,7 @@ flows_of given made handler placed at g h has = record {
   mates = λ bit name. refl;
   consistent = unknown_consistent handler made;
   reaches = plain_reaches placed made has.reaches;
+  near = has.near;
 }
 
 pub chooses : Chooses

@@ -1,9 +1,10 @@
 -- One instruction, with its selects and without them.
-use Rattle.std.proofs.Common.{◌≡◌, ℕ, ◌+◌, ◌*◌, Bool, true, false, nat_eq, if◌then◌else◌, List, Option, Some, None, slice_get, refl, sym, subst}
+use Rattle.std.proofs.Common.{◌≡◌, ℕ, ◌+◌, ◌*◌, Bool, true, false, ◌&&◌, nat_eq, if◌then◌else◌, List, Option, Some, None, slice_get, refl, sym, subst}
 use Rattle.std.proofs.lemmas.Bool.{eq-eqb}
 use Rattle.pic_world.specs.Bits.{bit, set_bit, clear_bit, truth}
-use Rattle.sym_code.specs.Effect.{Memory, Access, Effect, Stuck, access_of, file_to_w, file_to_file, store, change, test, file_bit, flag, put_flag, is_in_page, goto, call, literal, literal_value, plain, effect_of}
-use Rattle.sym_code.specs.Programs.{Position, block_of}
+use Rattle.sym_code.specs.Effect.{Memory, Access, Effect, Stuck, goes, quiet, access_of, file_to_w, file_to_file, store, change, test, file_bit, flag, put_flag, is_in_page, goto, call, literal, literal_value, plain, effect_of}
+use Rattle.sym_code.specs.Layout.{all_near}
+use Rattle.sym_code.specs.Programs.{Position, block_of, behind}
 use Rattle.sym_code.specs.Registers.{Registers, after_row, literal_row, status_bit, with_status_bit}
 use Rattle.sym_code.specs.Touching.{touches}
 use Rattle.sym_code.specs.declared.code.BankBit.TheVariants.{Rp0, Rp1, Irp}
@@ -21,6 +22,7 @@ use Rattle.sym_code.specs.declared.code.Register.TheVariants.{Status}
 use Rattle.sym_code.specs.declared.code.Sym.{Sym}
 use Rattle.sym_code.specs.declared.code.Sym.TheVariants as syms
 use Rattle.sym_code.specs.declared.code.Target.{Target}
+use Rattle.code_place.specs.Layouts.{layout_of}
 use Rattle.bank_page.specs.Kinds.{is_skip, byte_of, byte_named, target_of}
 use Rattle.bank_page.specs.Known.{is_retlw}
 use Rattle.bank_page.specs.Selected.{reaches_byte}
@@ -102,10 +104,17 @@ module _ (x : Site) (sound : IsSound x) (q : Position) (stack : List Position) (
       subst (λ (o : Option Registers). Does x (put_flag (without x) (under x q) (one x q stack r b open_stack) (with_status_bit r k v)) (put_flag (with x) q (other x q stack r b open_stack) o)) (sym (with_status_over b r k v))
       (put_flag_does x q stack r b open_stack (is_skip s) (next s fetch p past) (with_status_bit r k v))
 
+  -- what is stuck without selects may be stuck with them
+  unless : (c : Bool) (e f : Effect) → Does x e f → Does x (if c then Stuck else e) (if c then Stuck else f)
+  unless true e f does = GetsStuck refl
+  unless false e f does = does
+
   flag_does : (op : BitOperation) (k : ℕ) → slice_get (x.made q.block) q.index ≡ Some (syms.Bit op (operands.Register Status) k)
       → Does x (flag (without x) (under x q) (one x q stack r b open_stack) op k) (flag (with x) q (other x q stack r b open_stack) op k)
   flag_does Bcf k fetch = put_does (syms.Bit Bcf (operands.Register Status) k) fetch refl refl k 0
-  flag_does Bsf k fetch = put_does (syms.Bit Bsf (operands.Register Status) k) fetch refl refl k 1
+  flag_does Bsf k fetch =
+      unless (nat_eq k 7 && all_near (layout_of x.placed)) (put_flag (without x) (under x q) (one x q stack r b open_stack) (with_status_bit r k 1)) (put_flag (with x) q (other x q stack r b open_stack) (with_status_bit (over b r) k 1))
+      (put_does (syms.Bit Bsf (operands.Register Status) k) fetch refl refl k 1)
   flag_does Btfsc k fetch = test_flag_does x q stack r b open_stack true (next (syms.Bit Btfsc (operands.Register Status) k) fetch refl refl) refl 0 (status_bit r k)
   flag_does Btfss k fetch = test_flag_does x q stack r b open_stack true (next (syms.Bit Btfss (operands.Register Status) k) fetch refl refl) refl 1 (status_bit r k)
 
@@ -163,7 +172,9 @@ module _ (x : Site) (sound : IsSound x) (q : Position) (stack : List Position) (
       in_page target (reach_target (syms.Goto target) fetch p) (goto (plain_setting x) inside (under x q) (one x q stack r b open_stack) target) (goto (banked_setting x) inside q (other x q stack r b open_stack) target)
       (goto_does x q r b sound inside stack open_stack target (expected (at_target x.facts q.block target) (both_first there (leaves x.facts q.block target) led)) (both_last there (leaves x.facts q.block target) led))
   row_does (syms.Label label) fetch p = GetsStuck refl
-  row_does (syms.SelectBank Irp on) fetch p = goes_does x q stack r b open_stack false (next (syms.SelectBank Irp on) fetch p refl) (record r { irp = truth on }) None
+  row_does (syms.SelectBank Irp on) fetch p =
+      unless (on && all_near (layout_of x.placed)) (quiet (goes (one x q stack r b open_stack) (behind (without x) (under x q)) (record r { irp = truth on }))) (quiet (goes (other x q stack r b open_stack) (behind (with x) q) (over b (record r { irp = truth on }))))
+      (goes_does x q stack r b open_stack false (next (syms.SelectBank Irp on) fetch p refl) (record r { irp = truth on }) None)
   row_does (syms.SelectBank Rp0 on) fetch p = never p
   row_does (syms.SelectBank Rp1 on) fetch p = never p
   row_does (syms.SelectPage bit target) fetch p = never p

@@ -2,7 +2,8 @@
 use Rattle.std.proofs.Common.{◌≡◌, ℕ, suc, Bool, true, false, if◌then◌else◌, List, Option, Some, None, slice_get, refl, sym, ap, ◌∙◌, subst}
 use Rattle.pic_world.specs.World.{Outside, is_due}
 use Rattle.sym_code.specs.Cost.{Prices, instruction_cost, thread_cost, step_cost_at}
-use Rattle.sym_code.specs.Effect.{Thread, Memory, Quiet, effect_of, effect_if, effect}
+use Rattle.sym_code.specs.Effect.{Thread, Memory, Effect, Stuck, Quiet, effect_of, effect_if, effect}
+use Rattle.sym_code.specs.Layout.{all_near}
 use Rattle.sym_code.specs.Machine.{Machine, Entry, Goes, running, moved, acted, act, enter, sym_step_at}
 use Rattle.sym_code.specs.Programs.{Position, lands, behind, position}
 use Rattle.sym_code.specs.Registers.{Registers}
@@ -12,10 +13,12 @@ use Rattle.sym_code.specs.declared.code.BlockName.{BlockName}
 use Rattle.sym_code.specs.declared.code.PageBit.TheVariants.{Low, High}
 use Rattle.sym_code.specs.declared.code.Sym.{Sym}
 use Rattle.sym_code.specs.declared.code.Sym.TheVariants as syms
+use Rattle.code_place.specs.Layouts.{layout_of}
+use Rattle.bank_page.specs.Near.{sets_rp1}
 use Rattle.bank_page.specs.declared.known.Known.{Known}
 use Rattle.flow_facts.specs.Facts.{Fact}
 use Rattle.flow_facts.specs.Walk.{fact_after}
-use Rattle.bank_trace.proofs.Lists.{select_at, never, settle_again, mark_settle, mark_select}
+use Rattle.bank_trace.proofs.Lists.{select_at, never, sets_none, settle_again, mark_settle, mark_select}
 use Rattle.bank_trace.proofs.Prices.{selects_before, selects_ahead, before_select, before_settle, ahead_select, ahead_settle}
 use Rattle.bank_trace.proofs.Facts.{Spot, spot_front, spot_at, spot_next, fact_settles}
 use Rattle.bank_trace.proofs.Holding.{Bits, Holds, HoldsFact, holds_learned, live, selected}
@@ -75,21 +78,36 @@ module _ (x : Site) (q : Position) (stack : List Position) (r : Registers) where
         let f : Position → ℕ = λ p. selects_before 0 (x.made p.block) p.index in
         ap f (behind_is (with x) q) ∙ before_settle 0 (x.made q.block) (suc q.index) ∙ before_select 0 (x.made q.block) q.index there
 
-    effect_by : (inside : Bool) (m : Memory) (s' : Sym) → is_select s' ≡ true → effect_of (banked_setting x) inside q (banked_thread (at_select b)) m s'
+    -- where objects and frames end below 100h, the select doesn't set RP1
+    abbrev IsNearSelect : Sym → Type 0
+    IsNearSelect s' = all_near (layout_of x.placed) ≡ true → sets_rp1 s' ≡ false
+
+    near_select : IsSound x → IsNearSelect s
+    near_select sound low = sets_none (x.made q.block) q.index s (sound.near low q.block) fetch
+
+    effect_by : (inside : Bool) (m : Memory) (s' : Sym) → IsNearSelect s' → is_select s' ≡ true → effect_of (banked_setting x) inside q (banked_thread (at_select b)) m s'
         ≡ Quiet (banked_thread (record { rest = None; at = Some to; stack = stack; registers = r; bits = selected x.pages q.block s' b })) None
     unfolding effect_of
-    effect_by inside m (syms.SelectBank Rp0 on) e = refl
-    effect_by inside m (syms.SelectBank Rp1 on) e = refl
-    effect_by inside m (syms.SelectPage Low target) e = refl
-    effect_by inside m (syms.SelectPage High target) e = refl
-    effect_by inside m s' e = never e
+    effect_by inside m (syms.SelectBank Rp0 on) near e = refl
+    effect_by inside m (syms.SelectBank Rp1 false) near e = refl
+    effect_by inside m (syms.SelectBank Rp1 true) near e = by (all_near (layout_of x.placed)) refl
+      where
+        goes_on : Effect
+        goes_on = Quiet (banked_thread (record { rest = None; at = Some to; stack = stack; registers = r; bits = selected x.pages q.block (syms.SelectBank Rp1 true) b })) None
 
-    effect_select : (inside : Bool) (m : Memory) → effect (banked_setting x) inside (banked_thread (at_select b)) m ≡ Quiet (banked_thread past) None
+        by : (c : Bool) → all_near (layout_of x.placed) ≡ c → (if c then Stuck else goes_on) ≡ goes_on
+        by true low = never (sym (near low))
+        by false low = refl
+    effect_by inside m (syms.SelectPage Low target) near e = refl
+    effect_by inside m (syms.SelectPage High target) near e = refl
+    effect_by inside m s' near e = never e
+
+    effect_select : IsSound x → (inside : Bool) (m : Memory) → effect (banked_setting x) inside (banked_thread (at_select b)) m ≡ Quiet (banked_thread past) None
     unfolding effect
-    effect_select inside m =
+    effect_select sound inside m =
         effect_some (banked_setting x) inside (banked_thread (at_select b)) m q
         ∙ ap (effect_if (banked_setting x) inside q (banked_thread (at_select b)) m) fetch
-        ∙ effect_by inside m s select
+        ∙ effect_by inside m s (near_select sound) select
 
     -- ---- as a step of the machine
     module _ (j : Joint) (due : is_due j.world ≡ false) (runs : running_twin j ≡ at_select b) where
@@ -99,20 +117,20 @@ module _ (x : Site) (q : Position) (stack : List Position) (r : Registers) where
       running_is : running (banked_machine j) ≡ banked_thread (at_select b)
       running_is = running_by banked_thread j ∙ ap banked_thread runs
 
-      pub select_step : (e : Entry) (o : Outside) → lands (with x) to ≡ true → sym_step_at (banked_setting x) e o (banked_machine j) ≡ Goes (banked_machine behind_joint)
+      pub select_step : IsSound x → (e : Entry) (o : Outside) → lands (with x) to ≡ true → sym_step_at (banked_setting x) e o (banked_machine j) ≡ Goes (banked_machine behind_joint)
       unfolding acted
-      select_step e o stands =
+      select_step sound e o stands =
           ap (λ (c : Bool). if c then enter (banked_setting x) e x.handler (banked_machine j) else act (banked_setting x) o (banked_machine j)) due
           ∙ ap (λ (th : Thread). acted (banked_setting x) o (banked_machine j) (effect (banked_setting x) j.world.inside th j.memory)) running_is
-          ∙ ap (acted (banked_setting x) o (banked_machine j)) (effect_select j.world.inside j.memory)
+          ∙ ap (acted (banked_setting x) o (banked_machine j)) (effect_select sound j.world.inside j.memory)
           ∙ ap (λ (c : Bool). moved (banked_machine j) (if c then Some (record { thread = banked_thread past; write = None; world = j.world }) else None)) stands
           ∙ moved_by banked_thread j past None j.world
 
-      pub select_cost : (c : Prices) → step_cost_at (banked_setting x) c (banked_machine j) ≡ c.word q.block q.index
-      select_cost c =
+      pub select_cost : IsSound x → (c : Prices) → step_cost_at (banked_setting x) c (banked_machine j) ≡ c.word q.block q.index
+      select_cost sound c =
           ap (λ (d : Bool). if d then c.enter else thread_cost (banked_setting x) c j.world.inside (running (banked_machine j)) j.memory (running (banked_machine j)).rest) due
           ∙ ap (λ (th : Thread). thread_cost (banked_setting x) c j.world.inside th j.memory th.rest) running_is
-          ∙ ap (instruction_cost c (Some q)) (effect_select j.world.inside j.memory)
+          ∙ ap (instruction_cost c (Some q)) (effect_select sound j.world.inside j.memory)
 
       put_same : (f : Twin → Thread) (c : Bool) (a z t : Twin) → f t ≡ f (if c then z else a) → (f (if c then a else t) ≡ f a) × (f (if c then t else z) ≡ f z)
       put_same f true a z t e = (refl, e)

@@ -1,7 +1,7 @@
 -- Places in a list, and in what is left of it without its selects.
 use Rattle.std.proofs.Common.{◌≡◌, ℕ, zero, suc, ◌+◌, Bool, true, false, not, ◌&&◌, if◌then◌else◌, List, [], ◌∷◌, drop, Option, Some, None, option_map, slice_get, refl, sym, ap, ◌∙◌, subst, add-one, true≢false, arith}
 use Rattle.std.proofs.lemmas.Bool.{eqb-true}
-use Rattle.std.proofs.lemmas.Option.{none-some}
+use Rattle.std.proofs.lemmas.Option.{none-some, same_Some}
 use Rattle.sym_code.specs.Programs.{is_word, labels_in_front, label_from, same_label}
 use Rattle.sym_code.specs.Selects.{is_select, bare}
 use Rattle.sym_code.specs.declared.code.BankBit.TheVariants.{Rp0, Rp1}
@@ -10,6 +10,7 @@ use Rattle.sym_code.specs.declared.code.Label.TheVariants as labels
 use Rattle.sym_code.specs.declared.code.Sym.{Sym}
 use Rattle.sym_code.specs.declared.code.Sym.TheVariants as syms
 use Rattle.bank_page.specs.Kinds.{is_label}
+use Rattle.bank_page.specs.Near.{sets_rp1, none_sets_rp1}
 
 -- ---- what stands at a place
 abbrev pub is_plain : Sym → Bool
@@ -39,6 +40,19 @@ never e = absurd (true≢false (sym e))
 pub calm_plain : (o : Option Sym) → plain_at o ≡ true → calm_at o ≡ true
 calm_plain None e = never e
 calm_plain (Some s) e = e
+
+pub sets_none : (list : List Sym) (j : ℕ) (s : Sym) → none_sets_rp1 list ≡ true → slice_get list j ≡ Some s → sets_rp1 s ≡ false
+sets_none [] j s e is = absurd (none-some s is)
+sets_none (x ∷ list) zero s e is = subst (λ y. sets_rp1 y ≡ false) (same_Some x s is) (by (sets_rp1 x) e)
+  where
+    by : (c : Bool) → (not c && none_sets_rp1 list) ≡ true → c ≡ false
+    by true e = never e
+    by false e = refl
+sets_none (x ∷ list) (suc j) s e is = sets_none list j s (by (sets_rp1 x) e) is
+  where
+    by : (c : Bool) → (not c && none_sets_rp1 list) ≡ true → none_sets_rp1 list ≡ true
+    by true e = never e
+    by false e = e
 
 -- ---- behind labels
 -- the first index from here on at which no label stands

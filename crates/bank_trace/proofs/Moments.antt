@@ -111,7 +111,7 @@ module _ (x : Site) (sound : IsSound x) (e : Entry) (o : Outside) (first last : 
     goal_runs = select_runs x q stack r b s fetch select j due runs
 
     goal_step : sym_step_at (banked_setting x) e o (banked_machine j) ≡ Goes (banked_machine goal)
-    goal_step = select_step x q stack r b s fetch select j due runs e o (under_lands x place_past (select_fine x q stack r b s fetch select sound here.at).settled goal_stands)
+    goal_step = select_step x q stack r b s fetch select j due runs sound e o (under_lands x place_past (select_fine x q stack r b s fetch select sound here.at).settled goal_stands)
 
     goal_banked : settled o (other (suc m)) ≡ banked_machine goal
     goal_banked =
@@ -123,7 +123,7 @@ module _ (x : Site) (sound : IsSound x) (e : Entry) (o : Outside) (first last : 
 
     goal_cost : (c : Prices) → c.word q.block q.index ≡ 1 → cost_by (banked_setting x) c e o (suc m) last ≡ cost_by (banked_setting x) c e o m last + 1
     goal_cost c one_word =
-        cost_next (banked_setting x) e o last c m (banked_machine j) banked ∙ ap (λ (n : ℕ). cost_by (banked_setting x) c e o m last + n) (select_cost x q stack r b s fetch select j due runs c ∙ one_word)
+        cost_next (banked_setting x) e o last c m (banked_machine j) banked ∙ ap (λ (n : ℕ). cost_by (banked_setting x) c e o m last + n) (select_cost x q stack r b s fetch select j due runs sound c ∙ one_word)
 
     led_more : (k : ℕ) → Led goal stack r (suc m) k (selects_before 0 (x.made place_past.block) place_past.index) → Led j stack r m (suc k) (selects_before 0 (x.made q.block) q.index)
     led_more k led =

@@ -3,6 +3,7 @@ use Rattle.std.proofs.Common.{◌≡◌, ℕ, zero, suc, ◌+◌, ◌<◌, Bool,
 use Rattle.std.specs.Option.{option_or}
 use Rattle.std.proofs.lemmas.Option.{none-some, same_Some, slice_get_within, get_or_from_slice_get}
 use Rattle.pic_map.specs.declared.Placed.{Placed}
+use Rattle.sym_code.specs.Layout.{all_near}
 use Rattle.sym_code.specs.Programs.{same_name, block_in}
 use Rattle.sym_code.specs.Touching.{touches}
 use Rattle.sym_code.specs.declared.code.BlockName.{BlockName}
@@ -11,9 +12,10 @@ use Rattle.sym_code.specs.declared.code.Sym.TheVariants as syms
 use Rattle.sym_code.specs.declared.code.SymBlock.{SymBlock}
 use Rattle.sym_code.specs.declared.code.Target.{Target}
 use Rattle.code_place.specs.Instructions.{known}
-use Rattle.code_place.specs.Layouts.{page_of}
+use Rattle.code_place.specs.Layouts.{layout_of, page_of}
 use Rattle.code_place.specs.Places.{at_if, block_place, target_for, HasAddress, HaveAddresses, BlocksHaveAddresses}
 use Rattle.code_place.specs.Sizes.{Stands, Fit}
+use Rattle.bank_page.specs.Near.{none_sets_rp1, StaysNear, KeepNear}
 use Rattle.bank_page.specs.Selected.{NoSelectBehindSkip, IsApart}
 use Rattle.flow_facts.specs.Facts.{Facts}
 use Rattle.flow_facts.specs.Walk.{is_right, all_hold, holds_in, leads, all_lead, Reaches}
@@ -87,6 +89,9 @@ named_at placed blocks at fit named =
 -- ---- facts
 pub apart_at : (blocks : List SymBlock) → All IsApart blocks → (name : BlockName) → NoSelectBehindSkip (block_in blocks name)
 apart_at blocks all = of_name IsApart (λ name list. NoSelectBehindSkip list) (λ block h. h) (λ name e. absurd (cc)) blocks (each_all IsApart blocks all)
+
+pub near_at : (placed : Placed) (blocks : List SymBlock) → KeepNear placed blocks → all_near (layout_of placed) ≡ true → (name : BlockName) → none_sets_rp1 (block_in blocks name) ≡ true
+near_at placed blocks near low = of_name StaysNear (λ name list. none_sets_rp1 list ≡ true) (λ block h. h) (λ name. refl) blocks (each_all StaysNear blocks (near low))
 
 pub reaches_at : (placed : Placed) (f : Facts) (blocks : List SymBlock) → All (Reaches placed f) blocks → (name : BlockName) → all_hold (is_right placed f name) f name (f.front name) false (block_in blocks name) ≡ true
 reaches_at placed f blocks all =

@@ -2,6 +2,7 @@
 use Rattle.std.proofs.Common.{◌≡◌, ℕ, ◌<◌, Bool, true, false, List, Option, Some, None, IsSome, slice_get}
 use Rattle.pic_map.specs.declared.Placed.{Placed}
 use Rattle.sym_code.specs.Effect.{Setting}
+use Rattle.sym_code.specs.Layout.{all_near}
 use Rattle.sym_code.specs.Programs.{Program}
 use Rattle.sym_code.specs.Selects.{bare}
 use Rattle.sym_code.specs.Touching.{touches}
@@ -10,6 +11,7 @@ use Rattle.sym_code.specs.declared.code.Operand.{Operand}
 use Rattle.sym_code.specs.declared.code.Sym.{Sym}
 use Rattle.code_place.specs.Addresses.{file_address}
 use Rattle.code_place.specs.Layouts.{layout_of}
+use Rattle.bank_page.specs.Near.{none_sets_rp1}
 use Rattle.bank_page.specs.Selected.{NoSelectBehindSkip}
 use Rattle.flow_facts.specs.Facts.{Facts, AreMates}
 use Rattle.flow_facts.specs.Walk.{is_right, all_hold, leads, is_open, is_open_at}
@@ -53,3 +55,5 @@ pub record IsSound (x : Site) : Type 0 where
   pub main : is_open x.facts 0 ≡ true
   pub entry : is_open_at x.facts x.handler ≡ true
   pub named : (name : BlockName) (j : ℕ) (s : Sym) → slice_get (x.made name) j ≡ Some s → IsNamed x.placed (touches s)
+  -- where objects and frames end below 100h, no select sets RP1
+  pub near : all_near (layout_of x.placed) ≡ true → (name : BlockName) → none_sets_rp1 (x.made name) ≡ true

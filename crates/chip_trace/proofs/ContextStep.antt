@@ -98,6 +98,7 @@ module _ (g : Setting) (h : Ground) (image input : List ℕ) (hd : ℕ) (x : IsI
             ground = h;
             image_then = x;
             halt_then = halt_is;
+            below_then = λ end b. b;
             stands = subst (λ z. St g h image input hd x watch halt_is e t0 start from to s runs (suc n) z debt) (sym there) (record {
               index = st.index;
               ahead = st.ahead;
@@ -349,7 +350,7 @@ module _ (g : Setting) (h : Ground) (image input : List ℕ) (hd : ℕ) (x : IsI
             saved = subst (IsSaved g h image hd x.vector st.thread.registers) (sym ram_is) kept;
             lands = ap (λ (z : Thread). lands_at g.program z.at) isr ∙ en.lands;
             rest = ap (λ (z : Thread). z.rest) isr;
-            good = subst (IsGood g true) (sym isr) (record { deep = omega arith; at = ap is_copy (stand_block g.program (position (Copy hd) 0)); stack = refl; left = tt });
+            good = subst (IsGood g true) (sym isr) (record { deep = omega arith; at = ap is_copy (stand_block g.program (position (Copy hd) 0)); stack = refl; left = tt; low = λ n. let l = st.good.low n in let b = en.sees.bank in let r0 = en.sees.banks.0 in let l0 = l.0 in let l1 = l.1 in (omega (arith, b, r0, l0, l1), omega (arith, b, r0, l0, l1)) });
           }))
 
       pub selecting : Result
@@ -479,6 +480,7 @@ module _ (g : Setting) (h : Ground) (image input : List ℕ) (hd : ℕ) (x : IsI
           ground = h;
           image_then = x;
           halt_then = halt_is;
+          below_then = λ end b. b;
           stands = subst (λ z. St g h image input hd x watch halt_is e t0 start from to s runs (suc n) z debt) (sym there) (record {
             index = suc st.index;
             ahead = st.ahead;
@@ -617,6 +619,7 @@ module _ (g : Setting) (h : Ground) (image input : List ℕ) (hd : ℕ) (x : IsI
             ground = h;
             image_then = x;
             halt_then = halt_is;
+            below_then = λ end b. b;
             stands = subst (λ z. St g h image input hd x watch halt_is e t0 start from to s (suc runs) (suc n) z debt) (sym there) (record {
               index = suc st.index;
               ahead = st.ahead;

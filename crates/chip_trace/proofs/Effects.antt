@@ -7,7 +7,7 @@ use Rattle.pic_world.specs.Registers.{is_register, lowest}
 use Rattle.pic_world.specs.declared.Root.TheVariants.{Main, Isr}
 use Rattle.core_code.specs.declared.code.Byte.TheVariants as bytes
 use Rattle.sym_code.specs.Effect.{Setting, Port, Shared, Rest, Thread, Memory, write, Access, Pointer, Event, Silent, Denied, access_by, general_access, is_selected, access_of, Quiet, goes, quiet, after_file, result_in_w, file_to_w, file_to_file, store, change, test, file_bit, bits, effect_of, effect_if, effect_at, effect_rest, effect}
-use Rattle.sym_code.specs.Layout.{DataLayout, address_of, general_at, Owner, Watched, Constant, Of, Nobody, owner}
+use Rattle.sym_code.specs.Layout.{is_covered, DataLayout, address_of, general_at, Owner, Watched, Constant, Of, Nobody, owner}
 use Rattle.sym_code.specs.Programs.{Position, fetched, behind, onward}
 use Rattle.sym_code.specs.Registers.{Registers, pointer, result_with}
 use Rattle.sym_code.specs.declared.code.BitOperation.{BitOperation}
@@ -81,7 +81,7 @@ access_sound g i w r (operands.Byte (bytes.Device a)) = device g.program.layout 
 access_sound g i w r (operands.Byte (bytes.Static n o)) = named g i w r (address_of g.program.layout (bytes.Static n o)) (is_selected g r (address_of g.program.layout (bytes.Static n o)))
 access_sound g i w r (operands.Byte (bytes.Frame n o)) = named g i w r (address_of g.program.layout (bytes.Frame n o)) (is_selected g r (address_of g.program.layout (bytes.Frame n o)))
 access_sound g i w r (operands.Byte (bytes.Result n o)) = named g i w r (address_of g.program.layout (bytes.Result n o)) (is_selected g r (address_of g.program.layout (bytes.Result n o)))
-access_sound g i w r (operands.Register Indf) = general g.program.layout i w (general_at (pointer r))
+access_sound g i w r (operands.Register Indf) = named g i w r (pointer r) (is_covered g.program.layout (pointer r))
 access_sound g i w r (operands.Register Fsr) = tt
 access_sound g i w r (operands.Register Status) = tt
 access_sound g i w r (operands.Register Pclath) = tt

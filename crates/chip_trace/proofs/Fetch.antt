@@ -1,5 +1,5 @@
 -- The instruction of the chip at a thread's position, and its effect.
-use Rattle.std.proofs.Common.{◌≡◌, ℕ, ◌/◌, ◌%◌, ◌<◌, ◌≤◌, ◌⊎◌, inl, inr, Bool, true, false, List, length, Option, Some, None, refl, sym, ap, ◌∙◌, subst}
+use Rattle.std.proofs.Common.{◌≡◌, ◌≢◌, ℕ, ◌/◌, ◌%◌, ◌<◌, ◌≤◌, ◌⊎◌, inl, inr, Bool, true, false, List, length, Option, Some, None, refl, sym, ap, ◌∙◌, subst}
 use Rattle.std.specs.Prelude.{slice_index, nat_eq}
 use Rattle.pic_isa.specs.declared.Ins.{Ins}
 use Rattle.pic_isa.specs.Lookup.{row_of}
@@ -33,6 +33,8 @@ use Rattle.chip_trace.proofs.Effects.{reads_silently}
 use Rattle.chip_trace.proofs.Lock.{sym_locked}
 use Rattle.chip_trace.proofs.Locked.{LockedBy}
 use Rattle.pic_chip.proofs.Ranges.{IsRanged}
+use Rattle.chip_trace.proofs.Touched.{sym_touched}
+use Rattle.chip_trace.specs.Keeping.{file_of, Touches}
 use Rattle.chip_trace.proofs.Relations.{Ground, Means, IsAt, IsPlaced, words, spot, page_row}
 
 -- the model has the instruction, and it is no return from an interrupt
@@ -126,6 +128,7 @@ module _ (reaches : ℕ → ℕ → Bool) (g : Setting) (h : Ground) (o : Outsid
     pub ins : Ins
     pub decoded : row_of (slice_index image s.pc) ≡ Some ins
     pub ordinary : (effect g i th m ≡ Stuck) ⊎ Ordinary ins
+    pub touched : (effect g i th m ≢ Stuck) → (f : ℕ) → file_of ins ≡ Some f → Touches g.program f s
     pub locked : LockedBy g h o m below s (perform (execute image o.input) s) w (events_of g.program.layout.objects (accesses (execute image o.input) s)) (effect g i th m)
 
   is_some_word : (x : Option Sym) → is_word x ≡ true → (y : Sym) × (x ≡ Some y)
@@ -150,6 +153,7 @@ module _ (reaches : ℕ → ℕ → Bool) (g : Setting) (h : Ground) (o : Outsid
         ins = c.0;
         decoded = dec;
         ordinary = subst (λ z. (z ≡ Stuck) ⊎ Ordinary c.0) (sym eff) (ordinary g h i th m p y c.0 wd c.2);
+        touched = λ ne j q. sym_touched reaches g h banked laid i th p m s at.sees y f.1 wd (λ k. ne (eff ∙ k)) c.0 c.2 j q;
         locked = subst (LockedBy g h o m below s (perform (execute image o.input) s) w (events_of g.program.layout.objects (accesses (execute image o.input) s))) (sym eff)
             (subst (λ a. LockedBy g h o m below s (perform (execute image o.input) s) w (events_of g.program.layout.objects a) (effect_of g i p th m y)) (sym (accesses_are image o.input s c.0 dec))
             (subst (λ a. LockedBy g h o m below s a w (events_of g.program.layout.objects (accesses (row o.input s.pc c.0) s)) (effect_of g i p th m y)) (sym (performs image o.input s c.0 dec)) k));

@@ -16,6 +16,7 @@ use Rattle.sym_code.specs.Effect.{Setting, Thread, Write, written, Rest, Loud, E
 use Rattle.sym_code.specs.Layout.{owner, Owner, Watched, Nobody}
 use Rattle.sym_code.specs.Machine.{Machine, Entry, Stops, Made, made, made_write, checked, moved, settled, sym_step_at, sym_run, lands_at, value_by, read_by, is_forbidden}
 use Rattle.sym_code.specs.Programs.{Position, lands}
+use Rattle.chip_trace.specs.Keeping.{file_in, TouchesThere}
 use Rattle.chip_trace.proofs.Addresses.{saved_nobody}
 use Rattle.chip_trace.proofs.Effects.{reads_silently, writes_silently}
 use Rattle.chip_trace.proofs.Fetch.{LockedAt, locked_at, Ordinary}
@@ -124,6 +125,9 @@ module _ (g : Setting) (h : Ground) (image input : List ℕ) (hd : ℕ) (x : IsI
       lock : LockedAt x.reaches g h o image x.placed x.banked x.laid true t.isr t.memory below S t.world
       lock = locked_at x.reaches g h o image x.placed x.banked x.laid true t.isr t.memory below S t.world p here at a.rest a.at st.shows.control st.shows.taken own static st.ranged deep room
 
+      pub handler_touches : TouchesThere g.program image S
+      handler_touches f q = lock.touched (λ stuck. goes_on (acts_on Stuck refl stuck)) f (sym (ap file_in lock.decoded) ∙ q)
+
       is_ordinary : (y : Effect) → effect g true t.isr t.memory ≡ y → y ≢ Stuck → Ordinary lock.ins
       is_ordinary y is ne = by lock.ordinary where
         by : (effect g true t.isr t.memory ≡ Stuck) ⊎ Ordinary lock.ins → Ordinary lock.ins
@@ -166,6 +170,7 @@ module _ (g : Setting) (h : Ground) (image input : List ℕ) (hd : ℕ) (x : IsI
             ground = h;
             image_then = x;
             halt_then = halt_is;
+            below_then = λ end b. b;
             stands = subst (λ z. St g h image input hd x watch halt_is e t0 start from to s runs (suc n) z debt) (sym there) (record {
               index = index;
               ahead = st.ahead;
@@ -297,7 +302,7 @@ module _ (g : Setting) (h : Ground) (image input : List ℕ) (hd : ℕ) (x : IsI
           good_half = so.1 (value_by o t.memory t.world b)
 
           good_then : IsGood g true u'
-          good_then = record { deep = good_half.deep; at = good_half.at; stack = good_half.stack; left = tt }
+          good_then = record { deep = good_half.deep; at = good_half.at; stack = good_half.stack; left = tt; low = good_half.low }
 
           sound_then : IsSound g true u (Writes z.to z.byte u')
           sound_then = (subst (IsLeftOver g.program.layout) left good_half.left, good_then, refl)
@@ -363,6 +368,7 @@ module _ (g : Setting) (h : Ground) (image input : List ℕ) (hd : ℕ) (x : IsI
             ground = h;
             image_then = x;
             halt_then = halt_is;
+            below_then = λ end b. b;
             stands = subst (λ z. St g h image input hd x watch halt_is e t0 start from to s runs (suc n) z debt) (sym there) (record {
               index = st.index;
               ahead = st.ahead;
@@ -405,6 +411,7 @@ module _ (g : Setting) (h : Ground) (image input : List ℕ) (hd : ℕ) (x : IsI
                 depth = subst (λ (q : State). q.pushes ≡ q.pops + length below) (sym same) (subst (λ z. S.pushes ≡ S.pops + length (words g h z below)) so.1 a.at.depth);
                 saved = subst (λ (q : State). IsSaved g h image hd x.vector st.thread.registers q.ram) (sym same) a.saved;
                 ranged = executed_ranged input x.small S st.ranged image;
+                low = λ n. let l = a.good.low n in let l0 = l.0 in let l1 = l.1 in let b = a.at.sees.bank in let r0 = a.at.sees.banks.0 in subst (λ (q : State). q.bank < 2) (sym same) (let z : S.bank < 2 = omega (arith, l0, l1, b, r0) in z);
               }) (same ∙ sym (ap (λ (q : State). record q { pc = h.restore }) same));
             });
           }

@@ -41,6 +41,7 @@ pub record IsImage (g : Setting) (h : Ground) (image input : List ℕ) (hd : ℕ
   pub selects : (k : ℕ) → k < turns → row_of (slice_index image (h.halt + k)) ≡ Some (page_row (bit k) (h.halt / 2048))
   pub stays : row_of (slice_index image (h.halt + turns)) ≡ Some (isa.Goto (h.halt % 2048))
   pub halt_small : h.halt + turns < 8192
+  pub within : h.halt + turns < h.long
   pub turn : ℕ
   pub turn_small : turn ≤ turns
   pub rests : h.rests ≡ h.halt + turn

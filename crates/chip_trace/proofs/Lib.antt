@@ -42,3 +42,6 @@ mod StartJumps
 mod StartParts
 mod StartWhole
 pub mod StartFinal
+pub mod Touched
+pub mod Low
+pub mod Now

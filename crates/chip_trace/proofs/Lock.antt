@@ -1,6 +1,6 @@
 -- One instruction of the chip is one effect of symbolic code.
 use Rattle.std.proofs.Common.{◌≡◌, ℕ, ◌+◌, ◌*◌, ◌/◌, ◌%◌, ◌<◌, ◌≤◌, Bool, true, false, List, [], ◌∷◌, ◌++◌, length, Option, Some, None, refl, sym, ap, ◌∙◌, subst, arith, append-nil, inr}
-use Rattle.std.specs.Prelude.{if◌then◌else◌, not, ◌||◌, slice_index, nat_eq, nat_lt, nat_le, bit_and, bit_or, bit_xor}
+use Rattle.std.specs.Prelude.{if◌then◌else◌, not, ◌&&◌, ◌||◌, slice_index, nat_eq, nat_lt, nat_le, bit_and, bit_or, bit_xor}
 use Rattle.std.proofs.lemmas.Bool.{eqb-true, eqb-false, ltb-true}
 use Rattle.pic_isa.specs.declared.Ins.{Ins}
 use Rattle.pic_isa.specs.declared.Ins.TheVariants as isa
@@ -19,8 +19,8 @@ use Rattle.pic_world.specs.declared.Cell.{Cell}
 use Rattle.pic_world.specs.declared.Cell.TheVariants as cells
 use Rattle.pic_world.specs.declared.Event.{Event as Shown}
 use Rattle.code_place.specs.Instructions.{bit_set, bank_row, literal_row as chip_literal, plain_row, bit_row as chip_bit}
-use Rattle.sym_code.specs.Effect.{Setting, Thread, Memory, Write, access_of, Effect, Stuck, Quiet, goes, quiet, put_flag, test_flag, flag, bits, file_bit, is_in_page, jump_to, halt, restore, goto, call, back, literal_value, literal, plain, page_bit, effect_of}
-use Rattle.sym_code.specs.Layout.{DataLayout, Watched, owner, IsLaidOut}
+use Rattle.sym_code.specs.Effect.{Setting, Thread, Memory, Write, access_of, Effect, Stuck, Quiet, goes, quiet, put_flag, test_flag, flag, bits, file_bit, is_in_page, jump_to, halt, restore, goto, call, back, literal_value, literal, plain, is_far, select, page_bit, effect_of}
+use Rattle.sym_code.specs.Layout.{all_near, DataLayout, Watched, owner, IsLaidOut}
 use Rattle.sym_code.specs.Programs.{Program, Position, block_of, is_word, lands, behind, onward, place_of}
 use Rattle.sym_code.specs.Registers.{Registers, bank, page, with_bank_bit, with_page_bit, after_row, literal_row, status_bit, with_status_bit}
 use Rattle.sym_code.specs.declared.code.BankBit.{BankBit}
@@ -192,9 +192,14 @@ module _ (reaches : ℕ → ℕ → Bool) (g : Setting) (h : Ground) (o : Outsid
       let none' : status_bit r b ≡ None = rw (e0, e1, e2, e7) refl in
       subst (λ z. Row (n b) (test_flag q p th v z)) (sym none') tt
 
+  -- what is stuck asks nothing
+  unless : (b : Bool) (n : Ins) (y : Effect) → Row n y → Row n (if b then Stuck else y)
+  unless true n y h = tt
+  unless false n y h = h
+
   flag_locked : (op : BitOperation) (b : ℕ) → Row (chip_bit op 3 b) (flag q p th op b)
   flag_locked Bcf b = clear_case b (nat_eq b 0) (nat_eq b 1) (nat_eq b 2) (nat_eq b 7) refl refl refl refl
-  flag_locked Bsf b = set_case b (nat_eq b 0) (nat_eq b 1) (nat_eq b 2) (nat_eq b 7) refl refl refl refl
+  flag_locked Bsf b = unless (nat_eq b 7 && all_near q.layout) (isa.Bsf 3 b) (put_flag q p th (with_status_bit r b 1)) (set_case b (nat_eq b 0) (nat_eq b 1) (nat_eq b 2) (nat_eq b 7) refl refl refl refl)
   flag_locked Btfsc b = test_case (isa.Btfsc 3) b 0 (nat_eq b 0) (nat_eq b 1) (nat_eq b 2) (nat_eq b 7) (λ k. refl) refl refl refl refl
   flag_locked Btfss b = test_case (isa.Btfss 3) b 1 (nat_eq b 0) (nat_eq b 1) (nat_eq b 2) (nat_eq b 7) (λ k. refl) refl refl refl refl
 
@@ -426,7 +431,7 @@ module _ (reaches : ℕ → ℕ → Bool) (g : Setting) (h : Ground) (o : Outsid
   pub sym_locked : (y : Sym) (n : Ins) → is_word (Some y) ≡ true → Means g h p y n → Row n (effect_of g i p th m y)
   unfolding effect_of
   sym_locked (syms.Label label) n wd e = absurd (cc)
-  sym_locked (syms.SelectBank which on) n wd e = subst (λ k. Row k (quiet (goes th (behind q p) (with_bank_bit r which (truth on))))) (sym e) (bank_locked which on)
+  sym_locked (syms.SelectBank which on) n wd e = subst (λ k. Row k (select q p th which on)) (sym e) (unless (is_far which on && all_near q.layout) (bank_row which on) (quiet (goes th (behind q p) (with_bank_bit r which (truth on)))) (bank_locked which on))
   sym_locked (syms.SelectPage which t) n wd e = subst (λ k. Row k (quiet (goes th (behind q p) (with_page_bit r which (page_bit which (g.page_of (block_of p.block t))))))) (sym e) (page_locked which (g.page_of (block_of p.block t)))
   sym_locked (syms.File op y into.W) n wd e = subst (λ k. Row k (effect_of g i p th m (syms.File op y into.W))) (sym e) (files.w_locked reaches g h o image placed banked laid i th p m below s w here is none at same taken own static op y (access_of g i false r y) refl (access_sound g i false r y))
   sym_locked (syms.File op y into.File) n wd e = subst (λ k. Row k (effect_of g i p th m (syms.File op y into.File))) (sym e) (files.f_locked reaches g h o image placed banked laid i th p m below s w here is none at same taken own static op y (access_of g i true r y) refl (access_sound g i true r y))

@@ -21,13 +21,14 @@ use Rattle.sym_code.specs.Machine.{Machine, Entry, Stops, Made, made, made_write
 use Rattle.sym_code.specs.Programs.{Position, lands}
 use Rattle.sym_code.specs.Registers.{page}
 use Rattle.chip_trace.specs.Arriving.{one_each, is_kept}
+use Rattle.chip_trace.specs.Keeping.{file_in, TouchesThere}
 use Rattle.chip_trace.proofs.Fetch.{LockedAt, locked_at, Ordinary}
 use Rattle.chip_trace.proofs.Image.{IsImage, after, elsewhere, ending, observed_long, put_written, put_apart, words_length, same_length}
 use Rattle.chip_trace.proofs.Locked.{Locked, LockedIf, LockedRead, LockedBy}
 use Rattle.chip_trace.proofs.Past.{IsNear, near, near_apart, MadeIf, made_case, is_event, longer, inside, good, read_long, read_control, read_inside, silent_somebody, watched_somebody}
 use Rattle.pic_chip.proofs.Ranges.{executed_ranged}
 use Rattle.pic_chip.proofs.Stack.{IsOn}
-use Rattle.chip_trace.proofs.Relations.{Ground, Sees, words, spot}
+use Rattle.chip_trace.proofs.Relations.{Ground, IsBelow, Sees, words, spot}
 use Rattle.chip_trace.proofs.Rested.{rested, words_at, image_at}
 use Rattle.chip_trace.proofs.Runs.{over, raised, Extends, exactly, Comes, settled_is, raised_none, step_from, cost_from, off_steps, main_makes, main_made, main_ends, makes, same_made, main_cost, one_cost, rest_cost, end_cost, comes_main, comes_loud}
 use Rattle.chip_trace.proofs.Sound.{IsGood, IsSound, IsLeft, is_out, sound}
@@ -58,6 +59,7 @@ module _ (g : Setting) (h : Ground) (image input : List ℕ) (hd : ℕ) (x : IsI
     pub ground : Ground
     pub image_then : IsImage g ground image input hd
     pub halt_then : watch.halt ≡ ground.halt
+    pub below_then : (end : ℕ) → IsBelow g h end → IsBelow g ground end
     pub stands : Stands g ground image hd image_then.vector e input t0 least_prices dear_prices s start from to runs n d debt
 
   -- the early run isn't stuck there
@@ -150,6 +152,9 @@ module _ (g : Setting) (h : Ground) (image input : List ℕ) (hd : ℕ) (x : IsI
         abbrev EV : List Shown
         EV = events_of ranges (accesses (execute image input) S)
 
+        pub main_touches : TouchesThere g.program image S
+        main_touches f q = lock.touched (λ stuck. main_goes (main_acts Stuck refl stuck)) f (sym (ap file_in lock.decoded) ∙ q)
+
         is_ordinary : (y : Effect) → effect g false st.thread st.memory ≡ y → y ≢ Stuck → Ordinary lock.ins
         is_ordinary y is ne = by lock.ordinary where
           by : (effect g false st.thread st.memory ≡ Stuck) ⊎ Ordinary lock.ins → Ordinary lock.ins
@@ -191,6 +196,7 @@ module _ (g : Setting) (h : Ground) (image input : List ℕ) (hd : ℕ) (x : IsI
               ground = h;
               image_then = x;
               halt_then = halt_is;
+              below_then = λ end b. b;
               stands = subst (λ z. St s runs (suc n) z debt) (sym there) (record {
                 index = index;
                 ahead = 0;
@@ -315,13 +321,13 @@ module _ (g : Setting) (h : Ground) (image input : List ℕ) (hd : ℕ) (x : IsI
                 let th : r.thread ≡ u' = made_thread (Some r) m in
                 let ok : lands_at g.program r.thread.at ≡ true = ap (λ (v : Thread). lands_at g.program v.at) th ∙ half in
                 let gd = so.1 (value_by o st.memory t.world b) in
-                let good' : IsGood g false r.thread = subst (IsGood g false) (sym th) (record { deep = gd.deep; at = gd.at; stack = gd.stack; left = tt }) in
+                let good' : IsGood g false r.thread = subst (IsGood g false) (sym th) (record { deep = gd.deep; at = gd.at; stack = gd.stack; left = tt; low = gd.low }) in
                 let t3 = record t { main = r.thread; memory = written r.write st.memory; world = r.world } in
                 let long : length r.world.trace ≡ length w1.trace + 1 = subst (MadeIf (λ v. length v.world.trace ≡ length w1.trace + 1)) m (longer o st.memory w1 (Writes z.to z.byte u') refl) in
                 let ins : r.world.inside ≡ w1.inside = subst (MadeIf (λ v. v.world.inside ≡ w1.inside)) m (inside o st.memory w1 (Writes z.to z.byte u')) in
                 let om = one_more in
                 behind_event (Reads b k) r (suc (suc (st.index + st.ahead))) (st.lo + st.ahead + 1 + 0) (st.hi + st.ahead + 1 + 0)
-                (subst (MadeIf (λ z. IsNear g.program.layout false z.write)) m (near o st.memory w1 g false u (Writes z.to z.byte u') (subst (IsLeft g.program.layout) left gd.left, record { deep = gd.deep; at = gd.at; stack = gd.stack; left = tt }, refl))) is (λ q. absurd (cc)) refl ok good' (ap (λ (v : Thread). v.rest) th) (ins ∙ read_inside o st.memory t.world b) (omega arith) (k' ok) (omega arith) (omega arith)
+                (subst (MadeIf (λ z. IsNear g.program.layout false z.write)) m (near o st.memory w1 g false u (Writes z.to z.byte u') (subst (IsLeft g.program.layout) left gd.left, record { deep = gd.deep; at = gd.at; stack = gd.stack; left = tt; low = gd.low }, refl))) is (λ q. absurd (cc)) refl ok good' (ap (λ (v : Thread). v.rest) th) (ins ∙ read_inside o st.memory t.world b) (omega arith) (k' ok) (omega arith) (omega arith)
                 (comes_loud g e input t0 least_prices dear_prices s (suc (suc (st.index + st.ahead))) L t3 (st.lo + st.ahead + 1 + 0) (st.hi + st.ahead + 1 + 0) (omega arith) st.later (λ s' more zeros.
                 let q = second s' more (zeros (L + 1) (omega arith) (omega arith)) in
                 let free = λ (pr : Prices). main_cost g e input t0 pr t2 inside_then off_then ∙ rest_cost g e input t0 pr false u st.memory z left in (
@@ -345,6 +351,7 @@ module _ (g : Setting) (h : Ground) (image input : List ℕ) (hd : ℕ) (x : IsI
               ground = h;
               image_then = x;
               halt_then = halt_is;
+              below_then = λ end b. b;
               stands = subst (λ z. St s runs (suc n) z debt) (sym there) (record {
                 index = st.index;
                 ahead = suc st.ahead;
@@ -391,7 +398,7 @@ module _ (g : Setting) (h : Ground) (image input : List ℕ) (hd : ℕ) (x : IsI
             let t2 = record t { main = v; memory = st.memory; world = noted Ended t.world } in
             let long : length (t.world.trace ++ Ended ∷ []) ≡ L + 1 = length-append t.world.trace (Ended ∷ []) in
             let little = idle_little (Ends u) refl is in
-            let good' : IsGood g false v = record { deep = st.good.deep; at = refl; stack = st.good.stack; left = st.good.left } in
+            let good' : IsGood g false v = record { deep = st.good.deep; at = refl; stack = st.good.stack; left = st.good.left; low = st.good.low } in
             let same : T ≡ record S { pc = h.halt } = k.0 in
             let h1 = rested h h.halt in
             let x1 = image_at g h h.halt image input hd x 0 (omega arith) (let z : h.halt ≡ h.halt + 0 = omega arith in z) in
@@ -402,6 +409,7 @@ module _ (g : Setting) (h : Ground) (image input : List ℕ) (hd : ℕ) (x : IsI
               ground = h1;
               image_then = x1;
               halt_then = halt_is;
+              below_then = λ end b. record { code = b.code; start = b.start };
               stands = subst (λ z. Stands g h1 image hd x1.vector e input t0 least_prices dear_prices s start from to runs (suc n) z debt) (sym there) (record {
                 index = suc (st.index + st.ahead);
                 ahead = 0;

@@ -8,7 +8,7 @@ use Rattle.pic_chip.specs.Address.{Place, Pcl, Status, Fsr, Pclath, Intcon, Pir1
 use Rattle.pic_chip.specs.State.{State}
 use Rattle.pic_world.specs.Registers.{is_register, lowest}
 use Rattle.sym_code.specs.Effect.{Setting, Port, Shared, Access, Pointer, Event, Silent, Denied, access_by, general_access, is_selected, access_of}
-use Rattle.sym_code.specs.Layout.{address_of, general_at, general_in, Owner, Watched, Constant, Of, Nobody, owner}
+use Rattle.sym_code.specs.Layout.{is_covered, address_of, general_at, general_in, Owner, Watched, Constant, Of, Nobody, owner}
 use Rattle.sym_code.specs.Registers.{Registers, bank, pointer}
 use Rattle.sym_code.specs.declared.code.Operand.{Operand}
 use Rattle.sym_code.specs.declared.code.Operand.TheVariants as operands
@@ -147,6 +147,10 @@ module _ (g : Setting) (banked : g.banked ≡ true) (s : State) (r : Registers) 
   named_case i w a true x sel e al = general_case i w (a % 128) (general_at a) x (λ k at. by_name a k sel at) e al
   named_case i w a false x sel e al = absurd (differs (is_allowed x) al (ap is_allowed (sym e)))
 
+  pointed_case : (i w b : Bool) (x : Access) → (if b then general_access g.program.layout i w (general_at (pointer r)) else Denied) ≡ x → is_allowed x ≡ true → LeadsTo 0 (place_for x)
+  pointed_case i w true x e al = general_case i w 0 (general_at (pointer r)) x (λ k at. by_pointer k at) e al
+  pointed_case i w false x e al = absurd (differs (is_allowed x) al (ap is_allowed (sym e)))
+
   device_case : (a : ℕ) (p q v : Bool) (x : Access) → is_register a ≡ p → nat_eq (lowest a) a ≡ q → is_selected g r a ≡ v → (if p && q && v then Event (Port a) else Denied) ≡ x → is_allowed x ≡ true → LeadsTo (a % 128) (place_for x)
   device_case a true true true x e f h is al = subst (λ y. LeadsTo (a % 128) (place_for y)) is (by_register a h e (eqb-true (lowest a) a f))
   device_case a true true false x e f h is al = absurd (differs (is_allowed x) al (ap is_allowed (sym is)))
@@ -159,7 +163,7 @@ module _ (g : Setting) (banked : g.banked ≡ true) (s : State) (r : Registers) 
   leads_to i w (operands.Byte (bytes.Static n o)) y e al = named_case i w (address_of g.program.layout (bytes.Static n o)) _ y refl e al
   leads_to i w (operands.Byte (bytes.Frame n o)) y e al = named_case i w (address_of g.program.layout (bytes.Frame n o)) _ y refl e al
   leads_to i w (operands.Byte (bytes.Result n o)) y e al = named_case i w (address_of g.program.layout (bytes.Result n o)) _ y refl e al
-  leads_to i w (operands.Register registers.Indf) y e al = general_case i w 0 (general_at (pointer r)) y (λ k at. by_pointer k at) e al
+  leads_to i w (operands.Register registers.Indf) y e al = pointed_case i w (is_covered g.program.layout (pointer r)) y e al
   leads_to i w (operands.Register registers.Fsr) y e al = λ next. ap (λ p. effect (next (place_for p)) s) e
   leads_to i w (operands.Register registers.Status) y e al = absurd (differs (is_allowed y) al (ap is_allowed (sym e)))
   leads_to i w (operands.Register registers.Pclath) y e al = absurd (differs (is_allowed y) al (ap is_allowed (sym e)))

@@ -57,7 +57,7 @@ use Rattle.code_place.specs.Layouts.{program_of, page_of, layout_of}
 use Rattle.code_place.specs.Pages.{page_words}
 use Rattle.code_place.specs.Places.{block_place, label_place, label_at, target_for, HasLiteral, HasAddress, HaveAddresses}
 use Rattle.code_place.proofs.Layouts.{by_layout}
-use Rattle.chip_trace.specs.Arriving.{IsAssembled, is_small, is_near}
+use Rattle.chip_trace.specs.Arriving.{EndsBy, IsAssembled, is_small, is_near}
 use Rattle.chip_trace.proofs.Blocks.{some_eq, Found, found, have_address, room, words_to, stand_words, behind_words, two_words, word_below, label_stands}
 use Rattle.chip_trace.proofs.Relations.{Ground, Reaches, Means, IsPlaced, low_of, page_row}
 use Rattle.chip_trace.proofs.Sound.{behind_block, stand_block, left_of, right_of}
@@ -198,7 +198,7 @@ module _ (blocks : List SymBlock) (at : List ℕ) (placed : Placed) (handler : O
   place_in p = known (block_place blocks at p.block) + words_to G.program p
 
   abbrev pub H : Ground
-  H = record { place = place_in; halt = watch.halt; restore = known (label_place blocks at Restore) % 2048; rests = watch.halt }
+  H = record { place = place_in; halt = watch.halt; restore = known (label_place blocks at Restore) % 2048; rests = watch.halt; long = words_in (block_in blocks Start) }
 
   module _ (a : IsAssembled blocks at placed handler image watch G) where
     abbrev q : Program
@@ -230,6 +230,12 @@ module _ (blocks : List SymBlock) (at : List ℕ) (placed : Placed) (handler : O
     place_below p ok =
         let f = lands_found p ok in let r = block_room p.block f in let e = place_is p f in let w = words_short p ok in
         let r1 = r.0 in let r2 = r.1 in omega arith
+
+    pub place_ends : (end : ℕ) → EndsBy blocks at end → (p : Position) → lands q p ≡ true → place_in p < end
+    place_ends end ends p ok =
+        let f = lands_found p ok in let e = place_is p f in let w = words_short p ok in
+        let r = ends f.number f.block f.start f.in_blocks f.in_at in
+        let l = ap words_in f.list in omega arith
 
     place_next : (p : Position) → lands q p ≡ true → place_in (behind q p) ≡ place_in p + 1
     place_next p ok =

@@ -138,6 +138,7 @@ module _ (g : Setting) (h : Ground) (c : chip.Setting) (hd : ℕ) (x : IsImage g
       ground = X.ground;
       image_then = X.image_then;
       halt_then = X.halt_then;
+      below = X.below;
       stands = record {
         index = X.stands.index;
         ahead = X.stands.ahead;

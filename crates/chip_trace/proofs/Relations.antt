@@ -1,5 +1,5 @@
 -- How the chip stands at a thread: its registers, its return stack, and what an image has at the places of instructions.
-use Rattle.std.specs.Prelude.{◌≡◌, ℕ, ◌+◌, ◌*◌, ◌/◌, ◌%◌, ◌<◌, true, nat_eq, List, [], ◌∷◌, length, Option, Some, None, slice_index, slice_set}
+use Rattle.std.specs.Prelude.{◌≡◌, ℕ, ◌+◌, ◌*◌, ◌/◌, ◌%◌, ◌<◌, ◌≤◌, true, nat_eq, List, [], ◌∷◌, length, Option, Some, None, slice_index, slice_set}
 use Rattle.pic_isa.specs.declared.Ins.{Ins}
 use Rattle.pic_isa.specs.declared.Ins.TheVariants as isa
 use Rattle.pic_isa.specs.Lookup.{row_of}
@@ -61,6 +61,8 @@ pub record Ground : Type 0 where
   pub halt : ℕ
   pub restore : ℕ
   pub rests : ℕ
+  -- the words of the start block
+  pub long : ℕ
 
 module _ (g : Setting) (h : Ground) where
   -- a jump or a call with this field leads to the target, where its page is selected
@@ -99,6 +101,11 @@ module _ (g : Setting) (h : Ground) where
     pub sees : Sees s th.registers
     pub stack : IsOn s.stack 0 (words th.stack below)
     pub depth : s.pushes ≡ s.pops + length (words th.stack below)
+
+  -- all code is below this address
+  pub record IsBelow (end : ℕ) : Type 0 where
+    pub code : (p : Position) → lands g.program p ≡ true → h.place p < end
+    pub start : h.long ≤ end
 
   pub record IsPlaced (image : List ℕ) : Type 0 where
     pub code : (p : Position) (s : Sym) → fetched g.program p ≡ Some s → is_word (Some s) ≡ true → (i : Ins) × (row_of (slice_index image (h.place p)) ≡ Some i) × Means p s i

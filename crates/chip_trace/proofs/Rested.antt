@@ -63,6 +63,8 @@ module _ (g : Setting) (h : Ground) (j : ℕ) where
     page_small = v.page_small;
     restores = v.restores;
     fits = v.fits;
+    within = v.within;
+    within_back = v.within_back;
     clear = v.clear;
     clear_back = v.clear_back;
   }
@@ -83,6 +85,7 @@ module _ (g : Setting) (h : Ground) (j : ℕ) where
     selects = x.selects;
     stays = x.stays;
     halt_small = x.halt_small;
+    within = x.within;
     turn = k;
     turn_small = le;
     rests = is;

@@ -74,6 +74,7 @@ module _ (g : Setting) (h : Ground) (image input : List ℕ) (hd : ℕ) (x : IsI
           ground = h1;
           image_then = x1;
           halt_then = halt_is;
+          below_then = λ end b. record { code = b.code; start = b.start };
           stands = subst (λ z. Stands g h1 image hd x1.vector e input t0 least_prices dear_prices s start from to runs (suc n) z debt) (sym there) (record {
             index = st.index;
             ahead = st.ahead;

@@ -2,17 +2,23 @@
 use Rattle.std.proofs.Common.{◌≡◌, ℕ, ◌+◌, ◌≤◌, ◌<◌, Bool, true, false, List, [], ◌∷◌, length, Option, Some, None, refl, sym, ap, ◌∙◌, subst, arith}
 use Rattle.std.specs.Prelude.{nat_lt, if◌then◌else◌, ◌&&◌, nat_eq, option_map, slice_get}
 use Rattle.std.proofs.lemmas.Bool.{ltb-true}
-use Rattle.pic_world.specs.Bits.{bit, set_bit, clear_bit}
+use Rattle.pic_world.specs.Bits.{bit, set_bit, clear_bit, truth}
 use Rattle.pic_world.specs.Registers.{is_register, lowest}
-use Rattle.sym_code.specs.Effect.{Setting, Loud, Port, Shared, Rest, Thread, Memory, Write, write, Access, Pointer, Event, Silent, Denied, Effect, Stuck, Quiet, Reads, Writes, Leaves, Ends, Rests, goes, file_to_w, file_to_file, store, change, test, file_bit, put_flag, test_flag, flag, bits, is_in_page, jump_to, halt, restore, goto, call, back, literal, plain, effect_of, effect_if, effect_at, effect_rest, effect}
-use Rattle.sym_code.specs.Layout.{DataLayout, Watched, owner}
+use Rattle.sym_code.specs.Effect.{Setting, Loud, Port, Shared, Rest, Thread, Memory, Write, write, Access, Pointer, Event, Silent, Denied, Effect, Stuck, Quiet, Reads, Writes, Leaves, Ends, Rests, goes, quiet, file_to_w, file_to_file, store, change, test, file_bit, put_flag, test_flag, flag, bits, is_in_page, jump_to, halt, restore, goto, call, back, literal, literal_value, plain, is_far, select, effect_of, effect_if, effect_at, effect_rest, effect}
+use Rattle.sym_code.specs.Layout.{DataLayout, Watched, owner, all_near}
 use Rattle.sym_code.specs.Programs.{Program, Position, position, fetched, behind, onward, place_of, stand, label_from}
-use Rattle.sym_code.specs.Registers.{Registers, skips_with, status_bit, with_status_bit}
+use Rattle.sym_code.specs.Registers.{Registers, flags_with, after_row, literal_row, skips_with, status_bit, with_status_bit, with_bank_bit, with_page_bit}
 use Rattle.sym_code.specs.declared.code.BitOperation.{BitOperation}
 use Rattle.sym_code.specs.declared.code.BitOperation.TheVariants.{Bcf, Bsf, Btfsc, Btfss}
 use Rattle.sym_code.specs.declared.code.BlockName.{BlockName}
 use Rattle.sym_code.specs.declared.code.BlockName.TheVariants.{Start, Copy}
+use Rattle.sym_code.specs.declared.code.BankBit.{BankBit}
+use Rattle.sym_code.specs.declared.code.BankBit.TheVariants.{Rp0, Rp1, Irp}
+use Rattle.sym_code.specs.declared.code.PageBit.{PageBit}
+use Rattle.sym_code.specs.declared.code.PageBit.TheVariants as pages
 use Rattle.sym_code.specs.declared.code.FileOperation.{FileOperation}
+use Rattle.sym_code.specs.declared.code.FileOperation.TheVariants as file
+use Rattle.pic_isa.specs.declared.Ins.TheVariants as isa
 use Rattle.sym_code.specs.declared.code.Into.TheVariants as into
 use Rattle.sym_code.specs.declared.code.Label.TheVariants.{Inner, Halt, Restore}
 use Rattle.sym_code.specs.declared.code.LiteralOperation.{LiteralOperation}
@@ -66,6 +72,45 @@ pub onward_block : (q : Program) (p : Position) (b : Bool) → (onward q p b).bl
 onward_block q p true = behind_block q (behind q p) ∙ behind_block q p
 onward_block q p false = behind_block q p
 
+-- ---- RP1 and IRP
+abbrev pub IsLow : Registers → Type 0
+IsLow r = (r.rp1 ≡ 0) × (r.irp ≡ 0)
+
+flags_bits : (r : Registers) (op : FileOperation) (x : ℕ) → ((flags_with r op x).rp1 ≡ r.rp1) × ((flags_with r op x).irp ≡ r.irp)
+unfolding flags_with
+flags_bits r file.Addwf x = (refl, refl)
+flags_bits r file.Andwf x = (refl, refl)
+flags_bits r file.Comf x = (refl, refl)
+flags_bits r file.Decf x = (refl, refl)
+flags_bits r file.Decfsz x = (refl, refl)
+flags_bits r file.Incf x = (refl, refl)
+flags_bits r file.Incfsz x = (refl, refl)
+flags_bits r file.Iorwf x = (refl, refl)
+flags_bits r file.Movf x = (refl, refl)
+flags_bits r file.Rlf x = (refl, refl)
+flags_bits r file.Rrf x = (refl, refl)
+flags_bits r file.Subwf x = (refl, refl)
+flags_bits r file.Swapf x = (refl, refl)
+flags_bits r file.Xorwf x = (refl, refl)
+
+literal_bits : (r : Registers) (op : LiteralOperation) (v : ℕ) → ((after_row (literal_row op v) r).rp1 ≡ r.rp1) × ((after_row (literal_row op v) r).irp ≡ r.irp)
+unfolding after_row
+literal_bits r Addlw v = (refl, refl)
+literal_bits r Andlw v = (refl, refl)
+literal_bits r Iorlw v = (refl, refl)
+literal_bits r Movlw v = (refl, refl)
+literal_bits r Retlw v = (refl, refl)
+literal_bits r Sublw v = (refl, refl)
+literal_bits r Xorlw v = (refl, refl)
+
+clear_bits : (r : Registers) → ((after_row isa.Clrw r).rp1 ≡ r.rp1) × ((after_row isa.Clrw r).irp ≡ r.irp)
+unfolding after_row
+clear_bits r = (refl, refl)
+
+never_both : {A : Type 0} (b : Bool) → b ≡ true → b ≡ false → A
+never_both true e f = absurd (cc)
+never_both false e f = absurd (cc)
+
 -- ---- what is right of an effect
 abbrev pub IsLoud : DataLayout → Loud → Type 0
 IsLoud l (Port a) = (is_register a ≡ true) × (lowest a ≡ a)
@@ -86,6 +131,8 @@ module _ (g : Setting) (i : Bool) where
     pub at : is_out u.at ≡ true
     pub stack : are_out u.stack ≡ true
     pub left : IsLeft g.program.layout u.rest
+    -- in a near layout RP1 and IRP are 0
+    pub low : all_near g.program.layout ≡ true → IsLow u.registers
 
   abbrev pub IsSound : Thread → Effect → Type 0
   IsSound th Stuck = Unit {0}
@@ -101,17 +148,23 @@ module _ (g : Setting) (i : Bool) where
       abbrev q : Program
       q = g.program
 
-      good_goes : (p' : Position) (r : Registers) → p'.block ≡ p.block → IsGood (goes th p' r)
-      good_goes p' r e = record { deep = good.deep; at = ap is_copy e ∙ here; stack = good.stack; left = good.left }
+      abbrev Keeps : Registers → Type 0
+      Keeps r = all_near g.program.layout ≡ true → IsLow r
 
-      good_rest : (p' : Position) (r : Registers) (x : Rest) → p'.block ≡ p.block → IsLoud g.program.layout x.to → IsGood (record (goes th p' r) { rest = Some x })
-      good_rest p' r x e loud = record { deep = good.deep; at = ap is_copy e ∙ here; stack = good.stack; left = loud }
+      kept_flags : (op : FileOperation) (v : ℕ) → Keeps (flags_with th.registers op v)
+      kept_flags op v n = let l = good.low n in let f = flags_bits th.registers op v in (f.0 ∙ l.0, f.1 ∙ l.1)
 
-      good_next : (b : Bool) (r : Registers) → IsGood (goes th (onward q p b) r)
-      good_next b r = good_goes (onward q p b) r (onward_block q p b)
+      good_goes : (p' : Position) (r : Registers) → p'.block ≡ p.block → Keeps r → IsGood (goes th p' r)
+      good_goes p' r e k = record { deep = good.deep; at = ap is_copy e ∙ here; stack = good.stack; left = good.left; low = k }
 
-      good_behind : (r : Registers) → IsGood (goes th (behind q p) r)
-      good_behind r = good_goes (behind q p) r (behind_block q p)
+      good_rest : (p' : Position) (r : Registers) (x : Rest) → p'.block ≡ p.block → IsLoud g.program.layout x.to → Keeps r → IsGood (record (goes th p' r) { rest = Some x })
+      good_rest p' r x e loud k = record { deep = good.deep; at = ap is_copy e ∙ here; stack = good.stack; left = loud; low = k }
+
+      good_next : (b : Bool) (r : Registers) → Keeps r → IsGood (goes th (onward q p b) r)
+      good_next b r k = good_goes (onward q p b) r (onward_block q p b) k
+
+      good_behind : (r : Registers) → Keeps r → IsGood (goes th (behind q p) r)
+      good_behind r k = good_goes (behind q p) r (behind_block q p) k
 
       loud_of : (w : Bool) (b : Loud) → IsAccess g.program.layout i w (Event b) → IsLoud g.program.layout b
       loud_of w (Port a) x = x
@@ -121,33 +174,33 @@ module _ (g : Setting) (i : Bool) where
       own_of k v a = a.1
 
       w_sound : (m : Memory) (op : FileOperation) (x : Access) → IsAccess g.program.layout i false x → IsSound th (file_to_w q p th m op x)
-      w_sound m op Pointer a = (tt, good_next (skips_with th.registers op th.registers.fsr) _, none)
-      w_sound m op (Event b) a = (loud_of false b a, λ v. good_next (skips_with th.registers op v) _)
-      w_sound m op (Silent k) a = (tt, good_next (skips_with th.registers op (m k)) _, none)
+      w_sound m op Pointer a = (tt, good_next (skips_with th.registers op th.registers.fsr) _ (kept_flags op th.registers.fsr), none)
+      w_sound m op (Event b) a = (loud_of false b a, λ v. good_next (skips_with th.registers op v) _ (kept_flags op v))
+      w_sound m op (Silent k) a = (tt, good_next (skips_with th.registers op (m k)) _ (kept_flags op (m k)), none)
       w_sound m op Denied a = tt
 
       f_sound : (m : Memory) (op : FileOperation) (x : Access) → IsAccess g.program.layout i true x → IsSound th (file_to_file q p th m op x)
-      f_sound m op Pointer a = (tt, good_next (skips_with th.registers op th.registers.fsr) _, none)
-      f_sound m op (Event b) a = (loud_of true b a, λ v. good_rest (onward q p (skips_with th.registers op v)) _ _ (onward_block q p (skips_with th.registers op v)) (loud_of true b a))
-      f_sound m op (Silent k) a = (own_of k 0 a, good_next (skips_with th.registers op (m k)) _, none)
+      f_sound m op Pointer a = (tt, good_next (skips_with th.registers op th.registers.fsr) _ (kept_flags op th.registers.fsr), none)
+      f_sound m op (Event b) a = (loud_of true b a, λ v. good_rest (onward q p (skips_with th.registers op v)) _ _ (onward_block q p (skips_with th.registers op v)) (loud_of true b a) (kept_flags op v))
+      f_sound m op (Silent k) a = (own_of k 0 a, good_next (skips_with th.registers op (m k)) _ (kept_flags op (m k)), none)
       f_sound m op Denied a = tt
 
-      store_sound : (r : Registers) (v : ℕ) (x : Access) → IsAccess g.program.layout i true x → IsSound th (store q p th r v x)
-      store_sound r v Pointer a = (tt, good_behind _, none)
-      store_sound r v (Event b) a = (loud_of true b a, good_behind r, none)
-      store_sound r v (Silent k) a = (own_of k 0 a, good_behind r, none)
-      store_sound r v Denied a = tt
+      store_sound : (r : Registers) → Keeps r → (v : ℕ) (x : Access) → IsAccess g.program.layout i true x → IsSound th (store q p th r v x)
+      store_sound r kr v Pointer a = (tt, good_behind _ kr, none)
+      store_sound r kr v (Event b) a = (loud_of true b a, good_behind r kr, none)
+      store_sound r kr v (Silent k) a = (own_of k 0 a, good_behind r kr, none)
+      store_sound r kr v Denied a = tt
 
       change_sound : (m : Memory) (f : ℕ → ℕ) (x : Access) → IsAccess g.program.layout i true x → IsSound th (change q p th m f x)
-      change_sound m f Pointer a = (tt, good_behind _, none)
-      change_sound m f (Event b) a = (loud_of true b a, λ v. good_rest (behind q p) _ _ (behind_block q p) (loud_of true b a))
-      change_sound m f (Silent k) a = (own_of k 0 a, good_behind th.registers, none)
+      change_sound m f Pointer a = (tt, good_behind _ good.low, none)
+      change_sound m f (Event b) a = (loud_of true b a, λ v. good_rest (behind q p) _ _ (behind_block q p) (loud_of true b a) good.low)
+      change_sound m f (Silent k) a = (own_of k 0 a, good_behind th.registers good.low, none)
       change_sound m f Denied a = tt
 
       test_sound : (m : Memory) (f : ℕ → Bool) (x : Access) → IsAccess g.program.layout i false x → IsSound th (test q p th m f x)
-      test_sound m f Pointer a = (tt, good_next (f th.registers.fsr) _, none)
-      test_sound m f (Event b) a = (loud_of false b a, λ v. good_next (f v) _)
-      test_sound m f (Silent k) a = (tt, good_next (f (m k)) _, none)
+      test_sound m f Pointer a = (tt, good_next (f th.registers.fsr) _ good.low, none)
+      test_sound m f (Event b) a = (loud_of false b a, λ v. good_next (f v) _ good.low)
+      test_sound m f (Silent k) a = (tt, good_next (f (m k)) _ good.low, none)
       test_sound m f Denied a = tt
 
       bit_sound : (m : Memory) (op : BitOperation) (b : ℕ) (x : Operand) → IsSound th (file_bit g i p th m op b x)
@@ -156,17 +209,32 @@ module _ (g : Setting) (i : Bool) where
       bit_sound m Btfsc b x = test_sound m (λ x. nat_eq (bit x b) 0) _ (access_sound g i false th.registers x)
       bit_sound m Btfss b x = test_sound m (λ x. nat_eq (bit x b) 1) _ (access_sound g i false th.registers x)
 
-      put_sound : (x : Option Registers) → IsSound th (put_flag q p th x)
-      put_sound None = tt
-      put_sound (Some r) = (tt, good_behind r, none)
+      put_zero : (b0 b1 b2 b7 : Bool) → IsSound th (put_flag q p th (if b0 then Some (record th.registers { c = 0 }) else if b1 then Some (record th.registers { dc = 0 }) else if b2 then Some (record th.registers { z = 0 }) else if b7 then Some (record th.registers { irp = 0 }) else None))
+      put_zero true b1 b2 b7 = (tt, good_behind _ good.low, none)
+      put_zero false true b2 b7 = (tt, good_behind _ good.low, none)
+      put_zero false false true b7 = (tt, good_behind _ good.low, none)
+      put_zero false false false true = (tt, good_behind _ (λ n. ((good.low n).0, refl)), none)
+      put_zero false false false false = tt
+
+      put_one : (b0 b1 b2 b7 nr : Bool) → all_near g.program.layout ≡ nr
+          → IsSound th (if b7 && nr then Stuck else put_flag q p th (if b0 then Some (record th.registers { c = 1 }) else if b1 then Some (record th.registers { dc = 1 }) else if b2 then Some (record th.registers { z = 1 }) else if b7 then Some (record th.registers { irp = 1 }) else None))
+      put_one b0 b1 b2 true true e = tt
+      put_one true b1 b2 true false e = (tt, good_behind _ good.low, none)
+      put_one false true b2 true false e = (tt, good_behind _ good.low, none)
+      put_one false false true true false e = (tt, good_behind _ good.low, none)
+      put_one false false false true false e = (tt, good_behind _ (λ n. never_both (all_near g.program.layout) n e), none)
+      put_one true b1 b2 false nr e = (tt, good_behind _ good.low, none)
+      put_one false true b2 false nr e = (tt, good_behind _ good.low, none)
+      put_one false false true false nr e = (tt, good_behind _ good.low, none)
+      put_one false false false false nr e = tt
 
       flag_test_sound : (v : ℕ) (x : Option ℕ) → IsSound th (test_flag q p th v x)
       flag_test_sound v None = tt
-      flag_test_sound v (Some x) = (tt, good_next (nat_eq x v) _, none)
+      flag_test_sound v (Some x) = (tt, good_next (nat_eq x v) _ good.low, none)
 
       flag_sound : (op : BitOperation) (b : ℕ) → IsSound th (flag q p th op b)
-      flag_sound Bcf b = put_sound (with_status_bit th.registers b 0)
-      flag_sound Bsf b = put_sound (with_status_bit th.registers b 1)
+      flag_sound Bcf b = put_zero (nat_eq b 0) (nat_eq b 1) (nat_eq b 2) (nat_eq b 7)
+      flag_sound Bsf b = put_one (nat_eq b 0) (nat_eq b 1) (nat_eq b 2) (nat_eq b 7) (all_near g.program.layout) refl
       flag_sound Btfsc b = flag_test_sound 0 (status_bit th.registers b)
       flag_sound Btfss b = flag_test_sound 1 (status_bit th.registers b)
 
@@ -191,7 +259,7 @@ module _ (g : Setting) (i : Bool) where
 
       jump_sound : (x : Option Position) → is_out x ≡ true → IsSound th (jump_to th x)
       jump_sound None e = tt
-      jump_sound (Some p') e = (tt, record { deep = good.deep; at = e; stack = good.stack; left = good.left }, none)
+      jump_sound (Some p') e = (tt, record { deep = good.deep; at = e; stack = good.stack; left = good.left; low = good.low }, none)
 
       halt_sound : (b : Bool) (s : List Position) → i ≡ b → th.stack ≡ s → IsSound th (halt b th s)
       halt_sound false [] e f = (e, f, refl)
@@ -211,7 +279,7 @@ module _ (g : Setting) (i : Bool) where
 
       pushed_sound : (x : Option Position) → is_out x ≡ true → length th.stack < g.limit i → IsSound th (jump_to (record th { stack = behind q p ∷ th.stack }) x)
       pushed_sound None e lt = tt
-      pushed_sound (Some p') e lt = (tt, record { deep = let z = lt in omega arith; at = e; stack = both (is_copy (behind q p).block) (are_out th.stack) (ap is_copy (behind_block q p) ∙ here) good.stack; left = good.left }, none)
+      pushed_sound (Some p') e lt = (tt, record { deep = let z = lt in omega arith; at = e; stack = both (is_copy (behind q p).block) (are_out th.stack) (ap is_copy (behind_block q p) ∙ here) good.stack; left = good.left; low = good.low }, none)
 
       call_sound : (t : Target) → is_outside t ≡ true → IsSound th (call g i p th t)
       call_sound t e = by_limit (nat_lt (length th.stack) (g.limit i)) refl where
@@ -219,43 +287,60 @@ module _ (g : Setting) (i : Bool) where
         by_limit true f = pushed_sound (place_of q p t) (place_out t e) (ltb-true (length th.stack) (g.limit i) f)
         by_limit false f = tt
 
-      back_sound : (r : Registers) (s : List Position) → length s ≤ g.limit i → are_out s ≡ true → IsSound th (back (record th { registers = r }) s)
-      back_sound r [] d o = tt
-      back_sound r (p' ∷ s) d o = (tt, record { deep = let z = d in omega arith; at = left_of (is_copy p'.block) (are_out s) o; stack = right_of (is_copy p'.block) (are_out s) o; left = good.left }, none)
+      back_sound : (r : Registers) → Keeps r → (s : List Position) → length s ≤ g.limit i → are_out s ≡ true → IsSound th (back (record th { registers = r }) s)
+      back_sound r kr [] d o = tt
+      back_sound r kr (p' ∷ s) d o = (tt, record { deep = let z = d in omega arith; at = left_of (is_copy p'.block) (are_out s) o; stack = right_of (is_copy p'.block) (are_out s) o; left = good.left; low = kr }, none)
 
-      literal_sound : (op : LiteralOperation) (r : Registers) → IsSound th (literal q p th op r)
-      literal_sound Retlw r = back_sound r th.stack good.deep good.stack
-      literal_sound Addlw r = (tt, good_behind r, none)
-      literal_sound Andlw r = (tt, good_behind r, none)
-      literal_sound Iorlw r = (tt, good_behind r, none)
-      literal_sound Movlw r = (tt, good_behind r, none)
-      literal_sound Sublw r = (tt, good_behind r, none)
-      literal_sound Xorlw r = (tt, good_behind r, none)
+      literal_sound : (op : LiteralOperation) (r : Registers) → Keeps r → IsSound th (literal q p th op r)
+      literal_sound Retlw r kr = back_sound r kr th.stack good.deep good.stack
+      literal_sound Addlw r kr = (tt, good_behind r kr, none)
+      literal_sound Andlw r kr = (tt, good_behind r kr, none)
+      literal_sound Iorlw r kr = (tt, good_behind r kr, none)
+      literal_sound Movlw r kr = (tt, good_behind r kr, none)
+      literal_sound Sublw r kr = (tt, good_behind r kr, none)
+      literal_sound Xorlw r kr = (tt, good_behind r kr, none)
 
       plain_sound : (op : PlainOperation) → IsSound th (plain q p th op)
-      plain_sound Clrw = (tt, good_behind _, none)
-      plain_sound Nop = (tt, good_behind _, none)
+      plain_sound Clrw = (tt, good_behind _ (λ n. let l = good.low n in let f = clear_bits th.registers in (f.0 ∙ l.0, f.1 ∙ l.1)), none)
+      plain_sound Nop = (tt, good_behind _ good.low, none)
       plain_sound Retfie = tt
-      plain_sound Return = back_sound th.registers th.stack good.deep good.stack
+      plain_sound Return = back_sound th.registers good.low th.stack good.deep good.stack
 
       paged : (b : Bool) (x : Effect) → IsSound th x → IsSound th (if b then x else Stuck)
       paged true x s = s
       paged false x s = tt
 
+      select_sound : (x : BankBit) (b : Bool) → IsSound th (select q p th x b)
+      select_sound Rp0 b = (tt, good_behind _ good.low, none)
+      select_sound Rp1 false = (tt, good_behind _ (λ n. (refl, (good.low n).1)), none)
+      select_sound Irp false = (tt, good_behind _ (λ n. ((good.low n).0, refl)), none)
+      select_sound Rp1 true = by (all_near g.program.layout) refl where
+        by : (nr : Bool) → all_near g.program.layout ≡ nr → IsSound th (if nr then Stuck else quiet (goes th (behind q p) (record th.registers { rp1 = 1 })))
+        by true e = tt
+        by false e = (tt, good_behind _ (λ n. never_both (all_near g.program.layout) n e), none)
+      select_sound Irp true = by (all_near g.program.layout) refl where
+        by : (nr : Bool) → all_near g.program.layout ≡ nr → IsSound th (if nr then Stuck else quiet (goes th (behind q p) (record th.registers { irp = 1 })))
+        by true e = tt
+        by false e = (tt, good_behind _ (λ n. never_both (all_near g.program.layout) n e), none)
+
+      page_keeps : (x : PageBit) (v : ℕ) → Keeps (with_page_bit th.registers x v)
+      page_keeps pages.Low v = good.low
+      page_keeps pages.High v = good.low
+
       pub sound_of : (m : Memory) (s : Sym) → keeps_out s ≡ true → IsSound th (effect_of g i p th m s)
       unfolding effect_of
       sound_of m (sym'.File op x into.W) e = w_sound m op _ (access_sound g i false th.registers x)
       sound_of m (sym'.File op x into.File) e = f_sound m op _ (access_sound g i true th.registers x)
-      sound_of m (sym'.Movwf x) e = store_sound _ _ _ (access_sound g i true th.registers x)
-      sound_of m (sym'.Clrf x) e = store_sound _ _ _ (access_sound g i true th.registers x)
+      sound_of m (sym'.Movwf x) e = store_sound _ good.low _ _ (access_sound g i true th.registers x)
+      sound_of m (sym'.Clrf x) e = store_sound _ good.low _ _ (access_sound g i true th.registers x)
       sound_of m (sym'.Bit op x b) e = bits_sound m op b x
-      sound_of m (sym'.Literal op v) e = literal_sound op _
+      sound_of m (sym'.Literal op v) e = literal_sound op _ (λ n. let l = good.low n in let f = literal_bits th.registers op (literal_value g.program.layout v) in (f.0 ∙ l.0, f.1 ∙ l.1))
       sound_of m (sym'.Plain op) e = plain_sound op
       sound_of m (sym'.Call t) e = paged (is_in_page g p th.registers t) (call g i p th t) (call_sound t e)
       sound_of m (sym'.Goto t) e = paged (is_in_page g p th.registers t) (goto g i p th t) (goto_sound t e)
       sound_of m (sym'.Label x) e = tt
-      sound_of m (sym'.SelectBank x b) e = (tt, good_behind _, none)
-      sound_of m (sym'.SelectPage x t) e = (tt, good_behind _, none)
+      sound_of m (sym'.SelectBank x b) e = select_sound x b
+      sound_of m (sym'.SelectPage x t) e = (tt, good_behind _ (page_keeps x _), none)
 
     sound_if : (th : Thread) (p : Position) → IsGood th → th.rest ≡ None → is_copy p.block ≡ true → (m : Memory) (s : Option Sym) → fetched g.program p ≡ s → IsSound th (effect_if g i p th m s)
     sound_if th p good none here m None e = tt
@@ -271,7 +356,7 @@ module _ (g : Setting) (i : Bool) where
 
     sound_rest : (th : Thread) → IsGood th → (m : Memory) (x : Option Rest) → th.rest ≡ x → IsSound th (effect_rest g i th m x)
     sound_rest th good m None e = sound_at th good e m i th.at refl refl
-    sound_rest th good m (Some x) e = (subst (IsLeft g.program.layout) e good.left, record { deep = good.deep; at = good.at; stack = good.stack; left = tt }, refl)
+    sound_rest th good m (Some x) e = (subst (IsLeft g.program.layout) e good.left, record { deep = good.deep; at = good.at; stack = good.stack; left = tt; low = good.low }, refl)
 
     pub sound : (th : Thread) (m : Memory) → IsGood th → IsSound th (effect g i th m)
     unfolding effect

@@ -14,7 +14,7 @@ use Rattle.pic_world.specs.Control.{is_enabled}
 use Rattle.pic_world.specs.World.{World, Schedule, event_of}
 use Rattle.sym_code.specs.Cost.{Prices}
 use Rattle.sym_code.specs.Effect.{Setting, Thread, Memory, Leaves, Rests, effect}
-use Rattle.sym_code.specs.Layout.{owner, Nobody}
+use Rattle.sym_code.specs.Layout.{owner, Nobody, all_near}
 use Rattle.sym_code.specs.Machine.{Machine, Entry, lands_at, at_front}
 use Rattle.sym_code.specs.Programs.{Position, lands, front}
 use Rattle.sym_code.specs.Registers.{Registers, Fits, bank, page}
@@ -134,6 +134,8 @@ pub record Vector (g : Setting) (h : Ground) (image : List ℕ) (hd : ℕ) : Typ
   pub page_small : g.page_of (Copy hd) < 4
   pub restores : (k : ℕ) → k < 9 → row_of (slice_index image (h.restore + k)) ≡ Some (restoring_ins k)
   pub fits : h.restore + 9 ≤ 8192
+  pub within : 11 + count < h.long
+  pub within_back : h.restore + 9 ≤ h.long
   pub clear : (k : ℕ) → k < 8 + count → (4 + k) ≢ h.halt
   pub clear_back : (k : ℕ) → k < 9 → (h.restore + k) ≢ h.halt
 
@@ -191,6 +193,7 @@ module _ (g : Setting) (h : Ground) (image : List ℕ) (hd : ℕ) (v : g.program
     pub depth : s.pushes ≡ s.pops + length (main_words u)
     pub saved : IsSaved u.registers s.ram
     pub ranged : IsRanged s
+    pub low : all_near g.program.layout ≡ true → s.bank < 2
 
   -- the bits of the handler's page that the first so many selects have put
   pub record IsSelected (bit' : ℕ → PageBit) (j p : ℕ) : Type 0 where

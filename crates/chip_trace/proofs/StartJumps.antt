@@ -21,6 +21,7 @@ use Rattle.code_place.specs.Image.{Holds}
 use Rattle.code_place.specs.Instructions.{reach}
 use Rattle.code_place.specs.Places.{target_for}
 use Rattle.bank_page.specs.Known.{is_page}
+use Rattle.bank_page.specs.Near.{none_sets_rp1}
 use Rattle.bank_page.specs.Selected.{is_right}
 use Rattle.bank_page.specs.declared.known.Known.{Known}
 use Rattle.chip_trace.specs.Arriving.{IsAssembled}
@@ -63,6 +64,7 @@ module _ (blocks : List SymBlock) (at : List ℕ) (placed : Placed) (handler : O
     pub ram : s.ram ≡ bytes
     pub past : (j : ℕ) → j < suc k → (moment c j).met ≡ false
     pub level : (j : ℕ) → j ≤ suc k → (moment c j).state.pushes ≡ (moment c j).state.pops
+    pub low : none_sets_rp1 L ≡ true → s.bank < 2
 
   pub jump : (k : ℕ) (pre : List Sym) (κ : Known) (w : ℕ) (ram : List ℕ) (rest : List Sym) (t : Target) (P : ℕ) → At blocks at placed handler limit c start small k pre κ w ram → L ≡ pre ++ syms.Goto t ∷ rest
       → ((f : Found blocks at Start) → target_for blocks at f.block f.start t ≡ Some P) → is_right placed Start κ (syms.Goto t) ≡ true → pages blocks at placed handler limit c start small (block_of Start t) ≡ P / 2048 → P < 8192 → Jumped k P w ram
@@ -88,4 +90,5 @@ module _ (blocks : List SymBlock) (at : List ℕ) (placed : Placed) (handler : O
         ram = x.ram;
         past = past_on blocks at placed handler limit c start small a main_behind short k x.past x.early.met;
         level = level_on blocks at placed handler limit c start small a main_behind short k x.level (ap (λ (z : State). z.pushes) y.state ∙ lv0 ∙ ap (λ (z : State). z.pops) (sym y.state));
+        low = x.low;
       }

@@ -1,5 +1,5 @@
 -- What the selects of a block leave in STATUS and PCLATH.
-use Rattle.std.proofs.Common.{◌≡◌, ℕ, ◌/◌, ◌%◌, Bool, List, Some, None, ap, ◌∙◌, arith}
+use Rattle.std.proofs.Common.{◌≡◌, ℕ, ◌/◌, ◌%◌, ◌<◌, Bool, List, Some, None, ap, ◌∙◌, arith}
 use Rattle.pic_chip.specs.State.{State}
 use Rattle.pic_world.specs.Bits.{set_bit, clear_bit, truth}
 use Rattle.sym_code.specs.declared.code.BlockName.{BlockName}
@@ -39,6 +39,16 @@ module _ (inputs : List ℕ) (s : State) (x : IsRanged s) where
 
   pub rp1_clear : (clear_bit 6 (S inputs s) / 32 / 2 % 2 ≡ 0) × (clear_bit 6 (S inputs s) / 32 % 2 ≡ s.bank % 2)
   rp1_clear = let b = (clear_6 i p0 s.z s.dc s.c x.z x.dc x.c s.bank p1 (omega arith) (omega arith) (omega arith)).bank in (omega arith, omega arith)
+
+  -- RP0 alone may be 1
+  pub rp0_low : s.bank < 2 → (set_bit 5 (S inputs s) / 32 < 2) × (clear_bit 5 (S inputs s) / 32 < 2)
+  rp0_low lt =
+      let a = (set_5 i p1 s.z s.dc s.c x.z x.dc x.c s.bank p0 (omega arith) (omega arith)).bank in
+      let b = (clear_5 i p1 s.z s.dc s.c x.z x.dc x.c s.bank p0 (omega arith) (omega arith)).bank in
+      (omega (arith, a, lt), omega (arith, b, lt))
+
+  pub rp1_low : s.bank < 2 → clear_bit 6 (S inputs s) / 32 < 2
+  rp1_low lt = let b = (clear_6 i p0 s.z s.dc s.c x.z x.dc x.c s.bank p1 (omega arith) (omega arith) (omega arith)).bank in omega (arith, b, lt)
 
   abbrev hi : ℕ
   hi = s.pclath / 8 / 2

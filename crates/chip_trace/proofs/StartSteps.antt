@@ -1,5 +1,5 @@
 -- One instruction of the start block behind its first jump, on the chip and on what its stores leave.
-use Rattle.std.proofs.Common.{◌≡◌, ℕ, ◌+◌, ◌/◌, ◌%◌, ◌<◌, Bool, true, false, List, Option, Some, None, refl, sym, ap, ◌∙◌, arith}
+use Rattle.std.proofs.Common.{◌≡◌, ℕ, ◌+◌, ◌/◌, ◌%◌, ◌<◌, Bool, true, false, List, Option, Some, None, refl, sym, ap, ◌∙◌, true≢false, arith}
 use Rattle.std.specs.Prelude.{nat_eq, option_map}
 use Rattle.std.proofs.lemmas.Bool.{eqb-true, eqb-false}
 use Rattle.core_code.specs.declared.code.Byte.TheVariants.{Static}
@@ -31,6 +31,7 @@ use Rattle.code_place.specs.Instructions.{bank_row, bit_set}
 use Rattle.code_place.specs.Layouts.{layout_of}
 use Rattle.code_place.proofs.Layouts.{by_layout}
 use Rattle.bank_page.specs.Known.{is_bit, seen_after}
+use Rattle.bank_page.specs.Near.{sets_rp1}
 use Rattle.bank_page.specs.Selected.{is_right, has_bank, reaches_byte}
 use Rattle.bank_page.specs.Step.{rp0_of, rp1_of}
 use Rattle.bank_page.specs.declared.known.Known.{Known}
@@ -102,32 +103,34 @@ module _ (reaches : ℕ → ℕ → Bool) (placed : Placed) (laid : IsLaidOut re
     pub control : control_of t ≡ control_of s
     pub pushes : t.pushes ≡ s.pushes
     pub pops : t.pops ≡ s.pops
+    -- RP1 and IRP stay 0 where the instruction doesn't set RP1
+    pub low : sets_rp1 x ≡ false → s.bank < 2 → t.bank < 2
 
   module _ (k : Known) (behind : Bool) (s : State) (x : IsRanged s) (knows : Knows pages k s) where
     abbrev Step : Kind → Ins → Type 0
     Step kind n = Stepped s (sym_of kind) (seen_after Start k (sym_of kind) behind) n
 
-    by_status : (kind : Kind) (n : Ins) (v : ℕ) → Goes inputs s n (with_status inputs s v) → Knows pages (seen_after Start k (sym_of kind) behind) (with_status inputs s v) → s.w ≡ w_after l (sym_of kind) s.w → s.ram ≡ ram_after l (sym_of kind) s.w s.ram → Step kind n
-    by_status kind n v y z w ram = record { t = with_status inputs s v; goes = y; pc = refl; knows = z; w = w; ram = ram; control = refl; pushes = refl; pops = refl }
+    by_status : (kind : Kind) (n : Ins) (v : ℕ) → (sets_rp1 (sym_of kind) ≡ false → s.bank < 2 → v / 32 < 2) → Goes inputs s n (with_status inputs s v) → Knows pages (seen_after Start k (sym_of kind) behind) (with_status inputs s v) → s.w ≡ w_after l (sym_of kind) s.w → s.ram ≡ ram_after l (sym_of kind) s.w s.ram → Step kind n
+    by_status kind n v l y z w ram = record { t = with_status inputs s v; goes = y; pc = refl; knows = z; w = w; ram = ram; control = refl; pushes = refl; pops = refl; low = l }
 
     by_pclath : (kind : Kind) (n : Ins) (v : ℕ) → Goes inputs s n (with_pclath inputs s v) → Knows pages (seen_after Start k (sym_of kind) behind) (with_pclath inputs s v) → s.w ≡ w_after l (sym_of kind) s.w → s.ram ≡ ram_after l (sym_of kind) s.w s.ram → Step kind n
-    by_pclath kind n v y z w ram = record { t = with_pclath inputs s v; goes = y; pc = refl; knows = z; w = w; ram = ram; control = refl; pushes = refl; pops = refl }
+    by_pclath kind n v y z w ram = record { t = with_pclath inputs s v; goes = y; pc = refl; knows = z; w = w; ram = ram; control = refl; pushes = refl; pops = refl; low = λ e lt. lt }
 
     rp0 : (on : Bool) → Step (OfRp0 on) (bank_row Rp0 on)
     rp0 true =
         let v = set_bit 5 (S inputs s) in let q = selects.rp0_set inputs s x in
-        by_status (OfRp0 true) (isa.Bsf 3 5) v (bsf_status inputs s 5) (selects.learned_rp0 pages k s (with_status inputs s v) knows true q.0 q.1 refl) refl refl
+        by_status (OfRp0 true) (isa.Bsf 3 5) v (λ e lt. (selects.rp0_low inputs s x lt).0) (bsf_status inputs s 5) (selects.learned_rp0 pages k s (with_status inputs s v) knows true q.0 q.1 refl) refl refl
     rp0 false =
         let v = clear_bit 5 (S inputs s) in let q = selects.rp0_clear inputs s x in
-        by_status (OfRp0 false) (isa.Bcf 3 5) v (bcf_status inputs s 5) (selects.learned_rp0 pages k s (with_status inputs s v) knows false q.0 q.1 refl) refl refl
+        by_status (OfRp0 false) (isa.Bcf 3 5) v (λ e lt. (selects.rp0_low inputs s x lt).1) (bcf_status inputs s 5) (selects.learned_rp0 pages k s (with_status inputs s v) knows false q.0 q.1 refl) refl refl
 
     rp1 : (on : Bool) → Step (OfRp1 on) (bank_row Rp1 on)
     rp1 true =
         let v = set_bit 6 (S inputs s) in let q = selects.rp1_set inputs s x in
-        by_status (OfRp1 true) (isa.Bsf 3 6) v (bsf_status inputs s 6) (selects.learned_rp1 pages k s (with_status inputs s v) knows true q.0 q.1 refl) refl refl
+        by_status (OfRp1 true) (isa.Bsf 3 6) v (λ e lt. absurd (true≢false e)) (bsf_status inputs s 6) (selects.learned_rp1 pages k s (with_status inputs s v) knows true q.0 q.1 refl) refl refl
     rp1 false =
         let v = clear_bit 6 (S inputs s) in let q = selects.rp1_clear inputs s x in
-        by_status (OfRp1 false) (isa.Bcf 3 6) v (bcf_status inputs s 6) (selects.learned_rp1 pages k s (with_status inputs s v) knows false q.0 q.1 refl) refl refl
+        by_status (OfRp1 false) (isa.Bcf 3 6) v (λ e lt. selects.rp1_low inputs s x lt) (bcf_status inputs s 6) (selects.learned_rp1 pages k s (with_status inputs s v) knows false q.0 q.1 refl) refl refl
 
     page_low : (target : Target) (b : Bool) → nat_eq (pages (block_of Start target) % 2) 1 ≡ b → Step (OfPage Low target) (bit_set 0x0a 3 b)
     page_low target true e =
@@ -162,6 +165,7 @@ module _ (reaches : ℕ → ℕ → Bool) (placed : Placed) (laid : IsLaidOut re
           control = refl;
           pushes = refl;
           pops = refl;
+          low = λ e lt. lt;
         }
 
     -- ---- a byte whose bank is selected
@@ -216,6 +220,7 @@ module _ (reaches : ℕ → ℕ → Bool) (placed : Placed) (laid : IsLaidOut re
             control = refl;
             pushes = refl;
             pops = refl;
+            low = λ e lt. lt;
           }
 
       clear : Step (Clear n o) (isa.Clrf f)
@@ -232,6 +237,7 @@ module _ (reaches : ℕ → ℕ → Bool) (placed : Placed) (laid : IsLaidOut re
             control = refl;
             pushes = refl;
             pops = refl;
+            low = λ e lt. lt;
           }
 
     pub step : (kind : Kind) → InSize l kind → is_right placed Start k (sym_of kind) ≡ true → Step kind (ins_of kind)

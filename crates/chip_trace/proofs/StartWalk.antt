@@ -1,6 +1,6 @@
 -- The run along the start block: by its instructions in order, behind a jump where the jump leads.
-use Rattle.std.proofs.Common.{◌≡◌, ℕ, suc, ◌+◌, ◌%◌, ◌<◌, ◌≤◌, Bool, true, false, List, [], ◌∷◌, ◌++◌, length, take, Option, Some, refl, sym, ap, ◌∙◌, subst, append-nil, append_assoc, ⊎_elim, arith}
-use Rattle.std.specs.Prelude.{nat_eq, slice_get, slice_index}
+use Rattle.std.proofs.Common.{◌≡◌, ℕ, suc, ◌+◌, ◌%◌, ◌<◌, ◌≤◌, Bool, true, false, List, [], ◌∷◌, ◌++◌, length, take, Option, Some, refl, sym, ap, ◌∙◌, subst, append-nil, append_assoc, true≢false, ⊎_elim, arith}
+use Rattle.std.specs.Prelude.{not, ◌&&◌, nat_eq, slice_get, slice_index}
 use Rattle.std.proofs.lemmas.Bool.{ne_eqb, cases_lt}
 use Rattle.pic_isa.specs.Lookup.{row_of}
 use Rattle.pic_isa.specs.declared.Ins.{Ins}
@@ -19,6 +19,7 @@ use Rattle.sym_code.specs.declared.code.SymBlock.{SymBlock}
 use Rattle.code_place.specs.Instructions.{known}
 use Rattle.code_place.specs.Layouts.{layout_of}
 use Rattle.bank_page.specs.Known.{seen_after}
+use Rattle.bank_page.specs.Near.{sets_rp1, none_sets_rp1}
 use Rattle.bank_page.specs.Selected.{is_right, all_pass, seen}
 use Rattle.bank_page.specs.declared.known.Known.{Known}
 use Rattle.bank_page.specs.declared.selecting.State.{State as Selecting}
@@ -67,6 +68,15 @@ a_word (Load v) = refl
 a_word (Store n o) = refl
 a_word (Clear n o) = refl
 
+-- one of a list none of whose selects sets RP1
+sets_not : (pre rest : List Sym) (x : Sym) → none_sets_rp1 (pre ++ x ∷ rest) ≡ true → sets_rp1 x ≡ false
+sets_not [] rest x e = by (sets_rp1 x) e
+  where
+    by : (b : Bool) → (not b && none_sets_rp1 rest) ≡ true → b ≡ false
+    by true e = absurd (true≢false (sym e))
+    by false e = refl
+sets_not (y ∷ pre) rest x e = sets_not pre rest x (right_of (not (sets_rp1 y)) (none_sets_rp1 (pre ++ x ∷ rest)) e)
+
 words_one : (x : Sym) → words_in (x ∷ []) ≡ words_of_one x + words_in []
 words_one x = words_cons x []
 
@@ -94,6 +104,8 @@ module _ (blocks : List SymBlock) (at : List ℕ) (placed : Placed) (handler : O
     pub ram : s.ram ≡ bytes
     pub past : (j : ℕ) → j < k → (moment c j).met ≡ false
     pub level : (j : ℕ) → j ≤ k → (moment c j).state.pushes ≡ (moment c j).state.pops
+    -- where no select of the block sets RP1, it and IRP are 0
+    pub low : none_sets_rp1 LS ≡ true → s.bank < 2
 
   module _ (a : IsAssembled blocks at placed handler c.image c.watch g) where
     means : (p : Position) (kind : Kind) (n : Ins) → p.block ≡ Start → Means g h p (sym_of kind) n → n ≡ ins_of a.reaches placed a.laid_out pages c.inputs kind
@@ -164,6 +176,7 @@ module _ (blocks : List SymBlock) (at : List ℕ) (placed : Placed) (handler : O
             ram = st.ram ∙ ap (λ z. ram_after (layout_of placed) (sym_of kind) z s0.ram) x.w ∙ ap (ram_after (layout_of placed) (sym_of kind) w) x.ram;
             past = past_on k x.past x.early.met;
             level = level_on k x.level (ap (λ (z : State). z.pushes) now.state ∙ st.pushes ∙ lv0 ∙ sym st.pops ∙ ap (λ (z : State). z.pops) (sym now.state));
+            low = λ none. st.low (sets_not pre rest (sym_of kind) (ap none_sets_rp1 (sym e) ∙ none)) (x.low none);
           }
 
       abbrev One : ℕ → List Sym → Known → Bool → ℕ → List ℕ → List Sym → Sym → Type 0

@@ -199,6 +199,7 @@ module _ (blocks : List SymBlock) (at : List ℕ) (placed : Placed) (handler : O
           past = λ j lt. absurd (omega arith);
           level = λ j le. let q : 0 ≡ j = omega arith in
               subst (λ k. (moment c k).state.pushes ≡ (moment c k).state.pops) q (ap (λ (v : State). v.pushes) e.state ∙ ap (λ (v : State). v.pops) (sym e.state));
+          low = λ none. omega arith;
         }
 
     walked1 : Walked blocks at placed handler limit c start bytes a main_stands.0 short s1.pre st1.known c.start.ram
@@ -269,6 +270,7 @@ module _ (blocks : List SymBlock) (at : List ℕ) (placed : Placed) (handler : O
           ram = jumped1.ram;
           past = jumped1.past;
           level = jumped1.level;
+          low = jumped1.low;
         }
 
     sizes : (m : ℕ) → m < length statics → length (slice_index_or (held_in statics) m []) ≤ (object (layout_of placed) (0 + m)).size
@@ -354,4 +356,5 @@ module _ (blocks : List SymBlock) (at : List ℕ) (placed : Placed) (handler : O
           control = ap control_of e.state ∙ e.control;
           level = jumped2.level;
           outside = e.handling;
+          low = λ near. subst (λ (v : State). v.bank < 2) (sym e.state) (jumped2.low (b.near near));
         }

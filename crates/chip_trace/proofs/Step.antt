@@ -43,7 +43,7 @@ module _ (g : Setting) (h : Ground) (image input : List ℕ) (hd : ℕ) (x : IsI
   entered_raised mask t u a y = record { inside = y.inside; gie = raised_enabled mask t.world.control ∙ y.gie; isr = y.isr; lands = y.lands; sees = y.sees; stack = y.stack; depth = y.depth; ranged = y.ranged }
 
   left_raised : (mask : ℕ) (t : Machine) (u : Thread) (a : State) → IsLeft g h image hd x.vector t u a → IsLeft g h image hd x.vector (raised mask t) u a
-  left_raised mask t u a y = record { inside = y.inside; gie = raised_enabled mask t.world.control ∙ y.gie; leaves = y.leaves; rest = y.rest; place = y.place; at = y.at; stack = y.stack; depth = y.depth; saved = y.saved; ranged = y.ranged }
+  left_raised mask t u a y = record { inside = y.inside; gie = raised_enabled mask t.world.control ∙ y.gie; leaves = y.leaves; rest = y.rest; place = y.place; at = y.at; stack = y.stack; depth = y.depth; saved = y.saved; ranged = y.ranged; low = y.low }
 
   mode_raised : (mask : ℕ) (t : Machine) (u : Thread) (S : State) (done : ℕ) → Mode g h image hd x.vector t u S done → Mode g h image hd x.vector (raised mask t) u (chip.raised mask S) done
   mode_raised mask t u S done (InMain q a) = InMain q (record { inside = a.inside; at = at_raised mask u [] S a.at })

@@ -32,11 +32,11 @@ use Rattle.isr_save.specs.Start.{saving, restoring, to_w}
 use Rattle.code_place.specs.Instructions.{known}
 use Rattle.code_place.specs.Pages.{page_words}
 use Rattle.code_place.specs.Places.{at_if, block_place, label_place, label_at}
-use Rattle.chip_trace.specs.Arriving.{IsAssembled, HasHalt, are_halt_selects, HasVector, HasVectorFor, is_to_handler, are_page_selects, has_low, has_high, depth_for}
+use Rattle.chip_trace.specs.Arriving.{EndsBy, IsAssembled, HasHalt, are_halt_selects, HasVector, HasVectorFor, is_to_handler, are_page_selects, has_low, has_high, depth_for}
 use Rattle.chip_trace.proofs.Blocks.{some_eq, HaveAddress, have_address, room, behind_first, words_cons, words_behind, words_take, words_all, word_at, word_below, word_once, label_stands, label_behind, no_label, get_behind, get_front, are_words, both_words}
 use Rattle.chip_trace.proofs.Image.{IsImage}
-use Rattle.chip_trace.proofs.Placing.{G, H, place_in, front_place, are_placed, place_is, lands_found}
-use Rattle.chip_trace.proofs.Relations.{Ground, Means, page_row}
+use Rattle.chip_trace.proofs.Placing.{place_ends, G, H, place_in, front_place, are_placed, place_is, lands_found}
+use Rattle.chip_trace.proofs.Relations.{Ground, IsBelow, Means, page_row}
 use Rattle.chip_trace.proofs.Sound.{is_copy, left_of, right_of}
 use Rattle.chip_trace.proofs.Stands.{Vector, saving_ins, restoring_ins}
 
@@ -488,6 +488,11 @@ module _ (blocks : List SymBlock) (at : List ℕ) (placed : Placed) (handler : O
         let w = word_below LS (length v.before + (length X + 9)) (syms.Plain plain_ops.Retfie) (nine_at 8 (syms.Plain plain_ops.Retfie) refl) refl in
         let p = nine_place 8 (omega arith) in let s = start_small in omega arith
 
+    restore_short : 4 + length X + 9 ≤ words_in LS
+    restore_short =
+        let w = word_below LS (length v.before + (length X + 9)) (syms.Plain plain_ops.Retfie) (nine_at 8 (syms.Plain plain_ops.Retfie) refl) refl in
+        let p = nine_place 8 (omega arith) in omega arith
+
     restore_is : h.restore ≡ 4 + length X
     restore_is = let e = restore_words in let s = restore_small in omega arith
 
@@ -535,6 +540,8 @@ module _ (blocks : List SymBlock) (at : List ℕ) (placed : Placed) (handler : O
       page_small = copy_small (block_place blocks at (Copy hd)) refl;
       restores = restored_at;
       fits = let e = restore_is in let s = restore_small in omega arith;
+      within = let s = restore_short in let l = X_length in omega arith;
+      within_back = let e = restore_is in let s = restore_short in omega arith;
       clear = λ k lt same.
           let l = X_length in
           let s = exists_at X k (omega arith) in
@@ -580,10 +587,18 @@ module _ (blocks : List SymBlock) (at : List ℕ) (placed : Placed) (handler : O
     selects = turns;
     stays = stays;
     halt_small = let w = halts_below in let s = start_small in omega arith;
+    within = halts_below;
     turn = 0;
     turn_small = omega arith;
     rests = (let z : watch.halt ≡ watch.halt + 0 = omega arith in z);
     small = small;
+  }
+
+  pub is_below : (end : ℕ) → EndsBy blocks at end → IsBelow g h end
+  unfolding b0
+  is_below end ends = record {
+    code = place_ends blocks at placed handler image watch limit a end ends;
+    start = let r = ends 0 a.start.0 0 a.start.1 first'.0 in let l = ap words_in first'.1 in omega arith;
   }
 
   pub main_place : place_in blocks at placed handler image watch limit (front g.program (Copy 0)) ≡ watch.main

@@ -32,12 +32,14 @@ use Rattle.chip_trace.proofs.Image.{IsImage, after, same_length}
 use Rattle.chip_trace.proofs.MainStep.{St, IsClean, Stepped}
 use Rattle.chip_trace.proofs.Moments.{moment_ranged, early_moments, met_at, raised_at, next_is}
 use Rattle.pic_chip.proofs.Ranges.{IsRanged}
-use Rattle.chip_trace.proofs.Relations.{Ground, Sees}
+use Rattle.chip_trace.proofs.Relations.{Ground, IsBelow, Sees}
 use Rattle.chip_trace.proofs.Runs.{over, raised, Extends, settled_is, off_steps, act_main}
 use Rattle.chip_trace.proofs.Schedules.{before, off_before, goes_on as schedule_goes_on, none_later, first_later, first_here}
 use Rattle.chip_trace.proofs.Sound.{IsGood, is_copy, stand_block}
 use Rattle.chip_trace.proofs.Stands.{InMain, IsSince, found}
 use Rattle.chip_trace.proofs.Taken.{none_taken}
+use Rattle.chip_trace.proofs.Now.{touches_now, below_now}
+use Rattle.chip_trace.specs.Keeping.{TouchesThere}
 use Rattle.chip_trace.proofs.Step.{arrives, step_by, next_by}
 
 -- the registers of a thread that the chip has, whatever it has
@@ -270,7 +272,7 @@ module _ (g : Setting) (h : Ground) (c : chip.Setting) (hd : ℕ) (x : IsImage g
             let none = none_yet in
             let zero' : p ≡ arrived_before c.arrivals at = first_here traces c.arrivals at none in
             let flip : (q : ℕ) (k : Control) → raised_by (bit_or p q) k ≡ raised_by q (raised_by p k) = λ q k. sym (raised_swap q p k ∙ raised_both p q k) in
-            let good : IsGood g false t0.main = record { deep = omega arith; at = ap is_copy (stand_block g.program (position (Copy 0) 0)); stack = refl; left = tt } in
+            let good : IsGood g false t0.main = record { deep = omega arith; at = ap is_copy (stand_block g.program (position (Copy 0) 0)); stack = refl; left = tt; low = λ n. let b = started.low n in (omega (arith, b), omega (arith, b)) } in
             record {
               index = 0;
               ahead = 0;
@@ -323,6 +325,7 @@ module _ (g : Setting) (h : Ground) (c : chip.Setting) (hd : ℕ) (x : IsImage g
         pub ground : Ground
         pub image_then : IsImage g ground c.image c.inputs hd
         pub halt_then : c.watch.halt ≡ ground.halt
+        pub below : (end : ℕ) → IsBelow g h end → IsBelow g ground end
         pub stands : St g ground c.image c.inputs hd image_then c.watch halt_then e t0 at from to (P n) (length (entered n)) n (moment c n) debt
 
       abbrev pub due_at : ℕ → Bool
@@ -370,6 +373,7 @@ module _ (g : Setting) (h : Ground) (c : chip.Setting) (hd : ℕ) (x : IsImage g
               ground = y.ground;
               image_then = y.image_then;
               halt_then = y.halt_then;
+              below = λ end b. y.below_then end (kn.below end b);
               stands =
                   subst (λ (z : Moment). St g y.ground c.image c.inputs hd y.image_then c.watch y.halt_then e t0 at from to (P (suc n)) (length (entered (suc n))) (suc n) z debt') (sym next_moment_is)
                   (subst (λ k. St g y.ground c.image c.inputs hd y.image_then c.watch y.halt_then e t0 at from to (P (suc n)) k (suc n) (next_by g kn.ground c.image c.inputs hd kn.image_then c.watch kn.halt_then e t0 at from to (raised_at c n) (due_at n)) debt') (sym (runs_is (due_at n) refl)) y.stands);
@@ -379,11 +383,28 @@ module _ (g : Setting) (h : Ground) (c : chip.Setting) (hd : ℕ) (x : IsImage g
         pub kept_on : (b : ℕ) → is_kept (is_handling (arriving c.arrivals n) (moment c n)) (owner g.program.layout b) ≡ true → slice_index (moment c (suc n)).state.ram b ≡ slice_index (moment c n).state.ram b
         kept_on b q = ap (λ (z : Moment). slice_index z.state.ram b) next_moment_is ∙ stepped_at.keeps b q
 
+      -- ---- what the instruction touches that begins at a moment
+      module _ (n from to debt : ℕ) (le : at ≤ n) (lt : n ≤ N) (kn : Known from to n debt) where
+        L_same : length (traces n) ≡ length kn.stands.early.world.trace
+        L_same = same_length (traces n) kn.stands.early.world.trace kn.stands.shows.trace
+
+        ready_now : St g kn.ground c.image c.inputs hd kn.image_then c.watch kn.halt_then e t0 at from to (P (suc n)) (length (entered n)) n (raised_at c n) (kn.stands.ahead + kn.stands.idle)
+        ready_now =
+            arrives g kn.ground c.image c.inputs hd kn.image_then c.watch kn.halt_then e t0 at from to (P n) (P (suc n)) (arriving c.arrivals n) (length (entered n)) n (moment c n) debt (kn.stands.ahead + kn.stands.idle) kn.stands
+            (subst (λ z. Extends (P n) z (arriving c.arrivals n) (P (suc n))) L_same (schedule_goes_on traces c.arrivals n))
+            (λ j lj. let l = L_same in none_later traces c.arrivals n (λ i li. kn.stands.later i (omega arith)) j (omega arith)) (inl (omega arith))
+
+        pub touches_on : TouchesThere g.program c.image (chip_interrupts.begun (arriving c.arrivals n) (moment c n).state)
+        touches_on = touches_now g kn.ground c.image c.inputs hd kn.image_then c.watch kn.halt_then e t0 at from to (P (suc n)) (length (entered n)) n (raised_at c n) (kn.stands.ahead + kn.stands.idle) ready_now (clean_at n lt from to) only (due_at n) refl
+
+        pub below_on : (end : ℕ) → IsBelow g h end → (chip_interrupts.begun (arriving c.arrivals n) (moment c n).state).pc < end
+        below_on end b = below_now g kn.ground c.image c.inputs hd kn.image_then c.watch kn.halt_then e t0 at from to (P (suc n)) (length (entered n)) n (raised_at c n) (kn.stands.ahead + kn.stands.idle) ready_now (clean_at n lt from to) only end (kn.below end b) (due_at n) refl
+
       -- ---- every moment from main's first one on
       pub known : (d n : ℕ) → n ≡ d + at → n ≤ N → (debt : ℕ) × Known 100 at n debt
       known zero n is le =
           let q : at ≡ n = omega arith in
-          (0, subst (λ z. Known 100 at z 0) q (record { ground = h; image_then = x; halt_then = halt_is; stands = begins_there (omega arith) }))
+          (0, subst (λ z. Known 100 at z 0) q (record { ground = h; image_then = x; halt_then = halt_is; below = λ end b. b; stands = begins_there (omega arith) }))
       known (suc d) zero is le = absurd (omega arith)
       known (suc d) (suc n) is le =
           let k = known d n (omega arith) (omega arith) in

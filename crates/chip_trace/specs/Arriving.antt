@@ -5,7 +5,8 @@ use Rattle.std.specs.List.{All, Contains}
 use Rattle.pic_world.specs.World.{Outside, Happening, outside_of, event_of}
 use Rattle.pic_world.specs.Arrivals.{arriving}
 use Rattle.pic_world.specs.Control.{control_at_reset, raised_by}
-use Rattle.pic_chip.specs.Interrupts.{control_of}
+use Rattle.pic_chip.specs.Interrupts.{control_of, begun}
+use Rattle.chip_trace.specs.Keeping.{TouchesThere}
 use Rattle.pic_world.specs.declared.Arrival.{Arrival}
 use Rattle.pic_world.specs.declared.Cell.{Cell}
 use Rattle.pic_world.specs.declared.Root.TheVariants.{Main, Isr}
@@ -20,7 +21,7 @@ use Rattle.core_code.specs.declared.code.Byte.{Byte}
 use Rattle.core_code.specs.declared.code.Byte.TheVariants as bytes
 use Rattle.sym_code.specs.Correct.{IsBegun, AreEntries}
 use Rattle.sym_code.specs.Effect.{Setting, Memory}
-use Rattle.sym_code.specs.Layout.{IsLaidOut, Owner, owner, Watched, Of}
+use Rattle.sym_code.specs.Layout.{all_near, IsLaidOut, Owner, owner, Watched, Of}
 use Rattle.sym_code.specs.Machine.{Entry, sym_start, sym_run}
 use Rattle.sym_code.specs.Programs.{block_in, block_of, label_from}
 use Rattle.sym_code.specs.Registers.{Registers, Fits}
@@ -210,9 +211,21 @@ module _ (g : Setting) (c : chip.Setting) where
         → (early e r m n).most j + slack ≤ (early e r m n).most i + (n - t) → IsMet e r m n j
     pub no_underflow : (k : ℕ) → IsRunning e r m n → k ≤ n → (moment c k).state.pops ≤ (moment c k).state.pushes
     pub no_overflow : (k : ℕ) → IsRunning e r m n → k ≤ n → (moment c k).state.pushes ≤ (moment c k).state.pops + 8
+    -- where every address is below 100h, RP1 and IRP are 0
+    pub low : (k : ℕ) → IsRunning e r m n → k ≤ n → (moment c k).met ≡ true → all_near g.program.layout ≡ true → (moment c k).state.bank < 2
+    -- what the instruction touches that begins there
+    pub touches : (k : ℕ) → IsRunning e r m n → k ≤ n → (moment c k).met ≡ true → TouchesThere g.program c.image (begun (arriving c.arrivals k) (moment c k).state)
     pub frames : (k b : ℕ) → IsRunning e r m n → k < n → (moment c k).met ≡ true
         → is_kept (is_handling (arriving c.arrivals k) (moment c k)) (owner g.program.layout b) ≡ true
         → slice_index (moment c (k + 1)).state.ram b ≡ slice_index (moment c k).state.ram b
+
+-- each block ends by this address
+abbrev pub EndsBy : List SymBlock → List ℕ → ℕ → Type 0
+EndsBy blocks at end = (k : ℕ) (block : SymBlock) (start : ℕ) → slice_get blocks k ≡ Some block → slice_get at k ≡ Some start → start + words_in block.list.items ≤ end
+
+-- Up to moment n the instructions stand below the end of the code.
+abbrev pub IsWithin : (g : Setting) (c : chip.Setting) → Entry → Registers → Memory → ℕ → ℕ → Type 0
+IsWithin g c e r m n end = IsRunning g c e r m n → (k : ℕ) → k ≤ n → (moment c k).met ≡ true → (begun (arriving c.arrivals k) (moment c k).state).pc < end
 
 -- the flags of the arrivals before moment n, as a mask
 abbrev pub arrived_before : List Arrival → ℕ → ℕ
@@ -233,6 +246,8 @@ pub record IsStarted (g : Setting) (first : List (List Held)) (c : chip.Setting)
   -- until then nothing is called, and no interrupt taken
   pub level : (k : ℕ) → k ≤ at → (moment c k).state.pushes ≡ (moment c k).state.pops
   pub outside : (moment c at).handling ≡ false
+  -- in a near layout RP1 and IRP are 0 there
+  pub low : all_near g.program.layout ≡ true → (moment c at).state.bank < 2
 
 -- What the words and the context promise together: for every start, input list and arrival list there is what main finds, and up to
 -- each moment what the handler finds at its entries.
@@ -242,4 +257,5 @@ Arriving =
     → IsAssembled blocks at placed handler c.image c.watch g → IsStart c.start → All (λ byte. byte < 256) c.inputs
     → (started : IsStarted g first c)
     → (begins : Registers) × Fits begins
-    × ((n : ℕ) → (entry : Entry) × AreEntries entry × Arrives g c entry begins (slice_index (moment c started.at).state.ram) n)
+    × ((n : ℕ) → (entry : Entry) × AreEntries entry × Arrives g c entry begins (slice_index (moment c started.at).state.ram) n
+    × ((end : ℕ) → EndsBy blocks at end → IsWithin g c entry begins (slice_index (moment c started.at).state.ram) n end))

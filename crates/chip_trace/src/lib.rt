@@ -4,7 +4,9 @@
 //! In: nothing; the crate has definitions, and the theorems of arrivals and of the start block about them. Out: nothing.
 //! The promise: for every start, input list and arrival list, and up to every moment, the chip's trace is one of the early run of its
 //! symbolic code, its static bytes are those of that run, it takes no more instructions than that run and a few, its return stack is
-//! never too deep, and main and the handler leave each other's frames alone. And the run from reset comes to main within 4,096
+//! never too deep, and main and the handler leave each other's frames alone. Each instruction that begins stands below the end of the
+//! code, and touches a core register, a device register that the code names, a byte of an object or a frame, or by its own operand one of
+//! 70h to 7Fh; where objects and frames end below 100h, RP1 and IRP are 0 before it. And the run from reset comes to main within 4,096
 //! instructions; until then no device register is accessed and no interrupt is taken, and each static object then holds its first bytes.
 #![tactic(auto)]
 
@@ -14,7 +16,8 @@ ghost use Rattle.chip_trace.specs.Arriving.{Arriving};
 
 pub use start::main_is_met;
 
-/// An image whose start block has done its part follows the early run of its symbolic code, whenever interrupts arrive.
+/// An image whose start block has done its part follows the early run of its symbolic code, whenever interrupts arrive. What each of its
+/// instructions touches is of the code's own bytes and registers, and in a layout that ends below 100h RP1 and IRP stay 0.
 pub fn image_follows()
     ensures { Arriving }
 {}

@@ -12,6 +12,7 @@ use Rattle.sym_code.specs.declared.code.Sym.{Sym}
 use Rattle.sym_code.specs.declared.code.SymBlock.{SymBlock}
 use Rattle.bank_page.specs.Known.{nothing}
 use Rattle.bank_page.specs.Links.{price_from, price_in}
+use Rattle.bank_page.specs.Near.{none_sets_rp1, StaysNear}
 use Rattle.bank_page.specs.Selected as plain
 use Rattle.bank_page.specs.Selected.{NoSelectBehindSkip, names_of, bare_lists, IsApart, front, all_pass}
 use Rattle.flow_facts.specs.Facts.{Facts}
@@ -23,7 +24,7 @@ use Rattle.flow_facts.proofs.More.{and_first, and_last, and_both}
 use Rattle.flow_facts.proofs.Plain.{gives_nothing}
 use Rattle.flow_facts.proofs.Stands.{mates_thin}
 use Rattle.flow_facts.proofs.Along.{right_whole, right_thin}
-use Rattle.flow_facts.proofs.Lists.{hold_thin, apart_thin, bare_thin, shorter_thin, lean_thin, price_thin}
+use Rattle.flow_facts.proofs.Lists.{hold_thin, apart_thin, bare_thin, near_thin, shorter_thin, lean_thin, price_thin}
 
 pub all_first : (P : SymBlock → Type 0) (x : SymBlock) (xs : List SymBlock) → All P (x ∷ xs) → P x
 all_first P x xs all = all 0 x (omega arith)
@@ -51,6 +52,10 @@ module _ (f : Facts) where
   apart_of : (given : SymBlock) → IsApart given → (c : Bool) → NoSelectBehindSkip (thin f c given)
   apart_of given apart true = apart
   apart_of given apart false = apart_thin f given.name (f.front given.name) false given.list.items apart
+
+  near_of : (given : SymBlock) → StaysNear given → (c : Bool) → none_sets_rp1 (thin f c given) ≡ true
+  near_of given near true = near
+  near_of given near false = near_thin f given.name (f.front given.name) false given.list.items near
 
   lead_of : (given : SymBlock) → IsApart given → all_hold (leads f given.name) f given.name (f.front given.name) false given.list.items ≡ true → (c : Bool) → all_hold (leads f given.name) f given.name (f.front given.name) false (thin f c given) ≡ true
   lead_of given apart lead true = lead
@@ -123,6 +128,13 @@ module _ (f : Facts) where
   are_apart (g ∷ given) (m ∷ made) z all =
       All-cons IsApart m made (of_made (λ n l. NoSelectBehindSkip l) g m z.0 (λ c. apart_of g (all_first IsApart g given all) c)) (are_apart given made z.1 (all_others IsApart g given all))
 
+  stay_near : (given made : List SymBlock) → AllZip (IsThin f) given made → All StaysNear given → All StaysNear made
+  stay_near [] [] z all = All-nil StaysNear
+  stay_near [] (m ∷ made) z all = absurd z
+  stay_near (g ∷ given) [] z all = absurd z
+  stay_near (g ∷ given) (m ∷ made) z all =
+      All-cons StaysNear m made (of_made (λ n l. none_sets_rp1 l ≡ true) g m z.0 (λ c. near_of g (all_first StaysNear g given all) c)) (stay_near given made z.1 (all_others StaysNear g given all))
+
   all_reach : (placed : Placed) (given made : List SymBlock) → AllZip (IsThin f) given made → All (plain.Reaches placed) given → All (Reaches placed f) made
   all_reach placed [] [] z all = All-nil (Reaches placed f)
   all_reach placed [] (m ∷ made) z all = absurd z
@@ -175,7 +187,7 @@ thinning_keeps placed handler at given made thinned apart reaches =
     }
 
 pub thinning_has_flow : ThinningHasFlow
-thinning_has_flow given whole made handler placed at g h thinned apart reaches same given_code made_code without with pages fit named limits =
+thinning_has_flow given whole made handler placed at g h thinned apart reaches near same given_code made_code without with pages fit named limits =
     let keeps = thinning_keeps placed handler at whole made thinned apart reaches in
     record {
       given_code = given_code;
@@ -191,4 +203,5 @@ thinning_has_flow given whole made handler placed at g h thinned apart reaches s
       mates = keeps.mates;
       consistent = keeps.consistent;
       reaches = keeps.reaches;
+      near = λ low. stay_near thinned.facts whole made thinned.each (near low);
     }

@@ -12,6 +12,7 @@ use Rattle.sym_code.specs.declared.code.Sym.TheVariants as syms
 use Rattle.bank_page.specs.Kinds.{is_label, is_skip}
 use Rattle.bank_page.specs.Known.{learned, knows, is_bit, is_page}
 use Rattle.bank_page.specs.Links.{price_from}
+use Rattle.bank_page.specs.Near.{sets_rp1, none_sets_rp1}
 use Rattle.bank_page.specs.Selected.{Place, Free, Behind, Broken, place_after, walk}
 use Rattle.bank_page.specs.declared.known.Known.{Known}
 use Rattle.flow_facts.specs.Facts.{Fact, Facts}
@@ -151,6 +152,19 @@ module _ (f : Facts) (own : BlockName) where
           → bare (if c then thin_from f own fact behind list else s ∷ rest_of fact behind s list) ≡ bare (s ∷ list)
       by true known same next = same ∙ ap (λ (b : Bool). if not b then s ∷ bare list else bare list) (sym (known_select f own fact s known))
       by false known same next = ap (λ (l : List Sym). if not (is_select s) then s ∷ l else l) next
+
+  pub near_thin : (fact : Fact) (behind : Bool) (list : List Sym) → none_sets_rp1 list ≡ true → none_sets_rp1 (thin_from f own fact behind list) ≡ true
+  near_thin fact behind [] e = refl
+  near_thin fact behind (s ∷ list) e =
+      by (is_known f own fact s) (near_thin fact behind list later) (near_thin (fact_after f own fact behind s) (behind_after behind s) list later)
+    where
+      later : none_sets_rp1 list ≡ true
+      later = and_last (not (sets_rp1 s)) (none_sets_rp1 list) e
+
+      by : (c : Bool) → none_sets_rp1 (thin_from f own fact behind list) ≡ true → none_sets_rp1 (rest_of fact behind s list) ≡ true
+          → none_sets_rp1 (if c then thin_from f own fact behind list else s ∷ rest_of fact behind s list) ≡ true
+      by true same next = same
+      by false same next = and_both (not (sets_rp1 s)) (none_sets_rp1 (rest_of fact behind s list)) (and_first (not (sets_rp1 s)) (none_sets_rp1 list) e) next
 
   pub shorter_thin : (fact : Fact) (behind : Bool) (list : List Sym) → words_in (thin_from f own fact behind list) ≤ words_in list
   shorter_thin fact behind [] = omega arith

@@ -11,6 +11,7 @@ use Rattle.code_place.specs.Layouts.{program_of, page_of}
 use Rattle.code_place.specs.Places.{BlocksHaveAddresses}
 use Rattle.code_place.specs.Sizes.{Fit}
 use Rattle.bank_page.specs.Links.{SelectsKeep}
+use Rattle.bank_page.specs.Near.{KeepNear}
 use Rattle.bank_page.specs.Selected as plain
 use Rattle.bank_page.specs.Selected.{IsApart}
 use Rattle.flow_facts.specs.Facts.{Facts, AreMates}
@@ -19,7 +20,7 @@ use Rattle.flow_facts.specs.Walk.{is_consistent, Reaches}
 
 -- Blocks with their selects, and facts that are consistent: by these each access finds its bank selected, and each jump and call its
 -- page, which it knows by a block whose page has the same bits; between a skip and the instruction behind it stands none. All that is named has
--- an address.
+-- an address. And where objects and frames end below 100h, no select sets RP1.
 pub record HasFlow (given made : List SymBlock) (handler : Option ℕ) (placed : Placed) (at : List ℕ) (facts : Facts) (g h : Setting) : Type 0 where
   pub given_code : g.program ≡ program_of given handler placed
   pub made_code : h.program ≡ program_of made handler placed
@@ -34,6 +35,7 @@ pub record HasFlow (given made : List SymBlock) (handler : Option ℕ) (placed :
   pub mates : AreMates (page_of made at) facts.mate
   pub consistent : is_consistent facts handler made ≡ true
   pub reaches : All (Reaches placed facts) made
+  pub near : KeepNear placed made
 
 -- Such code makes the events of the same code without selects, each instruction at the price of its selects.
 abbrev pub FlowsKeep : Type 0
@@ -45,7 +47,7 @@ FlowsKeep =
 abbrev pub ThinningHasFlow : Type 0
 ThinningHasFlow =
     (given whole made : List SymBlock) (handler : Option ℕ) (placed : Placed) (at : List ℕ) (g h : Setting) (thinned : IsThinned handler at whole made)
-    → All IsApart whole → All (plain.Reaches placed) whole → ((name : BlockName) → bare (block_in whole name) ≡ block_in given name)
+    → All IsApart whole → All (plain.Reaches placed) whole → KeepNear placed whole → ((name : BlockName) → bare (block_in whole name) ≡ block_in given name)
     → g.program ≡ program_of given handler placed → h.program ≡ program_of made handler placed → g.banked ≡ false → h.banked ≡ true
     → h.page_of ≡ page_of made at → Fit made at → BlocksHaveAddresses placed made at → h.limit ≡ g.limit
     → HasFlow given made handler placed at thinned.facts g h

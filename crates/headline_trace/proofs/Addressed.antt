@@ -271,7 +271,7 @@ module _ (typed : Typed) (copies : List FnCopy) (lowered core : CoreProgram) (gi
     copy_there (callees.User f) is = user_there f is
     copy_there (callees.Helper h) is = helper_there h is
 
-  block_there : (k : ℕ) (g : SymBlock) → slice_get given k ≡ Some g → SymsLie (memory_of p copies) g.list.items
+  pub block_there : (k : ℕ) (g : SymBlock) → slice_get given k ≡ Some g → SymsLie (memory_of p copies) g.list.items
   block_there zero g is = start_there g is
   block_there (suc k) g is =
       let o = is_of core copies given joined g (has_at joined.order k g (sym (ap (λ (l : List SymBlock). slice_get l (suc k)) joined.whole) ∙ is)) in

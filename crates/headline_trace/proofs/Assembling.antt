@@ -9,9 +9,9 @@ use Rattle.pic_map.specs.MapContent as content
 use Rattle.pic_map.specs.MapView.{object_of}
 use Rattle.pic_map.specs.declared.ObjLine.{ObjLine}
 use Rattle.headline_trace.specs.Assembly.{AssemblyIsHad}
-use Rattle.headline_trace.specs.Selection.{reaches_in, limit_of}
+use Rattle.headline_trace.specs.Selection.{reaches_in}
 use Rattle.headline_trace.proofs.Apart.{laid_out}
-use Rattle.headline_trace.proofs.Selects.{selects_had}
+use Rattle.headline_trace.proofs.Selects.{made_same}
 use Rattle.headline_trace.proofs.Depths.{reach_sound, depth_had}
 use Rattle.headline_trace.proofs.Fronts.{start_place}
 use Rattle.headline_trace.proofs.Had.{start_had}
@@ -29,7 +29,7 @@ ranges_are (line ∷ lines) = ap (λ (l : List Range). places.range_of line ∷ 
 pub assembly_had : AssemblyIsHad
 assembly_had p copies core given made placed at image map_content passed has spread made_image first =
     let leaner = ready p copies core given passed.lean passed.whole placed passed.blocks in
-    let same = (selects_had p copies core given made placed at (limit_of copies) passed).same in
+    let same = made_same p copies core given made placed at passed in
     let start = start_had p copies core given made placed at passed in
     record {
       code = refl;

@@ -5,13 +5,16 @@ use Rattle.code_place.specs.Layouts as places
 use Rattle.pic_map.specs.MapContent as content
 use Rattle.pic_map.specs.MapView.{frame_of}
 use Rattle.pic_map.specs.declared.FrameLine.{FrameLine}
+use Rattle.bank_trace.proofs.Premises.{near_at}
 use Rattle.src_rules.proofs.Starts.{sound_runs}
 use Rattle.sym_code.specs.Layout.{FrameRange}
+use Rattle.sym_code.specs.declared.code.BlockName.TheVariants.{Start}
 use Rattle.headline_trace.specs.Carried as carried
 use Rattle.headline_trace.proofs.Whole.{makes_headline}
 use Rattle.headline_trace.specs.Selection.{reaches_in, limit_of}
 use Rattle.headline_trace.specs.Translations.{TranslationsAreLowerable, TranslationsAreLinked, TranslationsFollow}
 use Rattle.headline_trace.proofs.Assembling.{assembly_had, ranges_are}
+use Rattle.headline_trace.proofs.Nearby.{selects_near}
 use Rattle.headline_trace.proofs.Selects.{selects_had}
 use Rattle.headline_trace.proofs.StartGiven.{beginning_had}
 use Rattle.headline_trace.proofs.Framed.{frames_named}
@@ -34,6 +37,8 @@ pub translations_linked : TranslationsAreLinked
 translations_linked p copies core given made placed at image map_content t =
     let begins = beginning_had p copies core given made placed at t.passed t.spread.placing t.written.statics in
     let lean = lean_had p copies core given made placed at t.passed t.spread.placing in
+    let near = selects_near p t.typed t.same copies core given t.passed.lean t.passed.whole placed t.passed.blocks t.calls t.spread.placing t.written.statics t.few in
+    let selects = selects_had p copies core given made placed at (limit_of copies) t.passed near in
     record {
       lowerable = lowerable p copies core given made placed at image map_content t;
       price = lean.price;
@@ -48,9 +53,9 @@ translations_linked p copies core given made placed at image map_content t =
       clear = lean.clear;
       leaner = lean.keeps;
       facts = t.passed.thinned.facts;
-      selects = selects_had p copies core given made placed at (limit_of copies) t.passed;
+      selects = selects;
       assembled = assembly_had p copies core given made placed at image map_content t.passed t.calls t.spread t.written (first_at p copies at t.paged);
-      beginning = record { code = begins.code; selected = first_reaches p copies core given made placed at t.passed; sizes = begins.sizes; first = begins.first };
+      beginning = record { code = begins.code; selected = first_reaches p copies core given made placed at t.passed; near = λ low. near_at placed made selects.near low Start; sizes = begins.sizes; first = begins.first };
       statics_are = begins.statics_are;
       objects = ap (map content.range_of) t.written.objects ∙ ranges_are placed.objects.items;
       frames = ap (map carried.frame_of) t.written.frames ∙ frames_are placed.frames.items;

@@ -10,7 +10,7 @@ use Rattle.sym_code.specs.Programs.{block_in}
 use Rattle.sym_code.specs.Selects.{bare}
 use Rattle.sym_code.specs.declared.code.BlockName.{BlockName}
 use Rattle.sym_code.specs.declared.code.SymBlock.{SymBlock}
-use Rattle.flow_facts.proofs.Kept.{thinning_has_flow}
+use Rattle.flow_facts.proofs.Kept.{thinning_keeps, thinning_has_flow}
 use Rattle.headline_trace.specs.Linked.{bare_setting, full_setting}
 use Rattle.headline_trace.specs.Passed.{SelectsAreHad}
 use Rattle.headline_trace.proofs.Bare.{all_are, is_word, bare_itself, bare_same, in_blocks, plain_words, start_words}
@@ -35,7 +35,14 @@ whole_same p copies core given made placed at passed name =
     let words = own_words copies core given passed.lean (ready p copies core given passed.lean passed.whole placed passed.blocks) in
     bare_same passed.whole passed.lean passed.blocks.names passed.blocks.bare name ∙ bare_itself (block_in passed.lean name) (words name)
 
+-- .. and so do those that are left of them
+pub made_same : (p : Program) (copies : List FnCopy) (core : CoreProgram) (given made : List SymBlock) (placed : Placed) (at : List ℕ) (passed : IsPassed p copies core given made placed at) (name : BlockName)
+    → bare (block_in made name) ≡ block_in passed.lean name
+made_same p copies core given made placed at passed name =
+    let keeps = thinning_keeps placed (handler_at copies) at passed.whole made passed.thinned passed.blocks.apart passed.blocks.reaches in
+    keeps.same name ∙ whole_same p copies core given made placed at passed name
+
 pub selects_had : SelectsAreHad
-selects_had p copies core given made placed at limit passed =
+selects_had p copies core given made placed at limit passed near =
     thinning_has_flow passed.lean passed.whole made (handler_at copies) placed at (bare_setting passed.lean made (handler_at copies) placed at limit) (full_setting made (handler_at copies) placed at limit) passed.thinned
-    passed.blocks.apart passed.blocks.reaches (whole_same p copies core given made placed at passed) refl refl refl refl refl passed.fit passed.named refl
+    passed.blocks.apart passed.blocks.reaches near (whole_same p copies core given made placed at passed) refl refl refl refl refl passed.fit passed.named refl

@@ -13,7 +13,7 @@ use Rattle.select_wide.specs.Links.{IsFirst}
 use Rattle.sym_code.specs.declared.code.BlockName.TheVariants.{Start}
 use Rattle.chip_trace.specs.Starting.{held_in}
 use Rattle.headline_trace.specs.Assembly.{BeginningIsHad}
-use Rattle.headline_trace.proofs.Selects.{selects_had}
+use Rattle.headline_trace.proofs.Selects.{made_same}
 use Rattle.headline_trace.proofs.Laid.{layout_is}
 use Rattle.headline_trace.proofs.Ready.{ready, start_is}
 use Rattle.headline_trace.proofs.Statics.{first_there, held_are}
@@ -25,7 +25,7 @@ beginning_had p copies core given made placed at passed placing statics =
     let long : length (held_in core.statics.items) ≡ length core.statics.items = length-map core.statics.items (λ (object : Vec FirstByte Global). map first_held object.items) in
     let whole = ap length held in
     record {
-      code = (selects_had p copies core given made placed at (λ inside. 0) passed).same Start ∙ start_is copies core given passed.lean (ready p copies core given passed.lean passed.whole placed passed.blocks);
+      code = made_same p copies core given made placed at passed Start ∙ start_is copies core given passed.lean (ready p copies core given passed.lean passed.whole placed passed.blocks);
       sizes = λ n lt.
           let size = layout.sizes n (omega arith) in
           let bytes = ap (λ (l : List (List Held)). length (slice_index_or l n [])) held in

@@ -95,7 +95,9 @@ module _ (p : Program) (copies : List FnCopy) (bodies : List Body) (statics : Li
   started = subst (λ f. IsStarted full f c) linked.statics_are (starting made at placed handler statics full c linked.assembled linked.beginning is_start small)
 
   arrived : (begins : Registers) × Fits begins × ((n : ℕ) → (entry : Entry) × AreEntries entry × Arrives full c entry begins (slice_index (moment c started.at).state.ram) n)
-  arrived = arriving made at placed handler q.first full c linked.assembled is_start small started
+  arrived =
+      let all = arriving made at placed handler q.first full c linked.assembled is_start small started in
+      (all.0, all.1, λ n. let up_to = all.2 n in (up_to.0, up_to.1, up_to.2))
 
   abbrev begins : Registers
   begins = arrived.0

@@ -18,6 +18,7 @@ use Rattle.program_code.specs.Translated.{HasCalls}
 use Rattle.ram_place.specs.Placement.{IsPlacing}
 use Rattle.src_rules.specs.Numbers.{ProgramHasNumbers}
 use Rattle.sym_code.specs.declared.code.SymBlock.{SymBlock}
+use Rattle.bank_page.specs.Near.{AreNear, KeepNear}
 use Rattle.bank_page.specs.Selected.{bare_lists}
 use Rattle.flow_facts.specs.Thin.{IsThinned}
 use Rattle.program_code.specs.Leaner.{IsLeaner}
@@ -51,3 +52,15 @@ MadeHaveOperands =
     (typed : Typed) (copies : List FnCopy) (core : CoreProgram) (given lean whole made : List SymBlock) (placed : Placed) (at : List ℕ) → AreBlocks (program_of typed) copies core given lean whole placed → IsThinned (handler_at copies) at whole made → HasCalls (program_of typed) copies
     → IsPlacing (program_of typed) copies (map object_of placed.objects.items) (map frame_of placed.frames.items) → map items_of core.statics.items ≡ first_bytes (program_of typed)
     → length (program_of typed).statics ≤ 65535 → BlocksHaveOperands placed made
+
+-- ---- below 100h
+abbrev pub BlocksAreNear : Placed → List SymBlock → Type 0
+BlocksAreNear placed blocks = (k : ℕ) (block : SymBlock) → slice_get blocks k ≡ Some block → AreNear placed block.list.items
+
+-- Where objects and frames end below 100h, so does all that the blocks of a program name, leaner ones too: no select of what becomes of them
+-- sets RP1.
+abbrev pub WholeKeepNear : Type 0
+WholeKeepNear =
+    (typed : Typed) (copies : List FnCopy) (core : CoreProgram) (given lean whole : List SymBlock) (placed : Placed) → AreBlocks (program_of typed) copies core given lean whole placed → HasCalls (program_of typed) copies
+    → IsPlacing (program_of typed) copies (map object_of placed.objects.items) (map frame_of placed.frames.items) → map items_of core.statics.items ≡ first_bytes (program_of typed)
+    → length (program_of typed).statics ≤ 65535 → KeepNear placed whole

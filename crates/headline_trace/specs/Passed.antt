@@ -22,6 +22,7 @@ use Rattle.sym_code.specs.Programs.{block_in}
 use Rattle.sym_code.specs.declared.code.BlockName.TheVariants.{Start}
 use Rattle.sym_code.specs.declared.code.Sym.{Sym}
 use Rattle.sym_code.specs.declared.code.SymBlock.{SymBlock}
+use Rattle.bank_page.specs.Near.{KeepNear}
 use Rattle.flow_facts.specs.Links.{HasFlow}
 use Rattle.chip_trace.specs.Arriving.{HasVectorFor, HasHalt}
 use Rattle.code_place.specs.Layouts.{layout_of}
@@ -32,11 +33,11 @@ abbrev pub code_of : List Body → List FnCopy → ℕ → Root → FnId → Lis
 code_of bodies copies c root (callees.User function) = code_by copies c (body_at bodies c)
 code_of bodies copies c root (callees.Helper h) = helper_code h root c
 
--- The clauses give what the link of selects asks for.
+-- The clauses give what the link of selects asks for, where no select sets RP1 if objects and frames end below 100h.
 abbrev pub SelectsAreHad : Type 0
 SelectsAreHad =
     (p : Program) (copies : List FnCopy) (core : CoreProgram) (given made : List SymBlock) (placed : Placed) (at : List ℕ) (limit : Bool → ℕ)
-    (passed : IsPassed p copies core given made placed at)
+    (passed : IsPassed p copies core given made placed at) → KeepNear placed passed.whole
     → HasFlow passed.lean made (handler_at copies) placed at passed.thinned.facts (bare_setting passed.lean made (handler_at copies) placed at limit) (full_setting made (handler_at copies) placed at limit)
 
 -- Each copy of a function has its body.

@@ -6,7 +6,7 @@ ghost use Rattle.headline_trace.specs.Faithful.{TranslationsAreFaithful};
 ghost use Rattle.headline_trace.specs.Passed.{BodiesAreHad, LayoutIsHad, LayoutServes, SelectsAreHad, StartIsHad};
 ghost use Rattle.headline_trace.specs.Translations.{TranslationsAreLinked, TranslationsAreLowerable, TranslationsFollow};
 ghost use Rattle.headline_trace.specs.Selection.{DepthIsHad, LeanIsHad, LevelsAreHad, ReachIsHad, SelectionIsHad};
-ghost use Rattle.headline_trace.specs.Addressed.{LeanKeepsOperands, MadeHaveOperands, OperandsHaveAddresses, SelectsKeepOperands};
+ghost use Rattle.headline_trace.specs.Addressed.{LeanKeepsOperands, MadeHaveOperands, OperandsHaveAddresses, SelectsKeepOperands, WholeKeepNear};
 ghost use Rattle.headline_trace.specs.Written.{MapsAreWritten};
 
 /// Of a sound program, byte code of its copies, the blocks that are joined from it and what `selects` answers for them have the selects
@@ -98,12 +98,14 @@ pub fn blocks_have_room()
 {}
 
 /// What each instruction of a program's blocks names has an address: the byte that it touches, or whose address it has as a literal. That
-/// is so of the blocks that are joined, of leaner ones, and of what is left of them by their selects.
+/// is so of the blocks that are joined, of leaner ones, and of what is left of them by their selects. Where objects and frames end below
+/// 100h, no select sets RP1.
 pub fn operands_have_addresses()
     ensures named { OperandsHaveAddresses }
     ensures kept { SelectsKeepOperands }
     ensures lean { LeanKeepsOperands }
     ensures made { MadeHaveOperands }
+    ensures near { WholeKeepNear }
 {}
 
 /// A map file can tell the map of what the passes make, if its names are such as a map file has: main and its end are in program memory,

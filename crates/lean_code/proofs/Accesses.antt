@@ -2,8 +2,8 @@
 use Rattle.std.proofs.Common.{◌≡◌, ℕ, Bool, true, false, not, if◌then◌else◌, Option, Some, None, refl, sym, ap, ◌∙◌}
 use Rattle.pic_world.specs.declared.Root.TheVariants.{Main, Isr}
 use Rattle.core_code.specs.declared.code.Byte.TheVariants as bytes
-use Rattle.sym_code.specs.Effect.{Loud, Port, Shared, Access, Pointer, Event, Silent, Denied, access_by, general_access, access_of}
-use Rattle.sym_code.specs.Layout.{Owner, Watched, Constant, Of, Nobody, owner, address_of, general_at}
+use Rattle.sym_code.specs.Effect.{Loud, Port, Shared, Access, Pointer, Event, Silent, Denied, access_by, general_access, pointed_access, access_of}
+use Rattle.sym_code.specs.Layout.{Owner, Watched, Constant, Of, Nobody, owner, address_of, general_at, is_covered}
 use Rattle.sym_code.specs.Registers.{Registers, pointer}
 use Rattle.sym_code.specs.declared.code.Operand.{Operand}
 use Rattle.sym_code.specs.declared.code.Operand.TheVariants as operands
@@ -43,6 +43,10 @@ module _ (x : Lean) where
   told_general inside writes None = tt
   told_general inside writes (Some k) = told_by inside writes k (owner x.layout k) refl
 
+  told_pointed : (inside writes c : Bool) (o : Option ℕ) → Told inside writes (if c then general_access x.layout inside writes o else Denied)
+  told_pointed inside writes true o = told_general inside writes o
+  told_pointed inside writes false o = tt
+
   told_port : (inside writes c : Bool) (address : ℕ) → Told inside writes (if c then Event (Port address) else Denied)
   told_port inside writes true address = tt
   told_port inside writes false address = tt
@@ -53,7 +57,7 @@ module _ (x : Lean) where
   access_told inside writes r (operands.Byte (bytes.Static object offset)) = told_general inside writes (general_at (address_of x.layout (bytes.Static object offset)))
   access_told inside writes r (operands.Byte (bytes.Frame copy offset)) = told_general inside writes (general_at (address_of x.layout (bytes.Frame copy offset)))
   access_told inside writes r (operands.Byte (bytes.Result root k)) = told_general inside writes (general_at (address_of x.layout (bytes.Result root k)))
-  access_told inside writes r (operands.Register Indf) = told_general inside writes (general_at (pointer r))
+  access_told inside writes r (operands.Register Indf) = told_pointed inside writes (is_covered x.layout (pointer r)) (general_at (pointer r))
   access_told inside writes r (operands.Register Fsr) = tt
   access_told inside writes r (operands.Register Status) = tt
   access_told inside writes r (operands.Register Pclath) = tt
@@ -94,6 +98,10 @@ module _ (x : Lean) where
   aims_through inside writes None e = tt
   aims_through inside writes (Some k) e = aims_owner inside writes k (owner x.layout k) (not_true (x.hidden k) e)
 
+  aims_pointed : (inside writes c : Bool) (o : Option ℕ) → is_clear x.hidden o ≡ true → Aims Through (if c then general_access x.layout inside writes o else Denied)
+  aims_pointed inside writes true o e = aims_through inside writes o e
+  aims_pointed inside writes false o e = tt
+
   aims_port : (c : Bool) (address : ℕ) → Aims ToEvent (if c then Event (Port address) else Denied)
   aims_port true address = tt
   aims_port false address = tt
@@ -104,7 +112,7 @@ module _ (x : Lean) where
   access_aims inside writes r (operands.Byte (bytes.Static object offset)) e = aims_self (general_access x.layout inside writes (general_at (address_of x.layout (bytes.Static object offset))))
   access_aims inside writes r (operands.Byte (bytes.Frame copy offset)) e = aims_self (general_access x.layout inside writes (general_at (address_of x.layout (bytes.Frame copy offset))))
   access_aims inside writes r (operands.Byte (bytes.Result root k)) e = aims_self (general_access x.layout inside writes (general_at (address_of x.layout (bytes.Result root k))))
-  access_aims inside writes r (operands.Register Indf) e = aims_through inside writes (general_at (pointer r)) e
+  access_aims inside writes r (operands.Register Indf) e = aims_pointed inside writes (is_covered x.layout (pointer r)) (general_at (pointer r)) e
   access_aims inside writes r (operands.Register Fsr) e = tt
   access_aims inside writes r (operands.Register Status) e = tt
   access_aims inside writes r (operands.Register Pclath) e = tt
@@ -118,8 +126,8 @@ module _ (x : Lean) where
   access_same inside writes r s (operands.Byte (bytes.Frame copy offset)) f i = refl
   access_same inside writes r s (operands.Byte (bytes.Result root k)) f i = refl
   access_same inside writes r s (operands.Register Indf) f i =
-      ap (λ (n : ℕ). general_access x.layout inside writes (general_at (pointer (record s { fsr = n })))) (sym f)
-      ∙ ap (λ (n : ℕ). general_access x.layout inside writes (general_at (pointer (record r { irp = n })))) (sym i)
+      ap (λ (n : ℕ). pointed_access x.layout inside writes (pointer (record s { fsr = n }))) (sym f)
+      ∙ ap (λ (n : ℕ). pointed_access x.layout inside writes (pointer (record r { irp = n }))) (sym i)
   access_same inside writes r s (operands.Register Fsr) f i = refl
   access_same inside writes r s (operands.Register Status) f i = refl
   access_same inside writes r s (operands.Register Pclath) f i = refl

@@ -5,8 +5,8 @@ use Rattle.std.proofs.lemmas.Bool.{eqb-true}
 use Rattle.std.proofs.lemmas.Option.{none-some}
 use Rattle.pic_isa.specs.declared.Ins.TheVariants as ins
 use Rattle.pic_world.specs.Bits.{bit, set_bit, clear_bit, truth}
-use Rattle.sym_code.specs.Effect.{Thread, Memory, with_byte, Access, Silent, Denied, Effect, access_of, goes, file_to_w, file_to_file, store, change, test, put_flag, test_flag, flag, literal, literal_value, plain, jump_to, goto, effect_of}
-use Rattle.sym_code.specs.Layout.{owner}
+use Rattle.sym_code.specs.Effect.{Thread, Memory, with_byte, Access, Silent, Denied, Effect, Stuck, access_of, goes, file_to_w, file_to_file, store, change, test, put_flag, test_flag, flag, literal, literal_value, plain, jump_to, goto, effect_of}
+use Rattle.sym_code.specs.Layout.{all_near, owner}
 use Rattle.sym_code.specs.Programs.{Position, position, behind, onward, stand, label_from}
 use Rattle.sym_code.specs.Registers.{Registers, result_with, flags_with, skips_with, literal_row, after_row, status_bit, with_status_bit}
 use Rattle.sym_code.specs.Touching.{touches}
@@ -421,9 +421,13 @@ module _ (x : Lean) (sound : IsSound x) (inside : Bool) (rest : ℕ → Bool) (s
       by_way true e =
           pass_over (ties_seen x p.block inside n b k) f d l.skips l.drops r m scene.alike scene.holds scene.still (tied_seen b k (λ j h small. on j (ap (λ (z : ℕ). nat_eq z v) (sym (same_bit j h)) ∙ e)))
 
+  stuck_alone : (c : Bool) (e : Effect) → Lone e → Lone (if c then Stuck else e)
+  stuck_alone true e z = tt
+  stuck_alone false e z = z
+
   flag_alone : (op : BitOperation) (b : ℕ) → DropsBit x p.block inside n list op (operands.Register Status) b → Lone (flag (old_program x) p first op b)
   flag_alone Bcf b e = put_alone b 0 (truth_small false) e.0 e.1 (with_status_bit r b 0) refl
-  flag_alone Bsf b e = put_alone b 1 (truth_small true) e.0 e.1 (with_status_bit r b 1) refl
+  flag_alone Bsf b e = stuck_alone (nat_eq b 7 && all_near x.layout) (put_flag (old_program x) p first (with_status_bit r b 1)) (put_alone b 1 (truth_small true) e.0 e.1 (with_status_bit r b 1) refl)
   flag_alone Btfsc b e = test_flag_alone 0 b false not_off is_off e (status_bit r b) refl
   flag_alone Btfss b e = test_flag_alone 1 b true not_on is_on e (status_bit r b) refl
 

@@ -1,9 +1,10 @@
 -- Each instruction that both machines execute.
 use Rattle.std.proofs.Common.{◌≡◌, ℕ, Bool, true, false, if◌then◌else◌, List, Option, Some, None, refl, sym, ◌∙◌, subst}
-use Rattle.std.specs.Prelude.{nat_eq, ◌<◌}
+use Rattle.std.specs.Prelude.{◌&&◌, nat_eq, ◌<◌}
 use Rattle.pic_isa.specs.declared.Ins.TheVariants as ins
 use Rattle.pic_world.specs.Bits.{bit, set_bit, clear_bit, truth}
-use Rattle.sym_code.specs.Effect.{Thread, Memory, with_byte, Access, Effect, access_of, goes, quiet, file_to_w, file_to_file, store, change, test, put_flag, test_flag, flag, literal, literal_value, plain, effect_of}
+use Rattle.sym_code.specs.Layout as layouts
+use Rattle.sym_code.specs.Effect.{is_far, Thread, Memory, with_byte, Access, Effect, Stuck, access_of, goes, quiet, file_to_w, file_to_file, store, change, test, put_flag, test_flag, flag, literal, literal_value, plain, effect_of}
 use Rattle.sym_code.specs.Programs.{Program, Position, behind, onward}
 use Rattle.sym_code.specs.Registers.{Registers, with_bank_bit, with_page_bit, literal_row, after_row, status_bit, with_status_bit}
 use Rattle.sym_code.specs.Touching.{touches}
@@ -146,9 +147,13 @@ module _ (x : Lean) (sound : IsSound x) (inside : Bool) (rest : ℕ → Bool) (s
     tt,
   )
 
+  stuck_both : (c : Bool) (e e' : Effect) → Both e e' → Both (if c then Stuck else e) (if c then Stuck else e')
+  stuck_both true e e' z = tt
+  stuck_both false e e' z = z
+
   flag_both : (op : BitOperation) (b : ℕ) → KeepsBit x p.block inside n list op (operands.Register Status) b → Both (flag (old_program x) p first op b) (flag (new_program x) (under x p) second op b)
   flag_both Bcf b e = put_both b 0 (truth_small false) e (with_status_bit r b 0) refl
-  flag_both Bsf b e = put_both b 1 (truth_small true) e (with_status_bit r b 1) refl
+  flag_both Bsf b e = stuck_both (nat_eq b 7 && layouts.all_near x.layout) (put_flag (old_program x) p first (with_status_bit r b 1)) (put_flag (new_program x) (under x p) second (with_status_bit s b 1)) (put_both b 1 (truth_small true) e (with_status_bit r b 1) refl)
   flag_both Btfsc b e = test_flag_both 0 e.1 (status_bit r b) (status_bit s b) (bit_same d r s scene.alike b e.0)
   flag_both Btfss b e = test_flag_both 1 e.1 (status_bit r b) (status_bit s b) (bit_same d r s scene.alike b e.0)
 
@@ -265,5 +270,7 @@ module _ (x : Lean) (sound : IsSound x) (inside : Bool) (rest : ℕ → Bool) (s
   kept_both (syms.Call target) clear e = call_both x sound inside rest scene stands target e
   kept_both (syms.Goto target) clear e = goto_both x sound inside rest scene target e
   kept_both (syms.Label label) clear e = tt
-  kept_both (syms.SelectBank which on) clear e = goes_both f d e (with_bank_bit r which (truth on)) (with_bank_bit s which (truth on)) (bank_alike which (truth on)) (bank_holds which (truth on)) scene.still
+  kept_both (syms.SelectBank which on) clear e =
+      stuck_both (is_far which on && layouts.all_near x.layout) (quiet (goes first (behind (old_program x) p) (with_bank_bit r which (truth on)))) (quiet (goes second (behind (new_program x) (under x p)) (with_bank_bit s which (truth on))))
+      (goes_both f d e (with_bank_bit r which (truth on)) (with_bank_bit s which (truth on)) (bank_alike which (truth on)) (bank_holds which (truth on)) scene.still)
   kept_both (syms.SelectPage which target) clear e = goes_both f d e (with_page_bit r which _) (with_page_bit s which _) (page_alike which _ _) (page_holds which _) scene.still

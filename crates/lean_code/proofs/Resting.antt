@@ -1,13 +1,14 @@
 -- A machine rests only where main has ended.
 use Rattle.std.proofs.Common.{◌≡◌, ℕ, Bool, true, false, if◌then◌else◌, List, [], ◌∷◌, Option, Some, None, refl, sym, ◌∙◌}
-use Rattle.std.specs.Prelude.{nat_eq, nat_lt, length}
+use Rattle.std.specs.Prelude.{◌&&◌, nat_eq, nat_lt, length}
 use Rattle.pic_world.specs.World.{Outside, is_due}
-use Rattle.pic_world.specs.Bits.{bit, set_bit, clear_bit}
-use Rattle.sym_code.specs.Effect.{Setting, Rest, Thread, Memory, Access, Pointer, Event, Silent, Denied, access_of, Effect, Stuck, Quiet, Reads, Writes, Leaves, Ends, Rests, file_to_w, file_to_file, store, change, test, flag, put_flag, test_flag, is_in_page, jump_to, halt, restore, goto, call, back, literal, plain, effect_of, effect_if, effect}
+use Rattle.pic_world.specs.Bits.{truth, bit, set_bit, clear_bit}
+use Rattle.sym_code.specs.Layout.{all_near}
+use Rattle.sym_code.specs.Effect.{Setting, Rest, Thread, Memory, Access, Pointer, Event, Silent, Denied, access_of, Effect, Stuck, Quiet, Reads, Writes, Leaves, Ends, Rests, file_to_w, file_to_file, store, change, test, flag, put_flag, test_flag, is_in_page, jump_to, halt, restore, goto, call, back, literal, plain, quiet, goes, is_far, effect_of, effect_if, effect}
 use Rattle.sym_code.specs.Machine as next
 use Rattle.sym_code.specs.Machine.{Machine, Entry, Next, Stops, Still, Made, made, checked, moved, running, acted, act, enter, with_entry, at_front, sym_step_at}
 use Rattle.sym_code.specs.Programs.{Program, Position, fetched, front, lands, behind, place_of}
-use Rattle.sym_code.specs.Registers.{Registers, status_bit, with_status_bit}
+use Rattle.sym_code.specs.Registers.{Registers, status_bit, with_status_bit, with_bank_bit}
 use Rattle.sym_code.specs.Runs.{is_still}
 use Rattle.sym_code.specs.declared.code.BitOperation.{BitOperation}
 use Rattle.sym_code.specs.declared.code.BitOperation.TheVariants.{Bcf, Bsf, Btfsc, Btfss}
@@ -74,9 +75,13 @@ module _ (q : Program) (p : Position) (th : Thread) (m : Memory) where
   test_flag_moves v None = refl
   test_flag_moves v (Some i) = refl
 
+  stuck_moves : (c : Bool) (e : Effect) → Moves e → Moves (if c then Stuck else e)
+  stuck_moves true e z = refl
+  stuck_moves false e z = z
+
   flag_moves : (op : BitOperation) (b : ℕ) → Moves (flag q p th op b)
   flag_moves Bcf b = put_moves (with_status_bit th.registers b 0)
-  flag_moves Bsf b = put_moves (with_status_bit th.registers b 1)
+  flag_moves Bsf b = stuck_moves (nat_eq b 7 && all_near q.layout) (put_flag q p th (with_status_bit th.registers b 1)) (put_moves (with_status_bit th.registers b 1))
   flag_moves Btfsc b = test_flag_moves 0 (status_bit th.registers b)
   flag_moves Btfss b = test_flag_moves 1 (status_bit th.registers b)
 
@@ -139,7 +144,7 @@ module _ (g : Setting) (inside : Bool) (p : Position) (th : Thread) (m : Memory)
       (moves_if (nat_lt (length th.stack) (g.limit inside)) (jump_to (record th { stack = behind g.program p ∷ th.stack }) (place_of g.program p target)) (jump_moves (record th { stack = behind g.program p ∷ th.stack }) (place_of g.program p target)))
   row_moves (syms.Goto target) = moves_if (is_in_page g p th.registers target) (goto g inside p th target) (goto_moves target)
   row_moves (syms.Label label) = refl
-  row_moves (syms.SelectBank which on) = refl
+  row_moves (syms.SelectBank which on) = stuck_moves g.program p th m (is_far which on && all_near g.program.layout) (quiet (goes th (behind g.program p) (with_bank_bit th.registers which (truth on)))) refl
   row_moves (syms.SelectPage which target) = refl
 
   some_moves : (o : Option Sym) → Moves (effect_if g inside p th m o)

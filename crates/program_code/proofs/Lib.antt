@@ -25,6 +25,7 @@ mod Callees
 mod Copied
 pub mod Placed
 pub mod There
+pub mod Nearby
 pub mod Routines
 pub mod Starting
 pub mod StatedWords

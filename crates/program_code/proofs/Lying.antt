@@ -94,14 +94,14 @@ module _ (memory : Memory) where
   less n m (bytes.Frame copy k) l h = has_fewer (memory.frames copy) (k + n) (k + m) (omega (arith, l)) h
   less n m (bytes.Static object k) l h = has_fewer (memory.objects object) (k + n) (k + m) (omega (arith, l)) h
   less n m (bytes.Result r k) l h = omega (arith, l, h)
-  less n m (bytes.Device address) l h = tt
+  less n m (bytes.Device address) l h = h
 
   pub past : (n m i : ℕ) (byte : Byte) → i + m ≤ n → Lies memory n byte → Lies memory m (behind byte i)
   unfolding beyond little_beyond
   past n m i (bytes.Frame copy k) l h = has_fewer (memory.frames copy) (k + n) (beyond k i + m) (omega (arith, l)) h
   past n m i (bytes.Static object k) l h = has_fewer (memory.objects object) (k + n) (beyond k i + m) (omega (arith, l)) h
   past n m i (bytes.Result r k) l h = omega (arith, l, h)
-  past n m i (bytes.Device address) l h = tt
+  past n m i (bytes.Device address) l h = omega arith
 
   -- so many bytes of a result
   pub of_result : (r : Root) (n : ℕ) → n ≤ 4 → Lies memory n (bytes.Result r 0)
@@ -238,7 +238,7 @@ module _ (memory : Memory) where
   -- so many bytes of a fixed place
   abbrev pub SpotLies : ℕ → Spot → Type 0
   SpotLies n (Fixed byte) = Lies memory n byte
-  SpotLies n (Bit register bit) = Unit {0}
+  SpotLies n (Bit register bit) = register < 0x100
   SpotLies n Computed = Unit {0}
 
   -- a bit has a byte
@@ -267,28 +267,28 @@ module _ (memory : Memory) where
 
   pub value_lie : (spot : Spot) (at : Byte) (w : ℕ) → SpotLies w spot → Lies memory (pointer_bytes spot + w) at → BitHas w spot → AllLie (value_row spot at w)
   value_lie (Fixed from) at w s h l = copies_lie at from w (less (0 + w) w at (omega arith) h) s
-  value_lie (Bit register bit) at w s h l = (less (0 + w) 1 at (omega (arith, l)) h, tt)
+  value_lie (Bit register bit) at w s h l = ((less (0 + w) 1 at (omega (arith, l)) h, s), tt)
   value_lie Computed at w s h l =
       let second = past (2 + w) w 2 at (omega arith) h in
       ((second, less (2 + w) 2 at (omega arith) h), copies_lie at (behind at 2) w (less (2 + w) w at (omega arith) h) second)
 
   pub read_lie : (spot : Spot) (pointer to : Byte) (w : ℕ) → SpotLies w spot → Lies memory (pointer_bytes spot) pointer → Lies memory w to → BitHas w spot → AllLie (read_row spot pointer to w)
   read_lie (Fixed from) pointer to w s h g l = copies_lie to from w g s
-  read_lie (Bit register bit) pointer to w s h g l = (less w 1 to l g, tt)
+  read_lie (Bit register bit) pointer to w s h g l = ((less w 1 to l g, s), tt)
   read_lie Computed pointer to w s h g l = ((g, h), tt)
 
-  bit_lie : (r : Root) (register bit : ℕ) (from : Byte) → Lies memory 2 from → AllLie (bit_row r register bit from)
-  bit_lie r register bit from h = (result_lies r 0 (omega arith), ((less 2 1 from (omega arith) h, less 2 1 from (omega arith) h, result_lies r 0 (omega arith)), (less 2 1 from (omega arith) h, tt)))
+  bit_lie : (r : Root) (register bit : ℕ) (from : Byte) → register < 0x100 → Lies memory 2 from → AllLie (bit_row r register bit from)
+  bit_lie r register bit from b h = (result_lies r 0 (omega arith), ((less 2 1 from (omega arith) h, less 2 1 from (omega arith) h, result_lies r 0 (omega arith)), ((less 2 1 from (omega arith) h, b), tt)))
 
   pub written_lie : (spot : Spot) (r : Root) (pointer from : Byte) (w : ℕ) → SpotLies w spot → Lies memory (pointer_bytes spot) pointer → Lies memory w from → Lies memory 2 from → AllLie (written_row spot r pointer from w)
   written_lie (Fixed to) r pointer from w s h g two = copies_lie to from w s g
-  written_lie (Bit register bit) r pointer from w s h g two = bit_lie r register bit from two
+  written_lie (Bit register bit) r pointer from w s h g two = bit_lie r register bit from s two
   written_lie Computed r pointer from w s h g two = ((h, g), tt)
 
   pub assigned_lie : (wanted : Bool) (spot : Spot) (r : Root) (at : Byte) (w : ℕ) → SpotLies w spot → Lies memory (pointer_bytes spot + w + 2) at → AllLie (assigned_row wanted spot r at w)
   assigned_lie wanted (Fixed to) r at w s h =
       lie_on (copies to (behind at 0) w) [] (copies_lie to (behind at 0) w s (past (0 + w + 2) w 0 at (omega arith) h)) tt
-  assigned_lie wanted (Bit register bit) r at w s h = lie_on (bit_row r register bit (behind at 0)) [] (bit_lie r register bit (behind at 0) (past (0 + w + 2) 2 0 at (omega arith) h)) tt
+  assigned_lie wanted (Bit register bit) r at w s h = lie_on (bit_row r register bit (behind at 0)) [] (bit_lie r register bit (behind at 0) s (past (0 + w + 2) 2 0 at (omega arith) h)) tt
   assigned_lie wanted Computed r at w s h =
       let second = past (2 + w + 2) w 2 at (omega arith) h in
       ((less (2 + w + 2) 2 at (omega arith) h, second), copies_if_lie wanted at (behind at 2) w (λ e. (less (2 + w + 2) w at (omega arith) h, second)))

@@ -100,7 +100,7 @@ module _ (memory : Memory) where
   lies_behind n m i (bytes.Frame copy k) l h = has_fewer (memory.frames copy) (k + n) (min (k + i) 65535 + m) (omega (arith, l)) h
   lies_behind n m i (bytes.Static object k) l h = has_fewer (memory.objects object) (k + n) (min (k + i) 65535 + m) (omega (arith, l)) h
   lies_behind n m i (bytes.Result r k) l h = omega (arith, l, h)
-  lies_behind n m i (bytes.Device address) l h = tt
+  lies_behind n m i (bytes.Device address) l h = omega arith
 
   in_on : (xs ys : List Sym) → AreIn xs → AreIn ys → AreIn (xs ++ ys)
   in_on [] ys p q = q
@@ -471,14 +471,14 @@ module _ (memory : Memory) where
       in_mapped None first h s e = absurd (none-some s e)
       in_mapped (Some k) first h s e = subst AreIn (same_Some (first k) s e) (h k)
 
-      in_read : (to : Byte) (register bit : ℕ) → Lies memory 1 to → AreIn (bit_read_code to register bit)
-      in_read to register bit h =
+      in_read : (to : Byte) (register bit : ℕ) → Lies memory 1 to → register < 0x100 → AreIn (bit_read_code to register bit)
+      in_read to register bit h b =
           in_on (number_code 0 ++ bit_code Btfsc (bytes.Device register) (bit % 8) ++ number_code 1) (store_code to)
-          (in_on (number_code 0 ++ bit_code Btfsc (bytes.Device register) (bit % 8)) (number_code 1) (in_on (number_code 0) (bit_code Btfsc (bytes.Device register) (bit % 8)) (in_number 0) (in_bit Btfsc (bytes.Device register) (bit % 8) tt)) (in_number 1)) (in_store to h)
+          (in_on (number_code 0 ++ bit_code Btfsc (bytes.Device register) (bit % 8)) (number_code 1) (in_on (number_code 0) (bit_code Btfsc (bytes.Device register) (bit % 8)) (in_number 0) (in_bit Btfsc (bytes.Device register) (bit % 8) b)) (in_number 1)) (in_store to h)
 
-      in_write : (at register bit : ℕ) (from : Byte) → Lies memory 1 from → AreIn (bit_write_code at register bit from)
-      in_write at register bit from h =
-          ((in_bit Btfss from 0 h).0, (tt, ((in_bit Bsf (bytes.Device register) (bit % 8) tt).0, (tt, (tt, ((in_bit Bcf (bytes.Device register) (bit % 8) tt).0, (tt, tt)))))))
+      in_write : (at register bit : ℕ) (from : Byte) → Lies memory 1 from → register < 0x100 → AreIn (bit_write_code at register bit from)
+      in_write at register bit from h b =
+          ((in_bit Btfss from 0 h).0, (tt, ((in_bit Bsf (bytes.Device register) (bit % 8) b).0, (tt, (tt, ((in_bit Bcf (bytes.Device register) (bit % 8) b).0, (tt, tt)))))))
 
       in_convert : (from to : IntTy) (at : Byte) (cut : Bool) → is_cut from to ≡ cut → Lies memory (bytes_of to) at → AreIn (cond cut [] (widening_code from to at))
       in_convert from to at true e h = tt
@@ -494,8 +494,8 @@ module _ (memory : Memory) where
         in_tree loops at before (code.Unary op ty to) h = in_unary op ty to h.0 h.1
         in_tree loops at before (code.Binary op ty to left right) h = in_binary before op ty to left right h.0 h.1 h.2
         in_tree loops at before (code.Convert from to place) h = in_convert from to place (is_cut from to) refl h
-        in_tree loops at before (code.BitRead to register bit) h = in_read to register bit h
-        in_tree loops at before (code.BitWrite register bit from) h = in_write at register bit from h
+        in_tree loops at before (code.BitRead to register bit) h = in_read to register bit h.0 h.1
+        in_tree loops at before (code.BitWrite register bit from) h = in_write at register bit from h.0 h.1
         in_tree loops at before (code.Call copy) h = (tt, tt)
         in_tree loops at before code.Leave h = in_leave end
         in_tree loops at before (code.Many parts) h = in_trees loops at [] parts (length (list_of parts)) h

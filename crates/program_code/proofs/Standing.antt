@@ -1,5 +1,5 @@
 -- What a place that is named stands for is there, and has the bytes of its type.
-use Rattle.std.proofs.Common.{◌≡◌, ℕ, ◌+◌, ◌≤◌, Bool, true, false, ◌&&◌, ◌||◌, nat_eq, nat_le, if◌then◌else◌, List, [], ◌∷◌, ◌++◌, Option, Some, None, option_map, slice_get, slice_index, refl, sym, ap, ◌∙◌, subst, eqb-true, leb-true, arith}
+use Rattle.std.proofs.Common.{◌≡◌, ℕ, ◌+◌, ◌<◌, ◌≤◌, Bool, true, false, ◌&&◌, ◌||◌, nat_eq, nat_lt, nat_le, if◌then◌else◌, List, [], ◌∷◌, ◌++◌, Option, Some, None, is_some, option_map, slice_get, slice_index, refl, sym, ap, ◌∙◌, subst, eqb-true, leb-true, ltb-true, arith}
 use Rattle.c_ints.specs.Operators.{compares}
 use Rattle.c_ints.specs.Range.{bytes_of}
 use Rattle.c_ints.specs.declared.operators.BinOp.{BinOp}
@@ -30,6 +30,7 @@ use Rattle.lower_expr.specs.Lowering.{pointer_code}
 use Rattle.lower_expr.specs.Spots.{spot_of, member_spot, pointer_bytes}
 use Rattle.lower_expr.specs.declared.places.Spot.{Spot}
 use Rattle.lower_expr.specs.declared.places.Spot.TheVariants.{Fixed, Bit, Computed}
+use Rattle.pic_world.specs.Registers.{Register, registers, name_in}
 use Rattle.program_code.specs.Naming.{Memory, HasBytes, Lies, Points, CallsFit, count_bytes}
 use Rattle.program_code.proofs.Chain.{never}
 use Rattle.program_code.proofs.Operators.{whole_bytes}
@@ -39,6 +40,23 @@ use Rattle.program_code.proofs.Nodes.{form_same}
 use Rattle.program_code.proofs.Expressions.{is_computed, whole_computed}
 use Rattle.program_code.proofs.Rooms.{Keeps, same_type_bytes, list_there, room_holds, in_whole}
 use Rattle.program_code.proofs.Lying.{count_within, has_fewer, AllLie, less, past, SpotLies, SpotPoints, BitHas}
+
+-- ---- registers
+-- each register's lowest address is below 100h
+abbrev all_low : List Register → Bool
+all_low [] = true
+all_low (r ∷ rs) = nat_lt r.1 0x100 && all_low rs
+
+named_low : (rs : List Register) (address : ℕ) → all_low rs ≡ true → is_some (name_in rs address) ≡ true → address < 0x100
+named_low [] address low h = never h
+named_low (r ∷ rs) address low h = by (nat_eq r.1 address) refl h
+  where
+    by : (b : Bool) → nat_eq r.1 address ≡ b → is_some (if b then Some r.0 else name_in rs address) ≡ true → address < 0x100
+    by true e h = let same = eqb-true r.1 address e in let lt = ltb-true r.1 0x100 (and_first (nat_lt r.1 0x100) (all_low rs) low) in omega (arith, same, lt)
+    by false e h = named_low rs address (and_last (nat_lt r.1 0x100) (all_low rs) low) h
+
+device_low : (address : ℕ) → is_device address ≡ true → address < 0x100
+device_low address h = named_low registers address refl h
 
 -- ---- types
 two_right : (sizes : List ℕ) (op : BinOp) (left : IntTy) (right ty : Ty) → integers_fit op (Int left) right ty ≡ true → count_bytes op (bytes_of left) ≤ type_bytes sizes right
@@ -212,7 +230,7 @@ module _ (c size : ℕ) (memory : Memory) (l : Layout) (p : Program) (f : Functi
   -- a fixed place lies in its object, which is no larger than 65,535 bytes, and has an address
   abbrev SpotFits : ℕ → Spot → Type 0
   SpotFits n (Fixed byte) = Lies memory n byte × (n ≤ 65535) × Points memory byte
-  SpotFits n (Bit register bit) = Unit {0}
+  SpotFits n (Bit register bit) = register < 0x100
   SpotFits n Computed = Unit {0}
 
   own_points : (n base : ℕ) → base + n ≤ size → Points memory (bytes.Frame c base)
@@ -253,11 +271,15 @@ module _ (c size : ℕ) (memory : Memory) (l : Layout) (p : Program) (f : Functi
   register_spot true ty h = let named = named_bytes p.sizes false register_type ty h in omega (arith, named)
   register_spot false ty h = never h
 
+  register_low : (address : ℕ) (device : Bool) (ty : Qualified) → is_device address ≡ device → is_named false (if device then Some register_type else None) ty ≡ true → address < 0x100
+  register_low address true ty is h = device_low address is
+  register_low address false ty is h = never h
+
   object_spot : (o : Object) (ty : Qualified) → is_named (names_local o) (declared_type p f o) ty ≡ true → SpotFits (type_bytes p.sizes ty.ty) (Fixed (object_byte l c o))
   object_spot (object.Static number) ty h = static_spot (slice_get p.statics number) number ty refl h
   object_spot (object.Param number) ty h = param_spot (slice_get f.params number) number ty refl h
   object_spot (object.Local number) ty h = local_spot (slice_get f.locals number) number ty refl h
-  object_spot (object.Register address) ty h = (tt, register_spot (is_device address) ty h, tt)
+  object_spot (object.Register address) ty h = (register_low address (is_device address) ty refl h, register_spot (is_device address) ty h, tt)
 
   -- what lies so many bytes behind a byte that has an address has one too
   points_behind : (byte : Byte) (n i : ℕ) → i ≤ n → Lies memory n byte → Points memory byte → Points memory (behind byte i)
@@ -275,7 +297,7 @@ module _ (c size : ℕ) (memory : Memory) (l : Layout) (p : Program) (f : Functi
   spot_fits : (place : Place) → place_fits p f place ≡ true → SpotFits (type_bytes p.sizes (place_type place).ty) (spot_of l c place)
   unfolding place_fits place_rule_holds spot_of
   spot_fits (tree.Name object ty line) h = object_spot object ty h
-  spot_fits (tree.Bit register bit line) h = tt
+  spot_fits (tree.Bit register bit line) h = device_low register (and_first (is_device register) (nat_lt bit 8) h)
   spot_fits (tree.Deref pointer ty line) h = tt
   spot_fits (tree.Member whole member offset ty line) h =
       let rule = member_fits (member_at p (place_type whole).ty member) (place_type whole) offset ty in
@@ -284,7 +306,7 @@ module _ (c size : ℕ) (memory : Memory) (l : Layout) (p : Program) (f : Functi
 
   fits_lies : (spot : Spot) (n w : ℕ) → w ≤ n → SpotFits n spot → SpotLies memory w spot
   fits_lies (Fixed byte) n w m s = less memory n w byte m s.0
-  fits_lies (Bit register bit) n w m s = tt
+  fits_lies (Bit register bit) n w m s = s
   fits_lies Computed n w m s = tt
 
   fits_points : (spot : Spot) (n : ℕ) → SpotFits n spot → SpotPoints memory spot

@@ -1,5 +1,5 @@
 -- That the bytes that operations of byte code name, with those that stand behind them, are there.
-use Rattle.std.specs.Prelude.{◌≡◌, ℕ, ◌+◌, ◌≤◌, List, [], ◌∷◌, Option, Some, None, slice_get}
+use Rattle.std.specs.Prelude.{◌≡◌, ℕ, ◌+◌, ◌<◌, ◌≤◌, List, [], ◌∷◌, Option, Some, None, slice_get}
 use Rattle.c_ints.specs.Range.{bytes_of}
 use Rattle.c_ints.specs.declared.operators.BinOp.{BinOp}
 use Rattle.c_ints.specs.declared.operators.BinOp.TheVariants as binop
@@ -29,12 +29,13 @@ abbrev pub HasBytes : Option ℕ → ℕ → Type 0
 HasBytes None n = ⊥
 HasBytes (Some size) n = n ≤ size
 
--- So many bytes from the byte on are there: in the frame of a copy, in a static object, or among the four bytes of a result.
+-- So many bytes from the byte on are there: in the frame of a copy, in a static object, or among the four bytes of a result. A device
+-- register is named by its lowest address, which is below 100h (Microchip data sheet DS39582, register file map).
 abbrev pub Lies : Memory → ℕ → Byte → Type 0
 Lies memory n (bytes.Frame copy k) = HasBytes (memory.frames copy) (k + n)
 Lies memory n (bytes.Static object k) = HasBytes (memory.objects object) (k + n)
 Lies memory n (bytes.Result r k) = k + n ≤ 4
-Lies memory n (bytes.Device address) = Unit {0}
+Lies memory n (bytes.Device address) = address < 0x100
 
 -- What has an address that is told as a number is there, and is no result. It may be the end of an object.
 abbrev pub Points : Memory → Byte → Type 0
@@ -81,8 +82,8 @@ abbrev mutual
   TreeLies memory (code.Unary op ty at) = Lies memory (bytes_of ty) at × Lies memory 2 at
   TreeLies memory (code.Binary op ty to left right) = Lies memory (answer_bytes op (bytes_of ty)) to × Lies memory (bytes_of ty) left × Lies memory (count_bytes op (bytes_of ty)) right
   TreeLies memory (code.Convert from to at) = Lies memory (bytes_of to) at
-  TreeLies memory (code.BitRead to register bit) = Lies memory 1 to
-  TreeLies memory (code.BitWrite register bit from) = Lies memory 1 from
+  TreeLies memory (code.BitRead to register bit) = Lies memory 1 to × (register < 0x100)
+  TreeLies memory (code.BitWrite register bit from) = Lies memory 1 from × (register < 0x100)
   TreeLies memory (code.Call copy) = Unit {0}
   TreeLies memory code.Leave = Unit {0}
   TreeLies memory (code.Many parts) = TreesLie memory parts

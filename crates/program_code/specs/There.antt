@@ -1,5 +1,5 @@
 -- That blocks name bytes alone that are there, and that these have addresses where objects and frames are placed.
-use Rattle.std.specs.Prelude.{◌≡◌, ℕ, ◌<◌, ◌≤◌, List, [], ◌∷◌, length, map, slice_get, option_map, Option, Some, IsSome}
+use Rattle.std.specs.Prelude.{◌≡◌, ℕ, ◌<◌, ◌≤◌, true, List, [], ◌∷◌, length, map, slice_get, option_map, Option, Some, IsSome}
 use Rattle.std.specs.Global.{Global}
 use Rattle.std.specs.declared.vec.Vec.{Vec}
 use Rattle.c_typed.specs.Trees.{StaticTree, FunctionTree, Program}
@@ -11,6 +11,7 @@ use Rattle.code_place.specs.Addresses.{address_of, file_address}
 use Rattle.code_place.specs.Layouts.{layout_of}
 use Rattle.code_place.specs.Places.{HasLiteral}
 use Rattle.bank_page.specs.Kinds.{byte_of}
+use Rattle.bank_page.specs.Near.{AreNear}
 use Rattle.core_code.specs.declared.code.Byte.{Byte}
 use Rattle.core_code.specs.declared.code.Byte.TheVariants as bytes
 use Rattle.core_code.specs.declared.code.FirstByte.{FirstByte}
@@ -23,7 +24,7 @@ use Rattle.pic_map.specs.declared.Placed.{Placed}
 use Rattle.pic_world.specs.declared.Root.{Root}
 use Rattle.ram_place.specs.Placement.{IsPlacing}
 use Rattle.ram_place.specs.Sizes.{frame_bytes}
-use Rattle.sym_code.specs.Layout.{frame}
+use Rattle.sym_code.specs.Layout.{all_near, frame}
 use Rattle.sym_code.specs.declared.code.Sym.{Sym}
 use Rattle.sym_code.specs.declared.code.Sym.TheVariants as syms
 use Rattle.sym_code.specs.declared.code.SymBlock.{SymBlock}
@@ -67,6 +68,12 @@ HaveOperands placed (s ∷ list) = HasOperand placed s × HaveOperands placed li
 -- What is there has an address where objects and frames are placed.
 abbrev pub PlacedHaveAddresses : Type 0
 PlacedHaveAddresses = (p : Program) (copies : List FnCopy) (placed : Placed) (list : List Sym) → IsPlacing p copies (map object_of placed.objects.items) (map frame_of placed.frames.items) → SymsLie (memory_of p copies) list → HaveOperands placed list
+
+-- Where objects and frames end below 100h, all that is there stands below it.
+abbrev pub PlacedStayNear : Type 0
+PlacedStayNear =
+    (p : Program) (copies : List FnCopy) (placed : Placed) (list : List Sym) → IsPlacing p copies (map object_of placed.objects.items) (map frame_of placed.frames.items) → all_near (layout_of placed) ≡ true → SymsLie (memory_of p copies) list
+    → AreNear placed list
 
 -- a byte of a frame is one of its bytes
 abbrev pub IsInside : Placed → Byte → Type 0

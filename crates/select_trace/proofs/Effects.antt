@@ -1,9 +1,11 @@
 -- What an instruction on own bytes does on the symbolic machine is what it does over bytes by number.
 use Rattle.std.proofs.Common.{◌≡◌, ℕ, zero, suc, ◌<◌, Bool, true, false, Option, Some, None, refl, ap, ◌∙◌, arith}
-use Rattle.std.specs.Prelude.{nat_eq, if◌then◌else◌}
+use Rattle.std.specs.Prelude.{◌&&◌, nat_eq, if◌then◌else◌}
+use Rattle.std.proofs.lemmas.Bool.{ne_eqb}
 use Rattle.core_code.specs.declared.code.Byte.{Byte}
 use Rattle.pic_world.specs.Bits.{bit}
-use Rattle.sym_code.specs.Effect.{Setting, Thread, Memory, Access, effect_of, file_to_w, file_to_file, store, test, put_flag, test_flag}
+use Rattle.sym_code.specs.Effect.{Setting, Thread, Memory, Access, Stuck, effect_of, file_to_w, file_to_file, store, test, put_flag, test_flag}
+use Rattle.sym_code.specs.Layout.{all_near}
 use Rattle.sym_code.specs.Machine.{lands_at}
 use Rattle.sym_code.specs.Programs.{Program, Position, behind, onward}
 use Rattle.sym_code.specs.Quiet.{Scene, quiet_by}
@@ -102,7 +104,9 @@ module _ (g : Setting) (inside : Bool) (P : Byte → Type 0) (quiet : AreQuiet g
   on_flag : (op : BitOperation) (n : ℕ) → n < 3 → Does (sym.Bit op (operands.Register registers.Status) n)
   unfolding effect_of
   on_flag Bcf n lt = ap (λ (o : Option Registers). quiet_by g.program m (put_flag g.program p th o)) (flag_set th.registers n 0 lt)
-  on_flag Bsf n lt = ap (λ (o : Option Registers). quiet_by g.program m (put_flag g.program p th o)) (flag_set th.registers n 1 lt)
+  on_flag Bsf n lt =
+      ap (λ (c : Bool). quiet_by g.program m (if c && all_near g.program.layout then Stuck else put_flag g.program p th (real.with_status_bit th.registers n 1))) (ne_eqb n 7 (λ e. omega (arith, e, lt)))
+      ∙ ap (λ (o : Option Registers). quiet_by g.program m (put_flag g.program p th o)) (flag_set th.registers n 1 lt)
   on_flag Btfsc n lt = ap (λ (o : Option ℕ). quiet_by g.program m (test_flag g.program p th 0 o)) (flag_read th.registers n lt) ∙ moved (nat_eq (status_bit th.registers n) 0) th.registers m
   on_flag Btfss n lt = ap (λ (o : Option ℕ). quiet_by g.program m (test_flag g.program p th 1 o)) (flag_read th.registers n lt) ∙ moved (nat_eq (status_bit th.registers n) 1) th.registers m
 

@@ -26,6 +26,7 @@ pub mod Bytes
 pub mod Bits
 pub mod Quiet
 pub mod Values
+pub mod Reaching
 pub mod Pointing
 pub mod Loads
 pub mod Transfers

@@ -11,7 +11,7 @@ use Rattle.core_code.specs.Values.{pointer_in}
 use Rattle.core_code.specs.declared.code.Byte.{Byte}
 use Rattle.sym_code.specs.Effect.{Memory, Silent, access_of}
 use Rattle.sym_code.specs.Layout as layouts
-use Rattle.sym_code.specs.Layout.{shown}
+use Rattle.sym_code.specs.Layout.{shown, all_near}
 use Rattle.sym_code.specs.Machine.{Machine}
 use Rattle.sym_code.specs.Programs.{Position}
 use Rattle.sym_code.specs.Registers.{Registers, Fits, pointer}
@@ -40,6 +40,7 @@ use Rattle.select_trace.proofs.Access.{Own, own_valid, own_access, loaded, loade
 use Rattle.select_trace.proofs.Tests.{behind_none, own_part, own_behind, pointer_address, pointer_parts}
 use Rattle.select_trace.proofs.Control.{left_to, here_soon, when_after}
 use Rattle.select_trace.proofs.Bytes.{soon_left}
+use Rattle.select_trace.proofs.Reaching.{pointer_near}
 use Rattle.select_trace.proofs.Pointing.{dear_one, dear_movwf_register, dear_bit_register, to_fsr, clears_irp, sets_irp, bit_clear}
 
 -- ---- the code of what is left
@@ -144,7 +145,8 @@ module _ (s : Site) (t : Machine) (wc : World Held) (calm : Calm s wc) (f : ℕ)
       (word s t wc calm f ps b_user n1 r1 m y1 r2 None d 0 (q n2 + (q n3 + (q n4 + 0))) h.1.0 refl refl refl (to_fsr s wc.inside f n1 ps r1 m)
       (word s t wc calm f ps b_user n2 r2 m y2 r3 None d 0 (q n3 + (q n4 + 0)) h.1.1.0 refl refl refl (clears_irp s wc.inside f n2 ps r2 m)
       (skip s t wc calm f ps b_user n3 r3 m y3 y4 (nat_eq (bit v1 0) 0) r3 d 0 (q n4 + 0) h.1.1.1.0 refl refl refl h.1.1.1.1.0 refl refl (bit_clear s wc.inside f n3 ps r3 m (byte_behind p 1) k1 ac1)
-      (by_bit (nat_eq (bit v1 0) 0) v1 r3 f3 f4 h.1.1.1.1.0 (ap (λ z. nat_eq z 0) (low_bit v1 v1s)) v1s (low_case v0 v1 a e0 e1 ad1) (high_case v0 v1 a e0 e1 ad1))))))
+      (by_bit (nat_eq (bit v1 0) 0) v1 r3 f3 f4 h.1.1.1.1.0 (ap (λ z. nat_eq z 0) (low_bit v1 v1s)) v1s (low_case v0 v1 a e0 e1 ad1) (high_case v0 v1 a e0 e1 ad1)
+      (far_case (all_near (layout s)) v1 a e1 (λ near. pointer_near s near x.object x.offset false s0.1)))))))
     where
       low_case : (v0 v1 a : ℕ) → v0 ≡ a % 256 → v1 ≡ a / 256 % 2 → a < 512 → v1 ≡ 0 → 256 * 0 + v0 ≡ a
       low_case v0 v1 a e0 e1 lt z = omega (arith, e0, e1, lt, z)
@@ -152,14 +154,20 @@ module _ (s : Site) (t : Machine) (wc : World Held) (calm : Calm s wc) (f : ℕ)
       high_case : (v0 v1 a : ℕ) → v0 ≡ a % 256 → v1 ≡ a / 256 % 2 → a < 512 → v1 ≡ 1 → 256 * 1 + v0 ≡ a
       high_case v0 v1 a e0 e1 lt z = omega (arith, e0, e1, lt, z)
 
+      -- in a near layout the address is below 100h
+      far_case : (near : Bool) (v1 a : ℕ) → v1 ≡ a / 256 % 2 → (near ≡ true → a < 0x100) → v1 ≡ 1 → near ≡ false
+      far_case true v1 a e lt z = let l = lt refl in absurd (omega (arith, e, l, z))
+      far_case false v1 a e lt z = refl
+
       by_bit : (b : Bool) (v1 : ℕ) (r3 : Registers) → Fits r3 → Fits (record r3 { irp = 1 }) → slice_get (block s f) (suc (suc (suc (suc n)))) ≡ Some (syms.Bit Bsf (operands.Register Status) 7) → b ≡ nat_eq v1 0 → v1 < 2
           → (v1 ≡ 0 → pointer r3 ≡ layouts.address_of (layout s) (byte_in x.object x.offset)) → (v1 ≡ 1 → pointer (record r3 { irp = 1 }) ≡ layouts.address_of (layout s) (byte_in x.object x.offset))
+          → (v1 ≡ 1 → all_near (layout s) ≡ false)
           → Went s (at s t (thread s f (if b then suc (suc (suc (suc (suc n)))) else suc (suc (suc (suc n)))) ps r3) m wc) d 0 (s.price (names.Copy f) (suc (suc (suc (suc n)))) + 0)
-      by_bit true v1 r3 f3 f4 h e lt low high =
+      by_bit true v1 r3 f3 f4 h e lt low high far =
           weaken s (at s t (thread s f (suc (suc (suc (suc (suc n))))) ps r3) m wc) d 0 0 0 (s.price (names.Copy f) (suc (suc (suc (suc n)))) + 0) (omega arith) (omega arith)
           (subst (λ k. Went s (at s t (thread s f k ps r3) m wc) d 0 0) (let z : n + 5 ≡ suc (suc (suc (suc (suc n)))) = omega arith in z) (go r3 f3 (low (same_nat v1 0 (sym e)))))
-      by_bit false v1 r3 f3 f4 h e lt low high =
-          word s t wc calm f ps b_user (suc (suc (suc (suc n)))) r3 m (syms.Bit Bsf (operands.Register Status) 7) (record r3 { irp = 1 }) None d 0 0 h refl refl refl (sets_irp s wc.inside f (suc (suc (suc (suc n)))) ps r3 m)
+      by_bit false v1 r3 f3 f4 h e lt low high far =
+          word s t wc calm f ps b_user (suc (suc (suc (suc n)))) r3 m (syms.Bit Bsf (operands.Register Status) 7) (record r3 { irp = 1 }) None d 0 0 h refl refl refl (sets_irp s wc.inside f (suc (suc (suc (suc n)))) ps r3 m (far (one v1 lt (sym e))))
           (subst (λ k. Went s (at s t (thread s f k ps (record r3 { irp = 1 })) m wc) d 0 0) (let z : n + 5 ≡ suc (suc (suc (suc (suc n)))) = omega arith in z) (go (record r3 { irp = 1 }) f4 (high (one v1 lt (sym e)))))
         where
           one : (v : ℕ) → v < 2 → nat_eq v 0 ≡ false → v ≡ 1

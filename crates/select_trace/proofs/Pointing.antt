@@ -1,5 +1,5 @@
 -- Addresses, and FSR and IRP.
-use Rattle.std.proofs.Common.{◌≡◌, ℕ, suc, ◌+◌, ◌%◌, ◌<◌, ◌≤◌, Bool, true, false, nat_eq, nat_lt, List, [], ◌∷◌, length, Option, Some, None, refl, sym, ap, ◌∙◌, subst, arith}
+use Rattle.std.proofs.Common.{◌≡◌, ℕ, suc, ◌+◌, ◌%◌, ◌<◌, ◌≤◌, Bool, true, false, nat_eq, nat_lt, if◌then◌else◌, List, [], ◌∷◌, length, Option, Some, None, refl, sym, ap, ◌∙◌, subst, arith}
 use Rattle.pic_world.specs.Bits.{bit, truth}
 use Rattle.pic_world.specs.World.{World}
 use Rattle.core_code.specs.Bytes as bytes
@@ -9,9 +9,9 @@ use Rattle.core_code.specs.Machine.{Task, Waiting, static_bytes, is_own, is_vali
 use Rattle.core_code.specs.Values.{Pointer, byte_of}
 use Rattle.core_code.specs.declared.code.Byte.{Byte}
 use Rattle.core_code.specs.declared.code.Byte.TheVariants.{Static, Frame, Result, Device}
-use Rattle.sym_code.specs.Effect.{Memory, with_byte, write, Silent, Quiet, effect_of, access_of, access_by, general_access, literal_value, test}
+use Rattle.sym_code.specs.Effect.{Memory, with_byte, write, Silent, Quiet, effect_of, access_of, access_by, general_access, pointed_access, Denied, Stuck, literal_value, test}
 use Rattle.sym_code.specs.Layout as layouts
-use Rattle.sym_code.specs.Layout.{address_byte, general_at, owner, shown}
+use Rattle.sym_code.specs.Layout.{address_byte, general_at, owner, shown, all_near, is_covered}
 use Rattle.sym_code.specs.Machine.{Machine}
 use Rattle.sym_code.specs.Programs.{Position, position, onward}
 use Rattle.sym_code.specs.Registers.{Registers, Fits, pointer, after_row, result_with, flags_with, skips_with}
@@ -76,9 +76,10 @@ module _ (s : Site) (i : Bool) (f n : ℕ) (ps : List Position) (r : Registers) 
   unfolding effect_of
   clears_irp = refl
 
-  pub sets_irp : effect_of s.g i (position (names.Copy f) n) (thread s f n ps r) m (syms.Bit Bsf (operands.Register Status) 7) ≡ Quiet (thread s f (n + 1) ps (record r { irp = 1 })) None
+  -- only where something stands from 100h on
+  pub sets_irp : all_near (layout s) ≡ false → effect_of s.g i (position (names.Copy f) n) (thread s f n ps r) m (syms.Bit Bsf (operands.Register Status) 7) ≡ Quiet (thread s f (n + 1) ps (record r { irp = 1 })) None
   unfolding effect_of
-  sets_irp = refl
+  sets_irp far = ap (λ (c : Bool). if c then Stuck else Quiet (thread s f (n + 1) ps (record r { irp = 1 })) None) far
 
   pub bit_clear : (b : Byte) (k : ℕ) → access_of s.g i false r (operands.Byte b) ≡ Silent k
       → effect_of s.g i (position (names.Copy f) n) (thread s f n ps r) m (syms.Bit Btfsc (operands.Byte b) 0) ≡ Quiet (record { rest = None; at = Some (onward s.g.program (position (names.Copy f) n) (nat_eq (bit (m k) 0) 0)); stack = ps; registers = r }) None
@@ -91,10 +92,11 @@ module _ (s : Site) (i : Bool) (f n : ℕ) (ps : List Position) (r : Registers) 
   advances = refl
 
 -- what INDF reaches
-pub indf_is : (s : Site) (i wr : Bool) (r : Registers) (b : Byte) → There s b → pointer r ≡ layouts.address_of (layout s) b → access_of s.g i wr r (operands.Register Indf) ≡ access_by i wr (slot (layout s) b) (owner (layout s) (slot (layout s) b))
+pub indf_is : (s : Site) (i wr : Bool) (r : Registers) (b : Byte) → There s b → is_covered (layout s) (layouts.address_of (layout s) b) ≡ true → pointer r ≡ layouts.address_of (layout s) b → access_of s.g i wr r (operands.Register Indf) ≡ access_by i wr (slot (layout s) b) (owner (layout s) (slot (layout s) b))
 unfolding access_of
-indf_is s i wr r b th e =
-    ap (λ a. general_access (layout s) i wr (general_at a)) e
+indf_is s i wr r b th covered e =
+    ap (pointed_access (layout s) i wr) e
+    ∙ ap (λ c. if c then general_access (layout s) i wr (general_at (layouts.address_of (layout s) b)) else Denied) covered
     ∙ ap (general_access (layout s) i wr) (placed.stands_in s.q (length s.copies) s.reaches (layout s) s.chosen.layout s.chosen.laid_out b th)
 
 module _ (s : Site) (t : Machine) (wc : World Held) (calm : Calm s wc) (f : ℕ) (pr : Option ℕ) (st : List Waiting) (loops : List ℕ) (ps : List Position) (cm : bytes.Memory) (m : Memory) (fit : Fit s t wc f pr st loops ps cm m) where

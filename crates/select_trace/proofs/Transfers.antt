@@ -49,6 +49,7 @@ use Rattle.select_trace.proofs.Control as control
 use Rattle.select_trace.proofs.Stores.{store_goes, static_store, private_goes}
 use Rattle.select_trace.proofs.Bytes.{put_moves, after_map, static_read}
 use Rattle.select_trace.proofs.Prices.{dear_words}
+use Rattle.select_trace.proofs.Reaching.{static_covered, frame_covered}
 use Rattle.select_trace.proofs.Pointing.{dear_one, dear_movwf_register, dear_file_register, advances, indf_is}
 use Rattle.select_trace.proofs.Loads.{loading_soon, storing_soon}
 
@@ -189,19 +190,19 @@ module _ (s : Site) (t : Machine) (wc : World Held) (calm : Calm s wc) (f : ℕ)
   -- ---- what INDF reaches
   shared_indf : (wr : Bool) (r : Registers) (o k : ℕ) → k < static_bytes s.q o → pointer r ≡ layouts.address_of (layout s) (Static o k) → s.q.is_watched o ≡ true → access_of s.g wc.inside wr r (operands.Register Indf) ≡ Event (Shared (slot (layout s) (Static o k)) (cells.Static o k))
   shared_indf wr r o k lt p w =
-      indf_is s wc.inside wr r (Static o k) lt p
+      indf_is s wc.inside wr r (Static o k) lt (static_covered s o k lt) p
       ∙ ap (access_by wc.inside wr (slot (layout s) (Static o k))) (placed.watched s.q (length s.copies) s.reaches (layout s) s.chosen.layout s.chosen.laid_out o k lt w)
       ∙ of_watched s wc.inside wr (slot (layout s) (Static o k)) o k
 
   constant_indf : (r : Registers) (o k : ℕ) → k < static_bytes s.q o → pointer r ≡ layouts.address_of (layout s) (Static o k) → s.q.is_watched o ≡ false → access_of s.g wc.inside false r (operands.Register Indf) ≡ Silent (slot (layout s) (Static o k))
   constant_indf r o k lt p w =
-      indf_is s wc.inside false r (Static o k) lt p
+      indf_is s wc.inside false r (Static o k) lt (static_covered s o k lt) p
       ∙ ap (access_by wc.inside false (slot (layout s) (Static o k))) (placed.constant s.q (length s.copies) s.reaches (layout s) s.chosen.layout s.chosen.laid_out o k lt w)
       ∙ of_constant s wc.inside (slot (layout s) (Static o k))
 
   frame_indf : (wr : Bool) (r : Registers) (g y : ℕ) → There s (Frame g y) → s.q.root g ≡ root_of wc.inside → pointer r ≡ layouts.address_of (layout s) (Frame g y) → access_of s.g wc.inside wr r (operands.Register Indf) ≡ Silent (slot (layout s) (Frame g y))
   frame_indf wr r g y th e p =
-      indf_is s wc.inside wr r (Frame g y) th p
+      indf_is s wc.inside wr r (Frame g y) th (frame_covered s g y th) p
       ∙ ap (access_by wc.inside wr (slot (layout s) (Frame g y))) (placed.frames_own s.q (length s.copies) s.reaches (layout s) s.chosen.layout s.chosen.laid_out g y th.0 th.1 ∙ ap Of e)
       ∙ of_root s wc.inside wr (slot (layout s) (Frame g y))
 

@@ -8,7 +8,7 @@ use Rattle.pic_world.specs.declared.Root.TheVariants.{Main, Isr}
 use Rattle.core_code.specs.declared.code.Byte.TheVariants as bytes
 use Rattle.sym_code.specs.Cost.{step_cost, cost_by}
 use Rattle.sym_code.specs.Effect.{Setting, access_of, effect_of, effect}
-use Rattle.sym_code.specs.Layout.{DataLayout, address_of, general_at, owner}
+use Rattle.sym_code.specs.Layout.{DataLayout, address_of, general_at, owner, all_near, is_covered}
 use Rattle.sym_code.specs.Machine.{Machine, Entry, Stops, Still, acted, sym_step, sym_run, sym_start}
 use Rattle.sym_code.specs.Programs.{stand}
 use Rattle.sym_code.specs.Registers.{Registers, result_with, flags_with, skips_with, after_row}
@@ -100,16 +100,16 @@ pointing = setting (
     ∷ Bit Btfss (operands.Register register.Status) 2 ∷ Movwf (device 7) ∷ Label (Inner 0) ∷ to_halt ∷ []) []
 
 pointed : (run pointing 9 8).world.trace ≡ ReadOf (cells.Static 1 1) 0xff ∷ WriteOf (cells.Static 1 1) 0 ∷ Ended ∷ []
-unfolding sym_run sym_step acted effect effect_of access_of address_of general_at owner stand result_with flags_with skips_with after_row raised_by control.is_due stored with_stored arrived is_due device_value after_device_read after_device_write sets_gie
+unfolding sym_run sym_step acted effect effect_of access_of address_of general_at owner stand result_with flags_with skips_with after_row raised_by control.is_due stored with_stored arrived is_due device_value after_device_read after_device_write sets_gie all_near is_covered
 pointed = refl
 
 pointed_least : sym_least pointing entry (external_at 9) (begun pointing) 8 ≡ 7
-unfolding cost_by step_cost sym_run sym_step acted effect effect_of access_of address_of general_at owner stand result_with flags_with skips_with after_row raised_by control.is_due stored with_stored arrived is_due device_value after_device_read after_device_write sets_gie
+unfolding cost_by step_cost sym_run sym_step acted effect effect_of access_of address_of general_at owner stand result_with flags_with skips_with after_row raised_by control.is_due stored with_stored arrived is_due device_value after_device_read after_device_write sets_gie all_near is_covered
 pointed_least = refl
 
 -- where each instruction costs one more than its number
 pointed_most : sym_most pointing (λ block index. suc index) entry (external_at 9) (begun pointing) 8 ≡ 30
-unfolding cost_by step_cost sym_run sym_step acted effect effect_of access_of address_of general_at owner stand result_with flags_with skips_with after_row raised_by control.is_due stored with_stored arrived is_due device_value after_device_read after_device_write sets_gie
+unfolding cost_by step_cost sym_run sym_step acted effect effect_of access_of address_of general_at owner stand result_with flags_with skips_with after_row raised_by control.is_due stored with_stored arrived is_due device_value after_device_read after_device_write sets_gie all_near is_covered
 pointed_most = refl
 
 -- A byte of bank 2 without its bank: stuck where selects count, and only there. With RP1 set it is read.
@@ -121,8 +121,32 @@ unfolding sym_step acted effect effect_of access_of address_of general_at owner 
 unselected = refl
 
 selected : (run (selecting (SelectBank Rp1 true ∷ a_byte ∷ to_halt ∷ [])) 9 2).world.trace ≡ ReadOf (cells.Static 1 0) 0xff ∷ []
-unfolding sym_run sym_step acted effect effect_of access_of address_of general_at owner stand result_with flags_with skips_with raised_by control.is_due stored with_stored arrived is_due device_value after_device_read
+unfolding sym_run sym_step acted effect effect_of access_of address_of general_at owner stand result_with flags_with skips_with raised_by control.is_due stored with_stored arrived is_due device_value after_device_read all_near
 selected = refl
+
+-- In a layout whose objects and frames end below 100h the same select is stuck, and so is one of IRP by BSF.
+abbrev near : List Sym → Setting
+near main = record (selecting main) { program = record (selecting main).program { layout = record layout { objects = [] } } }
+
+unselectable : sym_step (near (SelectBank Rp1 true ∷ to_halt ∷ [])) entry (external_at 9) (begun (near (SelectBank Rp1 true ∷ to_halt ∷ []))) ≡ Stops
+unfolding sym_step acted effect effect_of stand raised_by control.is_due stored arrived is_due all_near
+unselectable = refl
+
+unpointable : sym_step (near (Bit Bsf (operands.Register register.Status) 7 ∷ to_halt ∷ [])) entry (external_at 9) (begun (near (Bit Bsf (operands.Register register.Status) 7 ∷ to_halt ∷ []))) ≡ Stops
+unfolding sym_step acted effect effect_of stand raised_by control.is_due stored arrived is_due all_near
+unpointable = refl
+
+-- FSR is 0, where no object or frame stands: an access through INDF is stuck. One of main's first result, at 70h, is stuck too.
+abbrev through : Setting
+through = setting (Movwf (operands.Register register.Indf) ∷ to_halt ∷ []) []
+
+unfounded : sym_step through entry (external_at 9) (begun through) ≡ Stops
+unfolding sym_step acted effect effect_of access_of general_at owner stand raised_by control.is_due stored arrived is_due is_covered
+unfounded = refl
+
+at_result : sym_step through entry (external_at 9) (sym_start through.program (record nothing { fsr = 0x70 }) (λ k. 0xff)) ≡ Stops
+unfolding sym_step acted effect effect_of access_of general_at owner stand raised_by control.is_due stored arrived is_due is_covered
+at_result = refl
 
 -- Main writes to the handler's frame: stuck.
 abbrev trespassing : Setting

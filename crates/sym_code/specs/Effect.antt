@@ -1,6 +1,8 @@
 -- What an instruction does, by the thread that it runs in and by memory alone: nothing of the world is asked, so what is
 -- read of a device register or of a watched byte comes later. Where no rule applies it is stuck: so is an access that the
--- thread may not make, and in code with selects one in a bank, or a jump or call to a page, that isn't selected.
+-- thread may not make, and in code with selects one in a bank, or a jump or call to a page, that isn't selected. So is one
+-- through INDF where no object and no frame stands, and in a layout that ends below 100h what sets RP1 or IRP: from a run that
+-- isn't stuck it can then be shown that a program placed there touches only what its text names, in banks 0 and 1.
 -- g is the setting, q the program, inside whether the handler runs, p where the instruction stands, th the thread, m memory.
 use Rattle.std.specs.Prelude.{ℕ, ◌/◌, ◌%◌, Bool, true, false, not, ◌&&◌, ◌||◌, nat_eq, nat_lt, if◌then◌else◌, List, [], ◌∷◌, length, Option, Some, None}
 use Rattle.pic_isa.specs.declared.Ins.TheVariants as ins
@@ -11,9 +13,11 @@ use Rattle.pic_world.specs.declared.Cell.{Cell}
 use Rattle.pic_world.specs.declared.Root.{Root}
 use Rattle.pic_world.specs.declared.Root.TheVariants.{Main, Isr}
 use Rattle.core_code.specs.declared.code.Byte.TheVariants as bytes
-use Rattle.sym_code.specs.Layout.{DataLayout, address_of, address_byte, general_at, Owner, Watched, Constant, Of, Nobody, owner}
+use Rattle.sym_code.specs.Layout.{DataLayout, address_of, address_byte, general_at, Owner, Watched, Constant, Of, Nobody, owner, all_near, is_covered}
 use Rattle.sym_code.specs.Programs.{Program, Position, block_of, fetched, behind, onward, place_of}
 use Rattle.sym_code.specs.Registers.{Registers, bank, page, pointer, with_bank_bit, with_page_bit, result_with, flags_with, skips_with, literal_row, after_row, status_bit, with_status_bit}
+use Rattle.sym_code.specs.declared.code.BankBit.{BankBit}
+use Rattle.sym_code.specs.declared.code.BankBit.TheVariants.{Rp0, Rp1, Irp}
 use Rattle.sym_code.specs.declared.code.BitOperation.{BitOperation}
 use Rattle.sym_code.specs.declared.code.BitOperation.TheVariants.{Bcf, Bsf, Btfsc, Btfss}
 use Rattle.sym_code.specs.declared.code.BlockName.{BlockName}
@@ -122,12 +126,16 @@ device_access g r address = if is_register address && nat_eq (lowest address) ad
 abbrev pub named_access : Setting → Bool → Bool → Registers → ℕ → Access
 named_access g inside writes r address = if is_selected g r address then general_access g.program.layout inside writes (general_at address) else Denied
 
--- INDF is the general byte that IRP and FSR point to. STATUS and PCLATH as a whole, and main's saved context, are for what
+-- What a pointer leads to is a byte of an object or of a frame: results and main's saved context are reached by name alone.
+abbrev pub pointed_access : DataLayout → Bool → Bool → ℕ → Access
+pointed_access l inside writes address = if is_covered l address then general_access l inside writes (general_at address) else Denied
+
+-- INDF is the byte of an object or a frame that IRP and FSR point to. STATUS and PCLATH as a whole, and main's saved context, are for what
 -- stands round the handler, which is no code of a copy.
 unfoldable pub access_of : Setting → Bool → Bool → Registers → Operand → Access
 access_of g inside writes r (operands.Byte (bytes.Device address)) = device_access g r address
 access_of g inside writes r (operands.Byte byte) = named_access g inside writes r (address_of g.program.layout byte)
-access_of g inside writes r (operands.Register Indf) = general_access g.program.layout inside writes (general_at (pointer r))
+access_of g inside writes r (operands.Register Indf) = pointed_access g.program.layout inside writes (pointer r)
 access_of g inside writes r (operands.Register Fsr) = Pointer
 access_of g inside writes r (operands.Register Status) = Denied
 access_of g inside writes r (operands.Register Pclath) = Denied
@@ -210,7 +218,7 @@ file_bit g inside p th m Bsf b operand = change g.program p th m (set_bit b) (ac
 file_bit g inside p th m Btfsc b operand = test g.program p th m (λ x. nat_eq (bit x b) 0) (access_of g inside false th.registers operand)
 file_bit g inside p th m Btfss b operand = test g.program p th m (λ x. nat_eq (bit x b) 1) (access_of g inside false th.registers operand)
 
--- a flag or IRP
+-- A flag or IRP. In a near layout no pointer is to an address from 100h on, so IRP isn't set.
 abbrev pub put_flag : Program → Position → Thread → Option Registers → Effect
 put_flag q p th None = Stuck
 put_flag q p th (Some r) = quiet (goes th (behind q p) r)
@@ -221,7 +229,7 @@ test_flag q p th v (Some x) = quiet (goes th (onward q p (nat_eq x v)) th.regist
 
 abbrev pub flag : Program → Position → Thread → BitOperation → ℕ → Effect
 flag q p th Bcf b = put_flag q p th (with_status_bit th.registers b 0)
-flag q p th Bsf b = put_flag q p th (with_status_bit th.registers b 1)
+flag q p th Bsf b = if nat_eq b 7 && all_near q.layout then Stuck else put_flag q p th (with_status_bit th.registers b 1)
 flag q p th Btfsc b = test_flag q p th 0 (status_bit th.registers b)
 flag q p th Btfss b = test_flag q p th 1 (status_bit th.registers b)
 
@@ -278,6 +286,15 @@ plain q p th Nop = quiet (goes th (behind q p) th.registers)
 plain q p th Retfie = Stuck
 plain q p th Return = back th th.stack
 
+-- the select leads to an address from 100h on: nothing stands there in a near layout
+abbrev pub is_far : BankBit → Bool → Bool
+is_far Rp0 to = false
+is_far Rp1 to = to
+is_far Irp to = to
+
+abbrev pub select : Program → Position → Thread → BankBit → Bool → Effect
+select q p th which to = if is_far which to && all_near q.layout then Stuck else quiet (goes th (behind q p) (with_bank_bit th.registers which (truth to)))
+
 abbrev pub page_bit : PageBit → ℕ → ℕ
 page_bit Low page = page % 2
 page_bit High page = page / 2 % 2
@@ -293,7 +310,7 @@ effect_of g inside p th m (sym.Plain op) = plain g.program p th op
 effect_of g inside p th m (sym.Call target) = if is_in_page g p th.registers target then call g inside p th target else Stuck
 effect_of g inside p th m (sym.Goto target) = if is_in_page g p th.registers target then goto g inside p th target else Stuck
 effect_of g inside p th m (sym.Label label) = Stuck
-effect_of g inside p th m (sym.SelectBank which to) = quiet (goes th (behind g.program p) (with_bank_bit th.registers which (truth to)))
+effect_of g inside p th m (sym.SelectBank which to) = select g.program p th which to
 effect_of g inside p th m (sym.SelectPage which target) =
     quiet (goes th (behind g.program p) (with_page_bit th.registers which (page_bit which (g.page_of (block_of p.block target)))))
 

@@ -106,6 +106,27 @@ owner_by l address None = if covers_any l.objects address then Constant else pri
 unfoldable pub owner : DataLayout → ℕ → Owner
 owner l k = let address = chip.address_of k in owner_by l address (object_at l.objects 0 address)
 
+-- ---- near layouts
+-- Each object and frame ends by 100h: the banks 0 and 1 have all that a program names, so RP1 and IRP may stay 0.
+abbrev pub near_ranges : List Range → Bool
+near_ranges [] = true
+near_ranges (r ∷ rs) = nat_le (r.address + r.size) 0x100 && near_ranges rs
+
+abbrev pub near_frames : List FrameRange → Bool
+near_frames [] = true
+near_frames (f ∷ fs) = nat_le (f.address + f.size) 0x100 && near_frames fs
+
+unfoldable pub all_near : DataLayout → Bool
+all_near l = near_ranges l.objects && near_frames l.frames
+
+-- an object or a frame has the address
+abbrev pub covers_frame : List FrameRange → ℕ → Bool
+covers_frame [] address = false
+covers_frame (f ∷ fs) address = (nat_le f.address address && nat_lt address (f.address + f.size)) || covers_frame fs address
+
+unfoldable pub is_covered : DataLayout → ℕ → Bool
+is_covered l address = covers_any l.objects address || covers_frame l.frames address
+
 -- ---- layouts that serve
 abbrev pub lies_in : ℕ → ℕ → ℕ → ℕ → Bool
 lies_in first behind address size = nat_le first address && nat_le (address + size) behind

@@ -4,6 +4,7 @@ use Rattle.program_code.proofs.Copied.{called_have_copies}
 use Rattle.program_code.proofs.Placed.{programs_keep_sizes}
 use Rattle.program_code.proofs.Routines.{routines_keep_there}
 use Rattle.program_code.proofs.Starting.{start_keeps_there}
+use Rattle.program_code.proofs.Nearby.{placed_stay_near}
 use Rattle.program_code.proofs.There.{placed_have_addresses, placed_stand_inside}
 use Rattle.program_code.proofs.word_bounds.words_are_bounded.Goals as goal
 
@@ -39,3 +40,6 @@ returns-clause-places c = placed_have_addresses
 
 pub returns-clause-inside : goal.returns-clause-inside
 returns-clause-inside c = placed_stand_inside
+
+pub returns-clause-near : goal.returns-clause-near
+returns-clause-near c = placed_stay_near
