@@ -4,6 +4,7 @@ use Rattle.std.proofs.Math.Path.{fun_ext}
 use Rattle.std.specs.List.{AllZip}
 use Rattle.pic_world.specs.World.{Happening}
 use Rattle.run_links.specs.Runs.{Run, Goes, Follows, IsSlow}
+use Rattle.core_code.specs.Bytes.{Object}
 use Rattle.sym_code.specs.Layout.{DataLayout, object, frame, general_at}
 use Rattle.sym_code.specs.Machine.{sym_start}
 use Rattle.sym_code.specs.Programs.{block_in}
@@ -57,14 +58,14 @@ none_hidden : (k : Option ℕ) → is_clear none k ≡ true
 none_hidden None = refl
 none_hidden (Some k) = refl
 
-all_clear : (l : DataLayout) (lent : ℕ → Bool) → IsClear none l lent
-all_clear l lent = record { objects = λ n offset below. none_hidden (general_at ((object l n).address + offset)); frames = λ c is offset below. none_hidden (general_at ((frame l c).address + offset)) }
+all_clear : (l : DataLayout) (lent : Object → Bool) → IsClear none l lent
+all_clear l lent = record { objects = λ n is offset below. none_hidden (general_at ((object l n).address + offset)); frames = λ c is offset below. none_hidden (general_at ((frame l c).address + offset)) }
 
 self_code : (l : DataLayout) (handler : Option ℕ) (given : BlockName → List Sym) (new : BlockName → ℕ → ℕ) → CodeFollows none l handler given given new (λ name j. 1) new
 self_code l handler given new page limit o e r m n goes open_all =
     let a = run_of (setting_by l handler given page limit) new e o (sym_start (program_by l handler given) r m) in (self_follows a n goes, self_slow a n goes)
 
-module _ (l : DataLayout) (handler : Option ℕ) (variables : ℕ → ℕ) (lent : ℕ → Bool) (given lean : List SymBlock) (new : BlockName → ℕ → ℕ) where
+module _ (l : DataLayout) (handler : Option ℕ) (variables : ℕ → ℕ) (lent : Object → Bool) (given lean : List SymBlock) (new : BlockName → ℕ → ℕ) where
   kept_followed : AllZip IsAsGiven given lean → AreFollowed l handler variables lent given lean new
   kept_followed all =
       let same = kept_named given lean all in
@@ -83,7 +84,7 @@ module _ (l : DataLayout) (handler : Option ℕ) (variables : ℕ → ℕ) (lent
       }
 
 -- ---- blocks that a certificate makes
-module _ (k : Sketch) (variables : ℕ → ℕ) (lent : ℕ → Bool) (given lean : List SymBlock) (new : BlockName → ℕ → ℕ) (tested : is_lean k ≡ true) (steady : are_steady k.blocks ≡ true) (admissible : IsAdmissible variables lent k) (rows : AreByRows k given lean) where
+module _ (k : Sketch) (variables : ℕ → ℕ) (lent : Object → Bool) (given lean : List SymBlock) (new : BlockName → ℕ → ℕ) (tested : is_lean k ≡ true) (steady : are_steady k.blocks ≡ true) (admissible : IsAdmissible variables lent k) (rows : AreByRows k given lean) where
   -- prices know no limit and no page
   abbrev any : Lean
   any = lean_of k (λ i. 0) (λ i. 0) (λ i. 0)

@@ -48,7 +48,7 @@ translations_linked p copies core given made placed at image map_content t =
           t.passed.blocks.code;
       selected = selection_had p copies core given made placed at t.passed t.calls t.spread lean;
       lent = t.passed.blocks.lent;
-      leads = leads_to p copies t.passed.blocks.sound t.passed.blocks.numbers t.passed.blocks.lent core.bodies.items t.passed.blocks.lends;
+      leads = leads_to p copies t.passed.blocks.lent core.bodies.items t.passed.blocks.lends t.passed.blocks.first;
       hidden = lean.hidden;
       clear = lean.clear;
       leaner = lean.keeps;

@@ -24,6 +24,7 @@ use Rattle.lower_stmt.specs.Programs.{calls_function, core_of, function_at, may_
 use Rattle.headline_trace.proofs.Chains.{through}
 use Rattle.core_code.specs.Runs.{run_of}
 use Rattle.narrow_code.specs.Lending.{leads_lent}
+use Rattle.narrow_code.specs.Links.{is_lent}
 use Rattle.narrow_pass.proofs.Keeping.{narrowed_keeps}
 use Rattle.narrow_pass.specs.Kept.{code_of, with_bodies, IsOrdered}
 use Rattle.narrow_pass.specs.Narrowed.{IsNarrowed}
@@ -99,25 +100,25 @@ module _ (p : Program) (copies : List FnCopy) (has : HasCalls p copies) where
       omega (arith, low, first, second)
 
 -- ---- first bytes lead to no frame
-lent_first : (lent : ℕ → Bool) (objects : List (List Held)) (h : Held) → IsFirst objects h → leads_lent lent h ≡ true
+lent_first : (lent : ℕ → Bool) (objects : List (List Held)) (h : Held) → IsFirst objects h → leads_lent (is_lent lent) h ≡ true
 lent_first lent objects bytes.Unset is = refl
 lent_first lent objects (bytes.Number n) is = refl
 lent_first lent objects (bytes.Part (Fixed n) offset high) is = refl
 lent_first lent objects (bytes.Part (FrameOf c) offset high) is = absurd is
 
 module _ (lent : ℕ → Bool) (objects : List (List Held)) where
-  at_list : (list : List Held) → All (IsFirst objects) list → (offset : ℕ) → leads_lent lent (slice_index_or list offset bytes.Unset) ≡ true
+  at_list : (list : List Held) → All (IsFirst objects) list → (offset : ℕ) → leads_lent (is_lent lent) (slice_index_or list offset bytes.Unset) ≡ true
   at_list list all offset =
       ⊎_elim
       (λ lt. lent_first lent objects (slice_index_or list offset bytes.Unset) (all offset bytes.Unset lt))
-      (λ ge. ap (leads_lent lent) (get_or_past list offset bytes.Unset ge))
+      (λ ge. ap (leads_lent (is_lent lent)) (get_or_past list offset bytes.Unset ge))
       (cases_lt offset (length list))
 
-  at_object : (o : Option (List Held)) → ((list : List Held) → o ≡ Some list → All (IsFirst objects) list) → (offset : ℕ) → leads_lent lent (static_byte o offset) ≡ true
+  at_object : (o : Option (List Held)) → ((list : List Held) → o ≡ Some list → All (IsFirst objects) list) → (offset : ℕ) → leads_lent (is_lent lent) (static_byte o offset) ≡ true
   at_object None all offset = refl
   at_object (Some list) all offset = at_list list (all list refl) offset
 
-  pub at_first : All (All (IsFirst objects)) objects → (n offset : ℕ) → leads_lent lent (static_byte (slice_get objects n) offset) ≡ true
+  pub at_first : All (All (IsFirst objects)) objects → (n offset : ℕ) → leads_lent (is_lent lent) (static_byte (slice_get objects n) offset) ≡ true
   at_first all n offset = at_object (slice_get objects n) there offset where
     there : (list : List Held) → slice_get objects n ≡ Some list → All (IsFirst objects) list
     there list is = subst (λ (l : List Held). All (IsFirst objects) l) (get_or_from_slice_get objects n list [] is) (all n [] (slice_get_within objects n list is))

@@ -1,5 +1,6 @@
 -- Selected code accesses through FSR only what a pointer of byte code may lead to.
 use Rattle.std.proofs.Common.{◌≡◌, ℕ, ◌+◌, ◌<◌, Bool, true, false, not, ◌||◌, List, Option, Some, None, refl, sym, ap, ◌∙◌, subst}
+use Rattle.core_code.specs.Bytes.{Object, Fixed, FrameOf}
 use Rattle.core_code.specs.Machine.{Task, core_moment}
 use Rattle.narrow_code.specs.Links.{reaches_lent}
 use Rattle.sym_code.specs.Effect.{Thread, Rest}
@@ -19,19 +20,19 @@ use Rattle.select_trace.proofs.Whole.{open_law}
 use Rattle.headline_trace.specs.Opened.{SelectionOpens}
 
 -- ---- pointers in byte code
-reaches_as : (lent : ℕ → Bool) (code : List Task) → reaches_lent lent code ≡ true → ReachesLent lent code
+reaches_as : (lent : Object → Bool) (code : List Task) → reaches_lent lent code ≡ true → ReachesLent lent code
 reaches_as lent code h = record {
-  loads = λ to c offset n rest e. subst (λ (l : List Task). reaches_lent lent l ≡ true) e h;
-  stores = λ c offset from n rest e. subst (λ (l : List Task). reaches_lent lent l ≡ true) e h;
+  loads = λ to object offset n rest e. subst (λ (l : List Task). reaches_lent lent l ≡ true) e h;
+  stores = λ object offset from n rest e. subst (λ (l : List Task). reaches_lent lent l ≡ true) e h;
 }
 
 -- ---- accesses through FSR
 -- bytes that aren't hidden, told by addresses
-shown_of : (l : DataLayout) (lent hidden : ℕ → Bool) → ((n offset : ℕ) → offset < (object l n).size → lean.is_clear hidden (general_at ((object l n).address + offset)) ≡ true)
-    → ((c : ℕ) → lent c ≡ true → (offset : ℕ) → offset < (frame l c).size → lean.is_clear hidden (general_at ((frame l c).address + offset)) ≡ true) → AreShown l lent hidden
+shown_of : (l : DataLayout) (lent : Object → Bool) (hidden : ℕ → Bool) → ((n : ℕ) → lent (Fixed n) ≡ true → (offset : ℕ) → offset < (object l n).size → lean.is_clear hidden (general_at ((object l n).address + offset)) ≡ true)
+    → ((c : ℕ) → lent (FrameOf c) ≡ true → (offset : ℕ) → offset < (frame l c).size → lean.is_clear hidden (general_at ((frame l c).address + offset)) ≡ true) → AreShown l lent hidden
 unfolding address_of
 shown_of l lent hidden objects frames = record {
-  objects = λ n offset k there in_size e. not_hidden (hidden k) (sym (ap (lean.is_clear hidden) e) ∙ objects n offset in_size);
+  objects = λ n offset k is_lent there in_size e. not_hidden (hidden k) (sym (ap (lean.is_clear hidden) e) ∙ objects n is_lent offset in_size);
   frames = λ c offset k is_lent in_size e. not_hidden (hidden k) (sym (ap (lean.is_clear hidden) e) ∙ frames c is_lent offset in_size);
 }
   where

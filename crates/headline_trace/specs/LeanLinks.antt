@@ -5,6 +5,7 @@ use Rattle.pic_map.specs.declared.Placed.{Placed}
 use Rattle.pic_world.specs.World.{Outside, is_due}
 use Rattle.pic_world.specs.declared.Root.{Root}
 use Rattle.run_links.specs.Runs.{Goes, Follows, IsSlow}
+use Rattle.core_code.specs.Bytes.{Object}
 use Rattle.sym_code.specs.Effect.{Setting, Memory}
 use Rattle.sym_code.specs.Layout.{DataLayout, frame, is_whole}
 use Rattle.sym_code.specs.Machine.{Entry, running, settled, sym_run, sym_start}
@@ -55,14 +56,14 @@ CodeFollows hidden l handler given lean price sure new =
     × IsSlow (λ event. event) (weighed_of (setting_by l handler given page limit) price sure e o (sym_start (program_by l handler given) r m)) (run_of (setting_by l handler lean page limit) new e o (sym_start (program_by l handler lean) r m)) n link
 
 -- Blocks that are made of given ones, whose instructions cost what `new` says. Given is of each copy how many bytes its variables have, and
--- whether its frame is lent.
-pub record AreFollowed (l : DataLayout) (handler : Option ℕ) (variables : ℕ → ℕ) (lent : ℕ → Bool) (given lean : List SymBlock) (new : BlockName → ℕ → ℕ) : Type 0 where
+-- which objects are lent.
+pub record AreFollowed (l : DataLayout) (handler : Option ℕ) (variables : ℕ → ℕ) (lent : Object → Bool) (given lean : List SymBlock) (new : BlockName → ℕ → ℕ) : Type 0 where
   -- what the instructions of the given blocks cost, at most and at least
   pub price : BlockName → ℕ → ℕ
   pub sure : BlockName → ℕ → ℕ
   -- each that counts is one at least
   pub sures : (name : BlockName) (j : ℕ) (s : Sym) → slice_get (block_in given name) j ≡ Some s → is_marked variables s ≡ true → 1 ≤ sure name j
-  -- the bytes that no access through FSR may reach: none of an object or of a frame that is lent
+  -- the bytes that no access through FSR may reach: none of an object that is lent
   pub hidden : ℕ → Bool
   pub clear : IsClear hidden l lent
   pub keeps : CodeFollows hidden l handler (block_in given) (block_in lean) price sure new
@@ -77,5 +78,5 @@ pub record AreFollowed (l : DataLayout) (handler : Option ℕ) (variables : ℕ 
 -- So it is of whatever the pass makes.
 abbrev pub LeanBlocksFollow : Type 0
 LeanBlocksFollow =
-    (l : DataLayout) (handler : Option ℕ) (variables : ℕ → ℕ) (lent : ℕ → Bool) (given lean : List SymBlock) → IsLean l handler variables lent given lean
+    (l : DataLayout) (handler : Option ℕ) (variables : ℕ → ℕ) (lent : Object → Bool) (given lean : List SymBlock) → IsLean l handler variables lent given lean
     → (new : BlockName → ℕ → ℕ) → AreFollowed l handler variables lent given lean new

@@ -13,6 +13,7 @@ use Rattle.pic_world.specs.World.{Outside, is_due}
 use Rattle.pic_world.specs.declared.Arrival.{Arrival}
 use Rattle.run_links.specs.Runs as runs
 use Rattle.run_links.specs.Runs.{Goes, IsSlow}
+use Rattle.core_code.specs.Bytes.{Object}
 use Rattle.core_code.specs.Machine as byte_code
 use Rattle.core_code.specs.Runs as byte_runs
 use Rattle.core_code.specs.Tree.{Tree}
@@ -70,8 +71,8 @@ CodeFollows q r =
     → (link : runs.Follows (λ event. event) (byte_runs.run_of (record { program = q; outside = o })) (byte_runs.run_of (record { program = r; outside = o })) n)
     × IsSlow (λ event. event) (byte_runs.run_of (record { program = q; outside = o })) (byte_runs.run_of (record { program = r; outside = o })) n link
 
--- At no moment the program accesses a frame by a pointer but those that are lent.
-abbrev pub LeadsTo : (ℕ → Bool) → byte_code.Program → Type 0
+-- At no moment the program accesses an object by a pointer but those that are lent.
+abbrev pub LeadsTo : (Object → Bool) → byte_code.Program → Type 0
 LeadsTo lent q = (o : Outside) (i : ℕ) → reaches_lent lent (byte_code.core_moment (record { program = q; outside = o }) i).code ≡ true
 
 -- ---- symbolic code
@@ -106,8 +107,8 @@ pub record IsLinked (p : Program) (copies : List FnCopy) (bodies : List Body) (s
   -- of byte code as it is lowered, or that follows it
   pub narrowed : CodeFollows (core_of p copies) (program_with p copies bodies)
   pub selected : IsSelected (program_with p copies bodies) copies bodies reaches (bare_setting given made handler placed at limit) price sure
-  -- the frames to which pointers may lead, and the bytes that the leaner code takes for hidden from accesses through FSR
-  pub lent : ℕ → Bool
+  -- the objects to which pointers may lead, and the bytes that the leaner code takes for hidden from accesses through FSR
+  pub lent : Object → Bool
   pub leads : LeadsTo lent (program_with p copies bodies)
   pub hidden : ℕ → Bool
   pub clear : IsClear hidden (layout_of placed) lent

@@ -11,6 +11,7 @@ use Rattle.c_typed.specs.declared.calls.FnId.TheVariants as callees
 use Rattle.c_typed.specs.declared.calls.Helper.{Helper}
 use Rattle.call_graph.specs.Numbers.{handler_at, copy_of}
 use Rattle.call_graph.specs.declared.types.FnCopy.{FnCopy}
+use Rattle.core_code.specs.Bytes.{Object}
 use Rattle.core_code.specs.declared.code.CoreProgram.{CoreProgram}
 use Rattle.lower_stmt.specs.Programs.{core_of}
 use Rattle.math_helpers.specs.Routines.{helper_code}
@@ -75,10 +76,10 @@ limit_of copies inside = highest inside copies
 -- ---- what follows
 -- The leaner code follows the code that was selected, whose instructions cost what the link of selection allows for those of functions
 -- and of helpers' routines, and of which those that no pass leaves out surely stay.
-pub record IsLeanLink (p : Program) (copies : List FnCopy) (lent : ℕ → Bool) (given lean made : List SymBlock) (placed : Placed) (at : List ℕ) : Type 0 where
+pub record IsLeanLink (p : Program) (copies : List FnCopy) (lent : Object → Bool) (given lean made : List SymBlock) (placed : Placed) (at : List ℕ) : Type 0 where
   pub price : BlockName → ℕ → ℕ
   pub sure : BlockName → ℕ → ℕ
-  -- the bytes that no access through FSR may reach: none of an object or of a frame that is lent
+  -- the bytes that no access through FSR may reach: none of an object that is lent
   pub hidden : ℕ → Bool
   pub clear : IsClear hidden (layout_of placed) lent
   pub keeps : LeanFollows hidden (bare_setting given made (handler_at copies) placed at (limit_of copies)) (bare_setting lean made (handler_at copies) placed at (limit_of copies)) price sure (price_in (block_in made))

@@ -2,6 +2,7 @@
 -- stays as it is, numbers are bytes, and each block ends by a word.
 use Rattle.std.specs.Prelude.{◌≡◌, ℕ, ◌<◌, Bool, true, false, not, ◌&&◌, ◌||◌, nat_lt, List, [], ◌∷◌}
 use Rattle.std.specs.List.{list_all}
+use Rattle.core_code.specs.Bytes.{Object}
 use Rattle.sym_code.specs.Marks.{is_marked}
 use Rattle.sym_code.specs.Programs.{same_name, block_in}
 use Rattle.sym_code.specs.declared.code.BlockName.{BlockName}
@@ -78,9 +79,9 @@ are_admissible variables (b ∷ bs) = is_admissible_block variables b && are_adm
 abbrev pub rows_at : Sketch → BlockName → List Row
 rows_at k name = rows_in (listed.block_in k.blocks name).rows
 
--- A certificate that passes all these, and by which no byte of an object or of a frame that is lent is hidden from accesses through FSR. Given
--- is, by copy, which frames are lent.
-pub record IsAdmissible (variables : ℕ → ℕ) (lent : ℕ → Bool) (k : Sketch) : Type 0 where
+-- A certificate that passes all these, and by which no byte of an object that is lent is hidden from accesses through FSR. Given is which
+-- objects are lent.
+pub record IsAdmissible (variables : ℕ → ℕ) (lent : Object → Bool) (k : Sketch) : Type 0 where
   pub marks : (name : BlockName) → keeps_marks variables (rows_at k name) ≡ true
   pub numbers : (name : BlockName) → puts_bytes (rows_at k name) ≡ true
   pub start : keeps_all (rows_at k names.Start) ≡ true
@@ -94,7 +95,7 @@ pub record AreByRows (k : Sketch) (given made : List SymBlock) : Type 0 where
 
 -- ---- laws
 abbrev pub TestedIsAdmissible : Type 0
-TestedIsAdmissible = (variables : ℕ → ℕ) (lent : ℕ → Bool) (k : Sketch) → are_admissible variables k.blocks ≡ true → IsClear k.hidden k.layout lent → IsAdmissible variables lent k
+TestedIsAdmissible = (variables : ℕ → ℕ) (lent : Object → Bool) (k : Sketch) → are_admissible variables k.blocks ≡ true → IsClear k.hidden k.layout lent → IsAdmissible variables lent k
 
 -- what stays as it is
 abbrev pub KeptIsSame : Type 0

@@ -26,11 +26,11 @@ pub range_all : (hidden : ℕ → Bool) (address k size : ℕ) → size ≤ k �
 range_all hidden address k size past before offset l = before offset (omega arith)
 
 -- ---- objects and frames
-pub objects_none : (hidden : ℕ → Bool) → AreClearObjects hidden []
-objects_none hidden n offset l = absurd (omega arith)
+pub objects_none : (hidden : ℕ → Bool) → AreClearObjects hidden (λ n. true) []
+objects_none hidden n is offset l = absurd (omega arith)
 
-pub objects_more : (hidden : ℕ → Bool) (r : Range) (rs : List Range) → IsClearRange hidden r.address r.size → AreClearObjects hidden rs → AreClearObjects hidden (r ∷ rs)
-objects_more hidden r rs here rest zero = here
+pub objects_more : (hidden : ℕ → Bool) (r : Range) (rs : List Range) → IsClearRange hidden r.address r.size → AreClearObjects hidden (λ n. true) rs → AreClearObjects hidden (λ n. true) (r ∷ rs)
+objects_more hidden r rs here rest zero is = here
 objects_more hidden r rs here rest (suc n) = rest n
 
 pub frames_none : (hidden : ℕ → Bool) (lent : ℕ → Bool) → AreClearFrames hidden lent []

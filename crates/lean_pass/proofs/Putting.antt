@@ -5,6 +5,7 @@ use Rattle.std.specs.Prelude.{nat_eq, slice_index_or}
 use Rattle.std.proofs.lemmas.Option.{none-some}
 use Rattle.std.proofs.lemmas.List.{take_more, take_all}
 use Rattle.std.proofs.lemmas.List.Elements.{AllZip-push}
+use Rattle.core_code.specs.Bytes.{Object}
 use Rattle.sym_code.specs.Layout.{DataLayout}
 use Rattle.sym_code.specs.Programs.{same_name, block_in}
 use Rattle.sym_code.specs.WellFormed.{is_well_formed, are_well_formed}
@@ -302,14 +303,14 @@ by_rows l k given made seen distinct all = record {
   made_is = λ name. made_named (sketch_of l k) k.blocks.items refl name given made k.blocks.items seen all (found_at k.blocks.items distinct);
 }
 
-pub is_made : (l : DataLayout) (k : Sketch) (variables : ℕ → ℕ) (lent : ℕ → Bool) (given made : List SymBlock) → listed.is_lean (sketch_of l k) ≡ true → are_steady (blocks_of k.blocks.items) ≡ true → are_admissible variables (blocks_of k.blocks.items) ≡ true → IsClear (hidden_by k.hidden) l lent
+pub is_made : (l : DataLayout) (k : Sketch) (variables : ℕ → ℕ) (lent : Object → Bool) (given made : List SymBlock) → listed.is_lean (sketch_of l k) ≡ true → are_steady (blocks_of k.blocks.items) ≡ true → are_admissible variables (blocks_of k.blocks.items) ≡ true → IsClear (hidden_by k.hidden) l lent
     → AllZip IsSeen given k.blocks.items → are_distinct k.blocks.items ≡ true → AllZip (listed.IsBlockOf (sketch_of l k)) given made → IsLean l k.handler variables lent given made
 is_made l k variables lent given made tested steady admissible clear seen distinct all =
     Made (sketch_of l k) refl refl (record { tested = tested; blocks = all }) steady (tested_is_admissible variables lent (sketch_of l k) admissible clear) (by_rows l k given made seen distinct all)
 
 -- ---- names
 
-pub kept_is : (l : DataLayout) (handler : Option ℕ) (variables : ℕ → ℕ) (lent : ℕ → Bool) (given made : List SymBlock) → AllZip IsAsGiven given made → IsLean l handler variables lent given made
+pub kept_is : (l : DataLayout) (handler : Option ℕ) (variables : ℕ → ℕ) (lent : Object → Bool) (given made : List SymBlock) → AllZip IsAsGiven given made → IsLean l handler variables lent given made
 kept_is l handler variables lent given made all = Kept all
 
 kept_names : (given made : List SymBlock) → AllZip IsAsGiven given made → AllZip HasName given made
@@ -324,6 +325,6 @@ made_names k [] (m ∷ made) all = absurd all
 made_names k (g ∷ given) [] all = absurd all
 made_names k (g ∷ given) (m ∷ made) all = (record { name = all.0.name }, made_names k given made all.1)
 
-pub names_stay : (l : DataLayout) (handler : Option ℕ) (variables : ℕ → ℕ) (lent : ℕ → Bool) (given made : List SymBlock) → IsLean l handler variables lent given made → AllZip HasName given made
+pub names_stay : (l : DataLayout) (handler : Option ℕ) (variables : ℕ → ℕ) (lent : Object → Bool) (given made : List SymBlock) → IsLean l handler variables lent given made → AllZip HasName given made
 names_stay l handler variables lent given made (Kept all) = kept_names given made all
 names_stay l handler variables lent given made (Made k same handled by steady admissible rows) = made_names k given made by.blocks

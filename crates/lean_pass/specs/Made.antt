@@ -1,6 +1,7 @@
 -- What the pass makes of the blocks of a program.
 use Rattle.std.specs.Prelude.{ℕ, ◌≡◌, Bool, true, false, not, ◌&&◌, ◌||◌, if◌then◌else◌, List, [], ◌∷◌, Option, Some, None}
 use Rattle.std.specs.List.{AllZip}
+use Rattle.core_code.specs.Bytes.{Object}
 use Rattle.sym_code.specs.Layout.{DataLayout}
 use Rattle.sym_code.specs.Programs.{same_name}
 use Rattle.sym_code.specs.declared.code.BlockName.{BlockName}
@@ -43,9 +44,9 @@ pub record IsAsGiven (given made : SymBlock) : Type 0 where
   pub name : made.name ≡ given.name
   pub code : made.list.items ≡ given.list.items
 
--- The given blocks, or those that a certificate makes that passes the tests. Given is of each copy how many bytes its variables have, and whether
--- its frame is lent.
-pub data IsLean (l : DataLayout) (handler : Option ℕ) (variables : ℕ → ℕ) (lent : ℕ → Bool) (given made : List SymBlock) : Type 0 where
+-- The given blocks, or those that a certificate makes that passes the tests. Given is of each copy how many bytes its variables have, and which objects
+-- are lent.
+pub data IsLean (l : DataLayout) (handler : Option ℕ) (variables : ℕ → ℕ) (lent : Object → Bool) (given made : List SymBlock) : Type 0 where
   Kept : AllZip IsAsGiven given made → IsLean l handler variables lent given made
   Made : (k : listed.Sketch) → k.layout ≡ l → k.handler ≡ handler → listed.IsLeanOf k given made → are_steady k.blocks ≡ true → IsAdmissible variables lent k → AreByRows k given made → IsLean l handler variables lent given made
 

@@ -6,6 +6,7 @@ ghost use Rattle.code_place.specs.Layouts.{layout_of, range_of, frame_of};
 ghost use Rattle.lean_code.specs.Clear.{IsClear, IsClearRange, AreClearObjects, AreClearFrames};
 ghost use Rattle.lean_code.specs.Links as links;
 ghost use Rattle.lean_pass.specs.Views.{hidden_by, lent_by};
+ghost use Rattle.narrow_code.specs.Links as lending;
 
 use crate::owners::general_at;
 use crate::rows::ByteSet;
@@ -34,9 +35,10 @@ fn is_clear_range(hidden: &ByteSet, address: u16, size: u16) -> bool
     true
 }
 
+// All of them count as lent.
 #[tactic(auto, using(crate::proofs::Hiding::objects_none, crate::proofs::Hiding::objects_more))]
 fn are_clear_objects(hidden: &ByteSet, lines: &[ObjLine]) -> bool
-    ensures { result ≡ true → AreClearObjects (hidden_by hidden.now) (map range_of lines.now) }
+    ensures { result ≡ true → AreClearObjects (hidden_by hidden.now) (λ n. true) (map range_of lines.now) }
 {
     match lines {
         [] => true,
@@ -75,7 +77,7 @@ fn are_clear_frames(hidden: &ByteSet, lent: &[bool], lines: &[FrameLine]) -> boo
 
 /// Whether no byte of a static object or of the frame of a copy that is lent is hidden.
 pub fn are_clear(hidden: &ByteSet, placed: &Placed, lent: &[bool]) -> bool
-    ensures { result ≡ true → IsClear (hidden_by hidden.now) (layout_of placed.now) (lent_by lent.now) }
+    ensures { result ≡ true → IsClear (hidden_by hidden.now) (layout_of placed.now) (lending.is_lent (lent_by lent.now)) }
 {
     are_clear_objects(hidden, &placed.objects) && are_clear_frames(hidden, lent, &placed.frames)
 }

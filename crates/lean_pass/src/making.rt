@@ -9,6 +9,7 @@ ghost use Rattle.lean_code.specs.Admissible.{are_admissible};
 ghost use Rattle.lean_code.specs.Clear.{IsClear};
 ghost use Rattle.lean_code.specs.Steady.{are_steady};
 ghost use Rattle.code_place.specs.Layouts.{layout_of};
+ghost use Rattle.narrow_code.specs.Links.{is_lent};
 ghost use Rattle.lean_pass.specs.Made as stated;
 ghost use Rattle.lean_pass.specs.Views.{act_of, name_of, row_of, rows_of, block_of, blocks_of, sketch_of, hidden_by, lent_by, variables_of};
 
@@ -304,8 +305,8 @@ pub fn made_by(
     requires tested { listed.is_lean (sketch_of (layout_of placed.now) sketch.now) ≡ true }
     requires steady { are_steady (blocks_of sketch.now.blocks.items) ≡ true }
     requires admissible { are_admissible (variables_of variables.now) (blocks_of sketch.now.blocks.items) ≡ true }
-    requires clear { IsClear (hidden_by sketch.now.hidden) (layout_of placed.now) (lent_by lent.now) }
-    ensures { IfOk result (λ made. stated.IsLean (layout_of placed.now) sketch.now.handler (variables_of variables.now) (lent_by lent.now) given.now made.items) }
+    requires clear { IsClear (hidden_by sketch.now.hidden) (layout_of placed.now) (is_lent (lent_by lent.now)) }
+    ensures { IfOk result (λ made. stated.IsLean (layout_of placed.now) sketch.now.handler (variables_of variables.now) (is_lent (lent_by lent.now)) given.now made.items) }
 {
     let none = no_block(alloc);
     let made = made_blocks(alloc, sketch, &none, placed, given)?;

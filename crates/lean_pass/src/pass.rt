@@ -3,6 +3,7 @@
 ghost use Rattle.std.specs.Prelude.{◌≡◌, IfOk};
 ghost use Rattle.std.specs.List.{AllZip};
 ghost use Rattle.code_place.specs.Layouts.{layout_of};
+ghost use Rattle.narrow_code.specs.Links.{is_lent};
 ghost use Rattle.lean_pass.specs.Made.{IsLean, HasName};
 ghost use Rattle.lean_pass.specs.Views.{lent_by, variables_of};
 
@@ -27,7 +28,7 @@ fn kept(
     variables: &[u64],
     lent: &[bool],
 ) -> Result<Vec<SymBlock>, AllocError>
-    ensures { IfOk result (λ made. IsLean (layout_of placed.now) handler (variables_of variables.now) (lent_by lent.now) blocks.now made.items) }
+    ensures { IfOk result (λ made. IsLean (layout_of placed.now) handler (variables_of variables.now) (is_lent (lent_by lent.now)) blocks.now made.items) }
 {
     let made = as_given(alloc, blocks)?;
     Ok(made)
@@ -46,7 +47,7 @@ pub fn lean(
     lent: &[bool],
 ) -> Result<Vec<SymBlock>, AllocError>
     // The blocks are those that a certificate makes of the given ones that passes the tests, or the given ones,
-    ensures lean { IfOk result (λ made. IsLean (layout_of placed.now) handler (variables_of variables.now) (lent_by lent.now) blocks.now made.items) }
+    ensures lean { IfOk result (λ made. IsLean (layout_of placed.now) handler (variables_of variables.now) (is_lent (lent_by lent.now)) blocks.now made.items) }
     // and keep their names.
     ensures names { IfOk result (λ made. AllZip HasName blocks.now made.items) }
 {
@@ -62,7 +63,7 @@ fn leaned(
     variables: &[u64],
     lent: &[bool],
 ) -> Result<Vec<SymBlock>, AllocError>
-    ensures { IfOk result (λ made. IsLean (layout_of placed.now) handler (variables_of variables.now) (lent_by lent.now) blocks.now made.items) }
+    ensures { IfOk result (λ made. IsLean (layout_of placed.now) handler (variables_of variables.now) (is_lent (lent_by lent.now)) blocks.now made.items) }
 {
     let Some(plans) = search(alloc, blocks, handler, placed, variables, lent)? else {
         return kept(alloc, blocks, handler, placed, variables, lent);

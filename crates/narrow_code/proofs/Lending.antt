@@ -1,4 +1,4 @@
--- No pointer leads to a frame of which no address is taken.
+-- No pointer leads to an object of which no address is taken.
 use Rattle.std.proofs.Common.{◌≡◌, ℕ, zero, suc, ◌+◌, ◌%◌, ℤ, pos, ◌+ℤ◌, ◌-ℤ◌, Bool, true, false, not, ◌&&◌, nat_eq, nat_le, nat_lt, if◌then◌else◌, List, [], ◌∷◌, ◌++◌, Option, Some, None, option_map, refl, sym, subst}
 use Rattle.std.proofs.lemmas.Bool.{and_parts}
 use Rattle.std.specs.Ordering.{int_eq}
@@ -29,7 +29,7 @@ use Rattle.narrow_code.specs.Lending.{leads_lent, takes_lent, lends, all_lend, A
 use Rattle.narrow_code.specs.Links.{is_lent, reaches_lent}
 use Rattle.narrow_code.specs.Plans.{all_given, given_program, given_setting}
 
-module _ (lent : ℕ → Bool) where
+module _ (lent : Object → Bool) where
   abbrev IsFine : Held → Type 0
   IsFine h = leads_lent lent h ≡ true
 
@@ -37,8 +37,8 @@ module _ (lent : ℕ → Bool) where
   abbrev TaskFine : Task → Type 0
   TaskFine (task.Do before t) = lends lent t ≡ true
   TaskFine (task.Put to held) = IsFine held
-  TaskFine (task.LoadFrom to object offset n) = is_lent lent object ≡ true
-  TaskFine (task.StoreTo object offset from n) = is_lent lent object ≡ true
+  TaskFine (task.LoadFrom to object offset n) = lent object ≡ true
+  TaskFine (task.StoreTo object offset from n) = lent object ≡ true
   TaskFine _ = Unit {0}
 
   abbrev TasksFine : List Task → Type 0
@@ -111,7 +111,7 @@ module _ (lent : ℕ → Bool) where
   -- ---- values
   abbrev ValueFine : Value → Type 0
   ValueFine (Number n) = Unit {0}
-  ValueFine (Pointer y) = is_lent lent y.object ≡ true
+  ValueFine (Pointer y) = lent y.object ≡ true
 
   abbrev SomeFine : Option Value → Type 0
   SomeFine None = Unit {0}
@@ -119,13 +119,13 @@ module _ (lent : ℕ → Bool) where
 
   abbrev PlaceFine : Option Place → Type 0
   PlaceFine None = Unit {0}
-  PlaceFine (Some y) = is_lent lent y.object ≡ true
+  PlaceFine (Some y) = lent y.object ≡ true
 
   of_value : (v : Value) → ValueFine v → (k : ℕ) → IsFine (byte_of v k)
   of_value (Number n) f k = refl
   of_value (Pointer y) f k = f
 
-  if_place : (t : Bool) (y : Place) → is_lent lent y.object ≡ true → PlaceFine (if t then Some y else None)
+  if_place : (t : Bool) (y : Place) → lent y.object ≡ true → PlaceFine (if t then Some y else None)
   if_place true y f = f
   if_place false y f = tt
 
@@ -180,17 +180,17 @@ module _ (lent : ℕ → Bool) where
   converted_fine to (Some (Number n)) h = tt
   converted_fine to (Some (Pointer y)) h = if_some (nat_eq (bytes_of to) 2) (Some (Pointer y)) h
 
-  moved_fine : (e : Extent) (object : Object) (z : ℤ) → is_lent lent object ≡ true → SomeFine (moved e object z)
+  moved_fine : (e : Extent) (object : Object) (z : ℤ) → lent object ≡ true → SomeFine (moved e object z)
   moved_fine e object z h = if_some (nat_le (pattern UInt z) (e.size object)) (Some (Pointer (record { object = object; offset = pattern UInt z }))) h
 
-  pointer_number_fine : (e : Extent) (op : BinOp) (y : Place) (n : ℤ) → is_lent lent y.object ≡ true → SomeFine (pointer_number e op y n)
+  pointer_number_fine : (e : Extent) (op : BinOp) (y : Place) (n : ℤ) → lent y.object ≡ true → SomeFine (pointer_number e op y n)
   pointer_number_fine e ops.Add y n h = moved_fine e y.object (pos y.offset +ℤ n) h
   pointer_number_fine e ops.Sub y n h = moved_fine e y.object (pos y.offset -ℤ n) h
   pointer_number_fine e ops.Eq y n h = if_some (int_eq n (pos 0)) (Some (truth_value false)) tt
   pointer_number_fine e ops.Ne y n h = if_some (int_eq n (pos 0)) (Some (truth_value true)) tt
   pointer_number_fine e _ y n h = tt
 
-  number_pointer_fine : (e : Extent) (op : BinOp) (n : ℤ) (y : Place) → is_lent lent y.object ≡ true → SomeFine (number_pointer e op n y)
+  number_pointer_fine : (e : Extent) (op : BinOp) (n : ℤ) (y : Place) → lent y.object ≡ true → SomeFine (number_pointer e op n y)
   number_pointer_fine e ops.Sub n y h = tt
   number_pointer_fine e ops.Add n y h = pointer_number_fine e ops.Add y n h
   number_pointer_fine e ops.Eq n y h = pointer_number_fine e ops.Eq y n h
@@ -259,11 +259,11 @@ module _ (lent : ℕ → Bool) where
           when_fine _ _ (writes_fine (after_helper g.program p (is_helped op count) m) (helper_fine g.program p (is_helped op count) m memory) to (operated (extent g.program p s) op ty (value_in ty m y) (value_in (right_type op ty) m z))
           (binary_fine (extent g.program p s) op ty (value_in ty m y) (value_in (right_type op ty) m z) (value_fine ty m y memory) (value_fine (right_type op ty) m z memory)))
 
-      loading_fine : (to : Byte) (object : Object) (offset n : ℕ) → is_lent lent object ≡ true → TasksFine (loading to object offset n c)
+      loading_fine : (to : Byte) (object : Object) (offset n : ℕ) → lent object ≡ true → TasksFine (loading to object offset n c)
       loading_fine to object offset zero e = code
       loading_fine to object offset (suc n) e = (e, code)
 
-      storing_fine : (object : Object) (offset : ℕ) (from : Byte) (n : ℕ) → is_lent lent object ≡ true → TasksFine (storing object offset from n c)
+      storing_fine : (object : Object) (offset : ℕ) (from : Byte) (n : ℕ) → lent object ≡ true → TasksFine (storing object offset from n c)
       storing_fine object offset from zero e = code
       storing_fine object offset from (suc n) e = (e, code)
 
@@ -324,7 +324,7 @@ module _ (lent : ℕ → Bool) where
       leave_fine (task.InHandler q b c ∷ s) f = goes_fine c q b s m (left w) f.0 f.1 memory
 
     place_fine : (place : Byte) → takes_lent lent place ≡ true → SomeFine (address_of place)
-    place_fine (Static n i) e = refl
+    place_fine (Static n i) e = e
     place_fine (Frame c i) e = e
     place_fine (Result r k) e = tt
     place_fine (Device d) e = tt
@@ -352,12 +352,12 @@ module _ (lent : ℕ → Bool) where
       operate_fine before (tree.Exit n) e = exit_fine p a m w memory n s stack
       operate_fine before (tree.Again n) e = again_fine p a m w memory n s stack
 
-      load_from_fine : (to : Byte) (object : Object) (offset n : ℕ) → is_lent lent object ≡ true → NextFine (load_from g to object offset n c p a s m w)
+      load_from_fine : (to : Byte) (object : Object) (offset n : ℕ) → lent object ≡ true → NextFine (load_from g to object offset n c p a s m w)
       load_from_fine to object offset zero e = goes_fine c p a s m w code stack memory
       load_from_fine to object offset (suc n) e =
           when_fine _ _ (copy_fine (loading (behind to 1) object (offset + 1) n c) p a s m w (loading_fine c p a s m w code stack memory (behind to 1) object (offset + 1) n e) stack memory to (byte_in object offset))
 
-      store_to_fine : (object : Object) (offset : ℕ) (from : Byte) (n : ℕ) → is_lent lent object ≡ true → NextFine (store_to g object offset from n c p a s m w)
+      store_to_fine : (object : Object) (offset : ℕ) (from : Byte) (n : ℕ) → lent object ≡ true → NextFine (store_to g object offset from n c p a s m w)
       store_to_fine object offset from zero e = goes_fine c p a s m w code stack memory
       store_to_fine object offset from (suc n) e =
           when_fine _ _ (written_fine (storing object (offset + 1) (behind from 1) n c) p a s m w (storing_fine c p a s m w code stack memory object (offset + 1) (behind from 1) n e) stack memory (byte_in object offset) (m from) (memory from))
@@ -409,15 +409,15 @@ module _ (lent : ℕ → Bool) where
 
 pub always_open : AlwaysOpen
 always_open x lending o n i l =
-    let start : MachineFine x.lent (core_start (given_setting x o)) = record {
-      code = tasks_fine x.lent [] (all_given (x.plan 0)) [] (lending.bodies 0) tt;
+    let start : MachineFine (is_lent x.lent) (core_start (given_setting x o)) = record {
+      code = tasks_fine (is_lent x.lent) [] (all_given (x.plan 0)) [] (lending.bodies 0) tt;
       stack = tt;
       memory = first_fine;
     } in
-    let fine = moment_fine x.lent (given_setting x o) (λ c. all_given (x.plan c)) lending.bodies (λ c. refl) start i in
-    reaches_fine x.lent (core_moment (given_setting x o) i).code fine.code
+    let fine = moment_fine (is_lent x.lent) (given_setting x o) (λ c. all_given (x.plan c)) lending.bodies (λ c. refl) start i in
+    reaches_fine (is_lent x.lent) (core_moment (given_setting x o) i).code fine.code
   where
-    first_fine : (b : Byte) → leads_lent x.lent (first_memory (given_program x) b) ≡ true
+    first_fine : (b : Byte) → leads_lent (is_lent x.lent) (first_memory (given_program x) b) ≡ true
     first_fine (Static k offset) = lending.first k offset
     first_fine (Frame c offset) = refl
     first_fine (Result r k) = refl

@@ -11,7 +11,7 @@ use Rattle.narrow_code.specs.Marks.{Numbers, Same, Marks, marked}
 use Rattle.narrow_code.specs.Plans as plans
 use Rattle.narrow_code.specs.Plans.{Plan, given, made, Narrowing, given_program, made_program, given_setting, made_setting}
 use Rattle.narrow_code.specs.Right.{Fits, FitsLeaf, set_mark, IsSound}
-use Rattle.narrow_code.specs.Links.{reaches_lent}
+use Rattle.narrow_code.specs.Links.{is_lent, reaches_lent}
 use Rattle.narrow_code.proofs.Memory.{never, lower, lower_refl}
 use Rattle.narrow_code.proofs.Relation.{Job, ToDo, ToPut, ToPutBit, ToPutBack, ToJoin, ToLoad, ToStore, ToEnd, ones, others, one_stack, other_stack, SameCounts, Runs, Weak, State, first_machine, second_machine, Stays, Outcome, Rests, if_both}
 use Rattle.narrow_code.proofs.Steps.{Scene, loops, go_same, set_holds, put_step}
@@ -58,7 +58,7 @@ module _ (x : Narrowing) (sound : IsSound x) (o : Outside) (sc : Scene x) where
     plan_step (plans.Choice test (suc k) plans.Turned first second) fits = turned_choice_step x sound sc after js runs first second fits.1 fits.2 test (suc k) fits.0
     plan_step (plans.Repeat front behind body) fits = loop_step x sound sc.p sc.a sc.here sc.known sc.m sc.l sc.w sc.alike sc.link sc.passes front behind after body js sc.s fits runs sc.stands
 
-  pub act_step : (js : List Job) → Runs x.lent sc.p (loops x sound sc) sc.here js → reaches_lent x.lent (ones js) ≡ true
+  pub act_step : (js : List Job) → Runs x.lent sc.p (loops x sound sc) sc.here js → reaches_lent (is_lent x.lent) (ones js) ≡ true
       → Outcome x (act (given_setting x o) (ones js) sc.p sc.a (one_stack sc.s) sc.m sc.w) (act (made_setting x o) (others js) sc.p sc.a (other_stack sc.s) sc.l sc.w)
   unfolding act
   act_step [] runs e = end_step x sound sc.p sc.a sc.here sc.known sc.m sc.l sc.w sc.alike sc.link sc.passes sc.s runs sc.stands
@@ -72,7 +72,7 @@ module _ (x : Narrowing) (sound : IsSound x) (o : Outside) (sc : Scene x) where
   act_step (ToEnd ∷ js) runs e = Rests refl refl
 
 module _ (x : Narrowing) (sound : IsSound x) (o : Outside) where
-  pub both_step : (t : State x) → Stays x t → reaches_lent x.lent (ones t.jobs) ≡ true → Outcome x (core_step (given_setting x o) (first_machine x t)) (core_step (made_setting x o) (second_machine x t))
+  pub both_step : (t : State x) → Stays x t → reaches_lent (is_lent x.lent) (ones t.jobs) ≡ true → Outcome x (core_step (given_setting x o) (first_machine x t)) (core_step (made_setting x o) (second_machine x t))
   unfolding core_step
   both_step t h e =
       let sc : Scene x = record { p = t.copy; a = t.passing; s = t.holds; m = t.memory; l = t.second; w = arrived o t.world; here = t.here; known = t.known; alike = h.alike; link = h.link; stands = h.stands; passes = h.passes } in

@@ -13,7 +13,7 @@ use Rattle.narrow_code.specs.Marks.{Same, Holds}
 use Rattle.narrow_code.specs.Plans.{Narrowing, given_program, made_program, given_setting, made_setting}
 use Rattle.narrow_code.specs.Right.{IsSound}
 use Rattle.narrow_code.specs.InStep.{transfer_of, InStep, NarrowingGoesInStep}
-use Rattle.narrow_code.specs.Links.{reaches_lent, IsOpen, NarrowingKeeps}
+use Rattle.narrow_code.specs.Links.{is_lent, reaches_lent, IsOpen, NarrowingKeeps}
 use Rattle.narrow_code.proofs.Memory.{never, Alike}
 use Rattle.narrow_code.proofs.Relation.{jobs, jobs_first, jobs_second, State, first_machine, second_machine, Stays, Outcome, Halts, Rests, Moves}
 use Rattle.narrow_code.proofs.Control.{body_runs}
@@ -105,8 +105,8 @@ module _ (x : Narrowing) (sound : IsSound x) (o : Outside) where
     abbrev Steps : Type 0
     Steps = Outcome x (core_step g (first_machine x sim.state)) (core_step h (second_machine x sim.state))
 
-    outcome : reaches_lent x.lent (core_moment g i).code ≡ true → Outcome x (core_step g (first_machine x sim.state)) (core_step h (second_machine x sim.state))
-    outcome e = both_step x sound o sim.state sim.stays (ap (λ (t : Machine). reaches_lent x.lent t.code) (sym sim.one) ∙ e)
+    outcome : reaches_lent (is_lent x.lent) (core_moment g i).code ≡ true → Outcome x (core_step g (first_machine x sim.state)) (core_step h (second_machine x sim.state))
+    outcome e = both_step x sound o sim.state sim.stays (ap (λ (t : Machine). reaches_lent (is_lent x.lent) t.code) (sym sim.one) ∙ e)
 
     most_at : b.most (suc i) + a.most i ≤ b.most i + a.most (suc i)
     most_at =
@@ -139,7 +139,7 @@ module _ (x : Narrowing) (sound : IsSound x) (o : Outside) where
     hop_by goes (Moves t s e f) =
         record { sim = record { state = t; stays = s; one = next_one (next.Goes (first_machine x t)) e; other = next_other (next.Goes (second_machine x t)) f }; goes = ap goes_on (step_other ∙ f); most = most_at; least = least_at }
 
-    hop : a.goes i ≡ true → reaches_lent x.lent (core_moment g i).code ≡ true → Hop i
+    hop : a.goes i ≡ true → reaches_lent (is_lent x.lent) (core_moment g i).code ≡ true → Hop i
     hop goes e = hop_by goes (outcome e)
 
     rests_by : a.rests i ≡ true → Outcome x (core_step g (first_machine x sim.state)) (core_step h (second_machine x sim.state)) → b.rests i ≡ true

@@ -9,20 +9,20 @@ use Rattle.narrow_code.specs.Plans.{Narrowing, given_setting, made_setting}
 use Rattle.narrow_code.specs.Right.{IsSound}
 
 -- ---- accesses by pointers
--- the frame is one to which pointers may lead
+-- The objects that are lent, to which pointers may lead, where nothing is known of static objects: each of these, and the frames of such copies.
 abbrev pub is_lent : (ℕ → Bool) → Object → Bool
-is_lent lent (Fixed n) = true
-is_lent lent (FrameOf c) = lent c
+is_lent frames (Fixed n) = true
+is_lent frames (FrameOf c) = frames c
 
--- the next task accesses no other one by a pointer
-abbrev pub reaches_lent : (ℕ → Bool) → List Task → Bool
-reaches_lent lent (LoadFrom to object offset n ∷ c) = is_lent lent object
-reaches_lent lent (StoreTo object offset from n ∷ c) = is_lent lent object
+-- the next task accesses no object by a pointer but one that is lent
+abbrev pub reaches_lent : (Object → Bool) → List Task → Bool
+reaches_lent lent (LoadFrom to object offset n ∷ c) = lent object
+reaches_lent lent (StoreTo object offset from n ∷ c) = lent object
 reaches_lent lent _ = true
 
 -- so at each moment up to n
 abbrev pub IsOpen : Narrowing → Outside → ℕ → Type 0
-IsOpen x o n = (i : ℕ) → i ≤ n → reaches_lent x.lent (core_moment (given_setting x o) i).code ≡ true
+IsOpen x o n = (i : ℕ) → i ≤ n → reaches_lent (is_lent x.lent) (core_moment (given_setting x o) i).code ≡ true
 
 -- ---- what is kept
 -- Under every schedule, as long as the given program isn't stuck: the one that is made makes its events at the same steps, isn't

@@ -13,14 +13,14 @@ ghost use Rattle.narrow_code.specs.Lending.{AlwaysOpen, LeadsOnly};
 ghost use Rattle.narrow_code.specs.Links.{NarrowingKeeps};
 
 /// Code that is made by a plan that is right follows the given code, and goes in step with it; the premise on pointers holds where
-/// addresses are taken only of frames that the plan has as lent.
+/// addresses are taken only of static objects and of frames that the plan has as lent.
 pub fn narrowing_keeps()
     ensures follows { NarrowingKeeps }
     ensures in_step { NarrowingGoesInStep }
     ensures lending { AlwaysOpen }
 {}
 
-/// A program that takes addresses of frames that are lent alone accesses no other ones by pointers.
+/// A program that takes addresses of objects that are lent alone, static ones and frames, accesses no other ones by pointers.
 pub fn leads_only()
     ensures { LeadsOnly }
 {}

@@ -24,6 +24,7 @@ use Rattle.narrow_code.proofs.Whole.{narrowing_in_step, narrowing_keeps}
 use Rattle.narrow_code.specs.Drafts.{all_planned}
 use Rattle.narrow_code.specs.InStep.{transfer_in}
 use Rattle.narrow_code.specs.Lending.{IsLending, all_lend, leads_lent}
+use Rattle.narrow_code.specs.Links.{is_lent}
 use Rattle.narrow_code.specs.Marks.{Marks, Same, Below}
 use Rattle.narrow_code.specs.Places.{IsRetyped, HasTransfer, IsFreeOnlyWith, UsesOnly}
 use Rattle.narrow_code.specs.Plans.{Plans, NoPlan, all_given, all_made, Narrowing}
@@ -80,18 +81,18 @@ module _ (lent : ℕ → Bool) where
     by true e below = subst (λ n. IsRight n (all_planned (trees_for g) z.0.drafts)) (eqb-true g.copy c e) (body_right g m z.0)
     by false e below = below
 
-  -- and takes addresses of such frames alone
-  all_lending : (given made : List Body) (z : AllZip (IsNarrowedBody lent) given made) (c : ℕ) → all_lend lent (all_given (plan_in given made z c)) ≡ true
+  -- and takes addresses of static objects and such frames alone
+  all_lending : (given made : List Body) (z : AllZip (IsNarrowedBody lent) given made) (c : ℕ) → all_lend (is_lent lent) (all_given (plan_in given made z c)) ≡ true
   unfolding plan_in
   all_lending [] made z c = refl
   all_lending (g ∷ given) [] z c = absurd z
   all_lending (g ∷ given) (m ∷ made) z c = by (nat_eq g.copy c) (all_lending given made z.1 c) where
-    by : (t : Bool) → all_lend lent (all_given (plan_in given made z.1 c)) ≡ true → all_lend lent (all_given (if t then all_planned (trees_for g) z.0.drafts else plan_in given made z.1 c)) ≡ true
-    by true below = ap (all_lend lent) (plans_are_of_code (trees_for g) z.0.drafts) ∙ z.0.lends
+    by : (t : Bool) → all_lend (is_lent lent) (all_given (plan_in given made z.1 c)) ≡ true → all_lend (is_lent lent) (all_given (if t then all_planned (trees_for g) z.0.drafts else plan_in given made z.1 c)) ≡ true
+    by true below = ap (all_lend (is_lent lent)) (plans_are_of_code (trees_for g) z.0.drafts) ∙ z.0.lends
     by false below = below
 
 -- what leads to no frame leads to none but those that are lent
-leads_less : (lent : ℕ → Bool) (h : Held) → leads_lent (λ c. false) h ≡ true → leads_lent lent h ≡ true
+leads_less : (lent : ℕ → Bool) (h : Held) → leads_lent (is_lent (λ c. false)) h ≡ true → leads_lent (is_lent lent) h ≡ true
 leads_less lent bytes.Unset e = refl
 leads_less lent (bytes.Number n) e = refl
 leads_less lent (bytes.Part (Fixed n) offset high) e = refl

@@ -21,6 +21,7 @@ use Rattle.narrow_code.specs.Checked.{Turn, all_below, met, put_bytes, nowhere, 
 use Rattle.narrow_code.specs.Drafts as drafts
 use Rattle.narrow_code.specs.Drafts.{Draft, Drafts, NoDraft, AndDraft, head_of, tail_of, marks_in, planned, all_planned}
 use Rattle.narrow_code.specs.Lending.{lends, all_lend}
+use Rattle.narrow_code.specs.Links.{is_lent}
 use Rattle.narrow_code.specs.Marks.{Mark, may_differ}
 use Rattle.narrow_code.specs.Places.{AtEachPlace, AtAllPlaces, IsRetyped}
 use Rattle.narrow_code.specs.Plans.{Way, Whole, low_op, choice_by, made, all_made}
@@ -56,7 +57,7 @@ module _ (alone : Bool) (lent : ℕ → Bool) (p : ℕ) where
   one : (here : List Mark) (byte other : Byte) (m : ℕ) → (same_from lent p here byte 1 && same_from lent p here other m) ≡ true → same_at lent p here byte ≡ true
   one here byte other m e = (and_parts (same_at lent p here byte) true (first here byte other 1 m e)).0
 
-  stays : (turns : List Turn) (here : List Mark) (t : Tree) → may_go turns here t ≡ true → lends lent t ≡ true → reads_same lent p here t ≡ true → IsMade alone lent p turns here t t (written lent p here t)
+  stays : (turns : List Turn) (here : List Mark) (t : Tree) → may_go turns here t ≡ true → lends (is_lent lent) t ≡ true → reads_same lent p here t ≡ true → IsMade alone lent p turns here t t (written lent p here t)
   stays turns here (tree.Set to value) go len e = record { draft = drafts.Keep; passes = refl; code = refl; lending = len; places = λ types. inl refl }
   stays turns here (tree.Address to place) go len e = record { draft = drafts.Keep; passes = refl; code = refl; lending = len; places = λ types. inl refl }
   stays turns here (tree.Copy to from) go len e = record { draft = drafts.Keep; passes = holds (same_at lent p here from) (written lent p here (tree.Copy to from)) (one here from (Device 0) 0 e); code = refl; lending = len; places = λ types. inl refl }
@@ -75,7 +76,7 @@ module _ (alone : Bool) (lent : ℕ → Bool) (p : ℕ) where
   stays turns here (tree.If test size a b) go len e = never go
   stays turns here (tree.Loop body) go len e = never go
 
-  pub stays_made : (turns : List Turn) (here after : List Mark) (t new : Tree) → may_go turns here t ≡ true → lends lent t ≡ true → reads_same lent p here t ≡ true → new ≡ t → after ≡ written lent p here t → IsMade alone lent p turns here t new after
+  pub stays_made : (turns : List Turn) (here after : List Mark) (t new : Tree) → may_go turns here t ≡ true → lends (is_lent lent) t ≡ true → reads_same lent p here t ≡ true → new ≡ t → after ≡ written lent p here t → IsMade alone lent p turns here t new after
   stays_made turns here after t new go len e n a =
       subst (λ (u : Tree). IsMade alone lent p turns here t u after) (sym n) (subst (λ (l : List Mark). IsMade alone lent p turns here t t l) (sym a) (stays turns here t go len e))
 
@@ -131,9 +132,9 @@ module _ (alone : Bool) (lent : ℕ → Bool) (p : ℕ) where
       through (walk lent p turns here u (head_of ds)) (λ m. walk_all lent p turns m (trees_of ts) (tail_of ds)) (λ m. walk_all lent p turns m (trees_of (ts ++ t ∷ [])) (with_draft ts (tail_of ds) d)) mid after
       (λ m i. walk_more turns ts (tail_of ds) m mid after t d e i) h
 
-  lend_more : (ts : List Tree) (t : Tree) → lends lent t ≡ true → all_lend lent (trees_of ts) ≡ true → all_lend lent (trees_of (ts ++ t ∷ [])) ≡ true
-  lend_more [] t e h = and_from (lends lent t) true e refl
-  lend_more (u ∷ ts) t e h = let w = and_parts (lends lent u) (all_lend lent (trees_of ts)) h in and_from (lends lent u) (all_lend lent (trees_of (ts ++ t ∷ []))) w.0 (lend_more ts t e w.1)
+  lend_more : (ts : List Tree) (t : Tree) → lends (is_lent lent) t ≡ true → all_lend (is_lent lent) (trees_of ts) ≡ true → all_lend (is_lent lent) (trees_of (ts ++ t ∷ [])) ≡ true
+  lend_more [] t e h = and_from (lends (is_lent lent) t) true e refl
+  lend_more (u ∷ ts) t e h = let w = and_parts (lends (is_lent lent) u) (all_lend (is_lent lent) (trees_of ts)) h in and_from (lends (is_lent lent) u) (all_lend (is_lent lent) (trees_of (ts ++ t ∷ []))) w.0 (lend_more ts t e w.1)
 
   places_more : (old new : List Tree) (t n : Tree) → AtAllPlaces IsRetyped (trees_of old) (trees_of new) → AtEachPlace IsRetyped t n → AtAllPlaces IsRetyped (trees_of (old ++ t ∷ [])) (trees_of (new ++ n ∷ []))
   unfolding first_or rest_of
@@ -193,7 +194,7 @@ module _ (alone : Bool) (lent : ℕ → Bool) (p : ℕ) where
         ap (λ (t : Bool). if t then joined (walk lent p turns here a is.draft) (walk lent p turns here b other.draft) else None) e
         ∙ ap (λ (w : Option (List Mark)). joined w (walk lent p turns here b other.draft)) is.passes ∙ ap (joined (Some yes_after)) other.passes;
     code = ap (λ (t : Tree). choice_by test size way t d) is.code ∙ ap (choice_by test size way (made (planned a is.draft))) other.code;
-    lending = and_from (lends lent a) (lends lent b) is.lending other.lending;
+    lending = and_from (lends (is_lent lent) a) (lends (is_lent lent) b) is.lending other.lending;
     places = λ types. (c, d, ap (λ (w : Way). choice_by test size w c d) (whole types), is.places types, other.places types);
   }
 

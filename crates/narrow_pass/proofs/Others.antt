@@ -6,6 +6,7 @@ use Rattle.core_code.specs.declared.code.Core.{Core}
 use Rattle.core_code.specs.declared.code.Core.TheOpen as Open
 use Rattle.core_code.specs.declared.code.Core.TheVariants as Core
 use Rattle.core_code.specs.declared.code.Core.TheViews.{out-Core, roll-Core, roll-out-Core}
+use Rattle.core_code.specs.Bytes.{Object}
 use Rattle.narrow_code.specs.Checked.{Turn}
 use Rattle.narrow_code.specs.Lending.{lends}
 use Rattle.narrow_code.specs.Marks.{Mark}
@@ -80,7 +81,7 @@ goes_anywhere_layer (Open.Again loops) c is no_many no_if no_loop no_exit no_aga
 pub goes_anywhere : (c : Core) → ((parts : _) → c ≡ Core.Many parts → ⊥) → ((test : _) (size : _) (holds : _) (fails : _) → c ≡ Core.If test size holds fails → ⊥) → ((body : _) → c ≡ Core.Loop body → ⊥) → ((loops : _) → c ≡ Core.Exit loops → ⊥) → ((loops : _) → c ≡ Core.Again loops → ⊥) → (turns : List Turn) (here : List Mark) → may_go turns here (tree_of c) ≡ true
 goes_anywhere c no_many no_if no_loop no_exit no_again turns here = goes_anywhere_layer (out-Core c) c (roll-out-Core c) no_many no_if no_loop no_exit no_again turns here
 
-lends_nothing_layer : (l : Open.Core-F Core) (c : Core) → roll-Core l ≡ c → ((to : _) (place : _) → c ≡ Core.Address to place → ⊥) → ((parts : _) → c ≡ Core.Many parts → ⊥) → ((test : _) (size : _) (holds : _) (fails : _) → c ≡ Core.If test size holds fails → ⊥) → ((body : _) → c ≡ Core.Loop body → ⊥) → (lent : ℕ → Bool) → lends lent (tree_of c) ≡ true
+lends_nothing_layer : (l : Open.Core-F Core) (c : Core) → roll-Core l ≡ c → ((to : _) (place : _) → c ≡ Core.Address to place → ⊥) → ((parts : _) → c ≡ Core.Many parts → ⊥) → ((test : _) (size : _) (holds : _) (fails : _) → c ≡ Core.If test size holds fails → ⊥) → ((body : _) → c ≡ Core.Loop body → ⊥) → (lent : Object → Bool) → lends lent (tree_of c) ≡ true
 lends_nothing_layer (Open.Set to value) c is no_address no_many no_if no_loop lent = ap (λ t. lends lent t) (ap tree_of (sym is ∙ Core.rolls-Set to value) ∙ tree_set to value)
 lends_nothing_layer (Open.Address to place) c is no_address no_many no_if no_loop lent = absurd (no_address to place (sym is ∙ Core.rolls-Address to place))
 lends_nothing_layer (Open.Copy to from) c is no_address no_many no_if no_loop lent = ap (λ t. lends lent t) (ap tree_of (sym is ∙ Core.rolls-Copy to from) ∙ tree_copy to from)
@@ -100,7 +101,7 @@ lends_nothing_layer (Open.Exit loops) c is no_address no_many no_if no_loop lent
 lends_nothing_layer (Open.Again loops) c is no_address no_many no_if no_loop lent = ap (λ t. lends lent t) (ap tree_of (sym is ∙ Core.rolls-Again loops) ∙ tree_again loops)
 
 -- all but these take no address
-pub lends_nothing : (c : Core) → ((to : _) (place : _) → c ≡ Core.Address to place → ⊥) → ((parts : _) → c ≡ Core.Many parts → ⊥) → ((test : _) (size : _) (holds : _) (fails : _) → c ≡ Core.If test size holds fails → ⊥) → ((body : _) → c ≡ Core.Loop body → ⊥) → (lent : ℕ → Bool) → lends lent (tree_of c) ≡ true
+pub lends_nothing : (c : Core) → ((to : _) (place : _) → c ≡ Core.Address to place → ⊥) → ((parts : _) → c ≡ Core.Many parts → ⊥) → ((test : _) (size : _) (holds : _) (fails : _) → c ≡ Core.If test size holds fails → ⊥) → ((body : _) → c ≡ Core.Loop body → ⊥) → (lent : Object → Bool) → lends lent (tree_of c) ≡ true
 lends_nothing c no_address no_many no_if no_loop lent = lends_nothing_layer (out-Core c) c (roll-out-Core c) no_address no_many no_if no_loop lent
 
 leaves_marks_layer : (l : Open.Core-F Core) (c : Core) → roll-Core l ≡ c → ((to : _) (value : _) → c ≡ Core.Set to value → ⊥) → ((to : _) (place : _) → c ≡ Core.Address to place → ⊥) → ((to : _) (from : _) → c ≡ Core.Copy to from → ⊥) → ((to : _) (pointer : _) (count : _) → c ≡ Core.Load to pointer count → ⊥) → ((op : _) (ty : _) (at : _) → c ≡ Core.Unary op ty at → ⊥) → ((op : _) (ty : _) (to : _) (left : _) (right : _) → c ≡ Core.Binary op ty to left right → ⊥) → ((from : _) (to : _) (at : _) → c ≡ Core.Convert from to at → ⊥) → ((to : _) (register : _) (bit : _) → c ≡ Core.BitRead to register bit → ⊥) → (c ≡ Core.Leave → ⊥) → ((loops : _) → c ≡ Core.Exit loops → ⊥) → ((loops : _) → c ≡ Core.Again loops → ⊥) → (lent : ℕ → Bool) (p : ℕ) (here : List Mark) → written lent p here (tree_of c) ≡ here

@@ -1,8 +1,9 @@
--- Of which frames byte code takes addresses, part by part.
+-- Of which objects byte code takes addresses, part by part.
 use Rattle.std.proofs.Common.{◌≡◌, ℕ, zero, suc, ◌+◌, ◌<◌, ◌≤◌, Bool, true, false, ◌&&◌, List, [], ◌∷◌, ◌++◌, length, take, get_or, refl, sym, ap, ◌∙◌, subst, arith}
 use Rattle.std.specs.List.{All}
 use Rattle.std.proofs.lemmas.Bool.{and_parts}
 use Rattle.std.proofs.lemmas.List.{take_more, take_all}
+use Rattle.core_code.specs.Bytes.{Object}
 use Rattle.core_code.specs.Tree as tree
 use Rattle.core_code.specs.Tree.{Tree, Trees, NoTree, AndTree, trees_of}
 use Rattle.core_code.specs.View.{tree_of, trees_in}
@@ -13,13 +14,14 @@ use Rattle.core_code.specs.declared.code.Core.{Core}
 use Rattle.core_code.specs.declared.code.Core.TheVariants as Core
 use Rattle.core_code.proofs.Views.{tree_many, tree_if, tree_loop}
 use Rattle.narrow_code.specs.Lending.{takes_lent, lends, all_lend}
+use Rattle.narrow_code.specs.Links.{is_lent}
 use Rattle.narrow_pass.specs.Lent.{LendsOnly}
 
 both : (a b : Bool) → a ≡ true → b ≡ true → (a && b) ≡ true
 both true b e f = f
 both false b e f = e
 
-module _ (lent : ℕ → Bool) where
+module _ (lent : Object → Bool) where
   abbrev Lends : Tree → Type 0
   Lends t = lends lent t ≡ true
 
@@ -66,26 +68,26 @@ module _ (lent : ℕ → Bool) where
       subst (λ (l : List Body). All (LendsOnly lent) l) (sym e) (more_list body rest (ap (λ (l : List Core). all_lend lent (trees_of (trees_in l))) (sym c) ∙ here) later)
 
 -- ---- whatever takes addresses, where all frames are lent
-takes_any : (place : Byte) → takes_lent (λ c. true) place ≡ true
+takes_any : (place : Byte) → takes_lent (is_lent (λ c. true)) place ≡ true
 takes_any (Static object offset) = refl
 takes_any (Frame copy offset) = refl
 takes_any (Result root k) = refl
 takes_any (Device address) = refl
 
 mutual
-  any_lends : (t : Tree) → lends (λ c. true) t ≡ true
+  any_lends : (t : Tree) → lends (is_lent (λ c. true)) t ≡ true
   any_lends (tree.Address to place) = takes_any place
   any_lends (tree.Many ts) = any_all ts
-  any_lends (tree.If test size first second) = both (lends (λ c. true) first) (lends (λ c. true) second) (any_lends first) (any_lends second)
+  any_lends (tree.If test size first second) = both (lends (is_lent (λ c. true)) first) (lends (is_lent (λ c. true)) second) (any_lends first) (any_lends second)
   any_lends (tree.Loop body) = any_lends body
   any_lends t = refl
 
-  any_all : (ts : Trees) → all_lend (λ c. true) ts ≡ true
+  any_all : (ts : Trees) → all_lend (is_lent (λ c. true)) ts ≡ true
   any_all NoTree = refl
-  any_all (AndTree t ts) = both (lends (λ c. true) t) (all_lend (λ c. true) ts) (any_lends t) (any_all ts)
+  any_all (AndTree t ts) = both (lends (is_lent (λ c. true)) t) (all_lend (is_lent (λ c. true)) ts) (any_lends t) (any_all ts)
 
 -- ---- bodies
-pub all_lent : (bodies : List Body) → All (LendsOnly (λ c. true)) bodies
+pub all_lent : (bodies : List Body) → All (LendsOnly (is_lent (λ c. true))) bodies
 all_lent [] i d below = absurd (omega arith)
 all_lent (b ∷ bodies) zero d below = any_all (trees_of (trees_in b.code.items))
 all_lent (b ∷ bodies) (suc i) d below = all_lent bodies i d (omega arith)

@@ -13,6 +13,7 @@ use Rattle.core_code.specs.declared.code.Body.{Body}
 use Rattle.core_code.specs.declared.code.CoreProgram.{CoreProgram}
 use Rattle.narrow_code.specs.InStep.{InStep}
 use Rattle.narrow_code.specs.Lending.{leads_lent}
+use Rattle.narrow_code.specs.Links.{is_lent}
 use Rattle.narrow_code.specs.Places.{AtAllPlaces, IsRetyped, UsesOnly}
 use Rattle.narrow_pass.specs.Narrowed.{IsNarrowedBody, IsNarrowed}
 
@@ -39,7 +40,7 @@ pub record IsOrdered (q : Program) : Type 0 where
   pub rank : ℕ → ℕ
   pub rises : (p c : ℕ) → q.calls p c ≡ true → rank p < rank c
   pub apart : (p h : ℕ) → same_root (q.root p) Main ≡ true → same_root (q.root h) Isr ≡ true → rank p < rank h
-  pub first : (n offset : ℕ) → leads_lent (λ c. false) (static_byte (slice_get q.first n) offset) ≡ true
+  pub first : (n offset : ℕ) → leads_lent (is_lent (λ c. false)) (static_byte (slice_get q.first n) offset) ≡ true
 
 -- Up to a moment the second run makes the same events as the first one, isn't stuck, and costs no more at most and no less at least; and
 -- at each moment it is in step with the first one.

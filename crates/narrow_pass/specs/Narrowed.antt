@@ -11,6 +11,7 @@ use Rattle.core_code.specs.declared.code.FirstByte.{FirstByte}
 use Rattle.narrow_code.specs.Checked.{walk_all}
 use Rattle.narrow_code.specs.Drafts.{Drafts, all_planned}
 use Rattle.narrow_code.specs.Lending.{all_lend}
+use Rattle.narrow_code.specs.Links.{is_lent}
 use Rattle.narrow_code.specs.Marks.{Mark, Same}
 use Rattle.narrow_code.specs.Plans.{all_made}
 
@@ -23,7 +24,7 @@ pub record IsNarrowedBody (lent : ℕ → Bool) (given made : Body) : Type 0 whe
   pub after : List Mark
   pub passes : walk_all lent given.copy [] (replicate size Same) (trees_of (trees_in given.code.items)) drafts ≡ Some after
   pub code : trees_in made.code.items ≡ list_of (all_made (all_planned (trees_of (trees_in given.code.items)) drafts))
-  pub lends : all_lend lent (trees_of (trees_in given.code.items)) ≡ true
+  pub lends : all_lend (is_lent lent) (trees_of (trees_in given.code.items)) ≡ true
 
 -- the same body once more
 pub record IsSameBody (given made : Body) : Type 0 where

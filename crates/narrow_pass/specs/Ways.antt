@@ -10,6 +10,7 @@ use Rattle.core_code.specs.declared.code.Byte.TheVariants.{Static, Frame, Result
 use Rattle.narrow_code.specs.Checked.{Turn, put, put_bytes, put_on, nowhere, same_from, may_exit, may_repeat, walk, walk_all}
 use Rattle.narrow_code.specs.Drafts.{Draft, Drafts, marks_in, planned, all_planned}
 use Rattle.narrow_code.specs.Lending.{lends, all_lend}
+use Rattle.narrow_code.specs.Links.{is_lent}
 use Rattle.narrow_code.specs.Marks.{Mark, Zero, Numbers, Same, Tells, Denies, Cleared, Differs, is_same, is_cleared, own_mark}
 use Rattle.narrow_code.specs.Places.{AtEachPlace, AtAllPlaces, IsRetyped}
 use Rattle.narrow_code.specs.Plans.{Way, Whole, Low, Turned, made, all_made}
@@ -142,14 +143,14 @@ pub record IsMade (alone : Bool) (lent : ℕ → Bool) (p : ℕ) (turns : List T
   pub draft : Draft
   pub passes : walk lent p turns here old draft ≡ Some after
   pub code : new ≡ made (planned old draft)
-  pub lending : lends lent old ≡ true
+  pub lending : lends (is_lent lent) old ≡ true
   pub places : alone ≡ true → AtEachPlace IsRetyped old new
 
 pub record AreMade (alone : Bool) (lent : ℕ → Bool) (p : ℕ) (turns : List Turn) (here : List Mark) (old new : List Tree) (after : List Mark) : Type 0 where
   pub drafts : Drafts
   pub passes : walk_all lent p turns here (trees_of old) drafts ≡ Some after
   pub code : new ≡ list_of (all_made (all_planned (trees_of old) drafts))
-  pub lending : all_lend lent (trees_of old) ≡ true
+  pub lending : all_lend (is_lent lent) (trees_of old) ≡ true
   pub places : alone ≡ true → AtAllPlaces IsRetyped (trees_of old) (trees_of new)
 
 -- ---- a body

@@ -5,6 +5,7 @@ ghost use Rattle.std.specs.List.{All};
 ghost use Rattle.core_code.specs.Tree.{trees_of};
 ghost use Rattle.core_code.specs.View.{tree_of, trees_in};
 ghost use Rattle.narrow_code.specs.Lending as lending;
+ghost use Rattle.narrow_code.specs.Links.{is_lent};
 ghost use Rattle.narrow_pass.specs.Lent.{LendsOnly};
 ghost use Rattle.narrow_pass.specs.Narrowed.{lent_by};
 
@@ -17,9 +18,8 @@ use std::alloc::{AllocError, Global};
 
 // Whether an operation takes no address of a frame but of those that are lent.
 #[cycle(lending)]
-#[tactic(auto, using(crate::proofs::Taken::many_lends, crate::proofs::Taken::if_lends, crate::proofs::Taken::loop_lends))]
 fn lends_only(c: &Core, lent: &[bool]) -> bool
-    ensures lent { result ≡ true → lending.lends (lent_by lent.now) (tree_of c.now) ≡ true }
+    ensures lent { result ≡ true → lending.lends (is_lent (lent_by lent.now)) (tree_of c.now) ≡ true }
 {
     match c {
         Core::Many(parts) => all_lend(parts, lent),
@@ -37,7 +37,7 @@ fn lends_only(c: &Core, lent: &[bool]) -> bool
 #[cycle(lending)]
 #[tactic(auto, using(crate::proofs::Taken::none_lend, crate::proofs::Taken::more_lend, crate::proofs::Taken::all_of_them))]
 fn all_lend(parts: &[Core], lent: &[bool]) -> bool
-    ensures lent { result ≡ true → lending.all_lend (lent_by lent.now) (trees_of (trees_in parts.now)) ≡ true }
+    ensures lent { result ≡ true → lending.all_lend (is_lent (lent_by lent.now)) (trees_of (trees_in parts.now)) ≡ true }
 {
     for k in 0..parts.len() {
         if !lends_only(&parts[k], lent) {
@@ -49,7 +49,7 @@ fn all_lend(parts: &[Core], lent: &[bool]) -> bool
 
 #[tactic(auto, using(crate::proofs::Taken::no_bodies, crate::proofs::Taken::more_bodies))]
 fn are_lending(given: &[Body], lent: &[bool]) -> bool
-    ensures lent { result ≡ true → All (LendsOnly (lent_by lent.now)) given.now }
+    ensures lent { result ≡ true → All (LendsOnly (is_lent (lent_by lent.now))) given.now }
 {
     match given {
         [] => true,
@@ -76,7 +76,7 @@ pub(crate) fn marked_in(alloc: Global, given: &[Body]) -> Result<Vec<bool>, Allo
 
 /// The same, where it passes the test.
 pub fn lent_in(alloc: Global, given: &[Body]) -> Result<Option<Vec<bool>>, AllocError>
-    ensures { IfOk result (λ found. IfSome found (λ lent. All (LendsOnly (lent_by lent.items)) given.now)) }
+    ensures { IfOk result (λ found. IfSome found (λ lent. All (LendsOnly (is_lent (lent_by lent.items))) given.now)) }
 {
     let lent = marked_in(alloc, given)?;
     if !are_lending(given, &lent) {

@@ -7,6 +7,7 @@ ghost use Rattle.core_code.specs.Values.{right_type};
 ghost use Rattle.core_code.specs.View.{tree_of};
 ghost use Rattle.narrow_code.specs.Checked as tested;
 ghost use Rattle.narrow_code.specs.Lending as lending;
+ghost use Rattle.narrow_code.specs.Links as links;
 ghost use Rattle.narrow_code.specs.Drafts.{marks_in};
 ghost use Rattle.narrow_code.specs.Marks as stated_marks;
 ghost use Rattle.narrow_code.specs.Plans as plans;
@@ -218,7 +219,7 @@ pub fn may_go(turns: &Turns, here: &[Mark], c: &Core) -> bool
 }
 
 fn takes_lent(lent: &[bool], place: Byte) -> bool
-    ensures { result ≡ lending.takes_lent (lent_by lent.now) place }
+    ensures { result ≡ lending.takes_lent (links.is_lent (lent_by lent.now)) place }
 {
     match place {
         Byte::Frame { copy, .. } => is_lent(lent, copy),
@@ -229,7 +230,7 @@ fn takes_lent(lent: &[bool], place: Byte) -> bool
 /// Whether an operation without parts takes no address of a frame but of those that are lent.
 #[tactic(auto, using(crate::proofs::Trees::trees))]
 pub fn lends(lent: &[bool], c: &Core) -> bool
-    ensures lent { result ≡ true → lending.lends (lent_by lent.now) (tree_of c.now) ≡ true }
+    ensures lent { result ≡ true → lending.lends (links.is_lent (lent_by lent.now)) (tree_of c.now) ≡ true }
 {
     match c {
         Core::Address { place, .. } => takes_lent(lent, *place),

@@ -30,6 +30,7 @@ use Rattle.code_place.specs.Layouts.{layout_of}
 use Rattle.code_place.specs.Places.{BlocksHaveAddresses, HasEnds}
 use Rattle.code_place.specs.Sizes.{Fit}
 use Rattle.flow_facts.proofs.Kept.{thinning_keeps}
+use Rattle.narrow_code.specs.Links.{is_lent}
 use Rattle.program_code.specs.Joined.{IsJoined}
 use Rattle.program_code.proofs.Bodies.{as_lowered, statics_kept}
 use Rattle.program_code.specs.Passed.{AreBlocks}
@@ -46,7 +47,9 @@ use Rattle.headline_trace.specs.Addressed.{BlocksHaveOperands, BlocksStandInside
 use Rattle.headline_trace.proofs.Addressed.{lean_keeps_operands, operands_have_addresses, selects_keep_operands}
 use Rattle.headline_trace.proofs.FewCopies.{copies_few}
 use Rattle.headline_trace.proofs.Laid.{frames_whole}
+use Rattle.headline_trace.proofs.Narrowed.{at_first}
 use Rattle.headline_trace.proofs.Standing.{translations_fit, translations_stated}
+use Rattle.headline_trace.proofs.Statics.{first_there}
 use Rattle.picc_core.specs.Blocks.{HasBlocks}
 use Rattle.picc_core.specs.Coded.{IsRoomy, AsGiven, Seen, IsSymbolic}
 use Rattle.picc_core.specs.Founded.{IsFounded}
@@ -113,8 +116,9 @@ module _ (typed : Typed) (copies : List FnCopy) (placed : Placed) (at : List ℕ
         bodies = bodies;
         code = symbolic.code;
         joined = symbolic.joined;
-        lent = symbolic.lent;
+        lent = is_lent symbolic.lent;
         lends = symbolic.lends;
+        first = at_first symbolic.lent (core_of (program_of typed) copies).first (first_there (program_of typed) copies founded.sound founded.numbers);
         leaner = symbolic.leaner;
         names = symbolic.selects.names;
         bare = symbolic.selects.bare;
@@ -148,7 +152,7 @@ module _ (typed : Typed) (copies : List FnCopy) (placed : Placed) (at : List ℕ
       lists_kept = (thinning_keeps placed (handler_at copies) at symbolic.selects.whole made symbolic.selects.thinned symbolic.selects.apart symbolic.selects.reaches).lists ∙ symbolic.selects.bare
 
       leaner : AllZip IsLeaner symbolic.given symbolic.lean
-      leaner = blocks_are_leaner (layout_of placed) (handler_at copies) (core_of (program_of typed) copies).variable_bytes symbolic.lent symbolic.given symbolic.lean symbolic.leaner
+      leaner = blocks_are_leaner (layout_of placed) (handler_at copies) (core_of (program_of typed) copies).variable_bytes (is_lent symbolic.lent) symbolic.given symbolic.lean symbolic.leaner
 
       pub named : BlocksHaveAddresses placed made at
       named =

@@ -26,6 +26,7 @@ use Rattle.isr_save.specs.Start.{HasNumberedBytes}
 use Rattle.std.specs.List.{All, AllZip}
 use Rattle.sym_code.specs.declared.code.SymBlock.{SymBlock}
 use Rattle.sym_code.specs.declared.code.SymProgram.{SymProgram}
+use Rattle.narrow_code.specs.Links.{is_lent}
 use Rattle.narrow_pass.proofs.Taken.{all_lent}
 use Rattle.narrow_pass.specs.Lent.{LendsOnly}
 use Rattle.narrow_pass.specs.Narrowed.{lent_by}
@@ -77,26 +78,26 @@ module _ (typed : Typed) (copies : List FnCopy) (placed : Placed) (at : List ℕ
   variables_are list is = fun_ext (λ c. ap (λ (l : List ℕ). slice_index_or l c 0) is ∙ map_or bytes copies c ∙ of_copy c (slice_get copies c) refl)
 
   -- what the pass gives, with its selects
-  pub lean_to : (core : CoreProgram) (lent : List Bool) (list : List ℕ) (handler : Option ℕ) (given lean made : List SymBlock) → All (LendsOnly (lent_by lent)) core.bodies.items → list ≡ map bytes copies → handler ≡ handler_at copies
-      → IsLean (layout_of placed) handler (variables_of list) (lent_by lent) given lean → HasSelects placed handler at lean made → AreStated p copies made → IsLeanTo p core copies placed at given made
+  pub lean_to : (core : CoreProgram) (lent : List Bool) (list : List ℕ) (handler : Option ℕ) (given lean made : List SymBlock) → All (LendsOnly (is_lent (lent_by lent))) core.bodies.items → list ≡ map bytes copies → handler ≡ handler_at copies
+      → IsLean (layout_of placed) handler (variables_of list) (is_lent (lent_by lent)) given lean → HasSelects placed handler at lean made → AreStated p copies made → IsLeanTo p core copies placed at given made
   lean_to core lent list handler given lean made lends is same leaner selects stated = record {
     lent = lent_by lent;
     lends = lends;
     lean = lean;
-    leaner = subst (λ (v : ℕ → ℕ). IsLean (layout_of placed) (handler_at copies) v (lent_by lent) given lean) (variables_are list is) (subst (λ (h : Option ℕ). IsLean (layout_of placed) h (variables_of list) (lent_by lent) given lean) same leaner);
+    leaner = subst (λ (v : ℕ → ℕ). IsLean (layout_of placed) (handler_at copies) v (is_lent (lent_by lent)) given lean) (variables_are list is) (subst (λ (h : Option ℕ). IsLean (layout_of placed) h (variables_of list) (is_lent (lent_by lent)) given lean) same leaner);
     selects = subst (λ (h : Option ℕ). HasSelects placed h at lean made) same selects;
     stated = stated;
   }
 
   -- the same, of lists that were lent
-  pub lean_lent : (core : CoreProgram) (frames lent_frames : List Bool) (lent_copies : List FnCopy) (list lent_list : List ℕ) (handler : Option ℕ) (given lent_given lean made lent_made : List SymBlock) → All (LendsOnly (lent_by frames)) core.bodies.items → lent_frames ≡ frames → lent_copies ≡ copies → list ≡ map bytes lent_copies → lent_list ≡ list
-      → lent_given ≡ given → lent_made ≡ made → handler ≡ handler_at copies → IsLean (layout_of placed) handler (variables_of lent_list) (lent_by lent_frames) lent_given lean → HasSelects placed handler at lean made → AreStated p copies lent_made
+  pub lean_lent : (core : CoreProgram) (frames lent_frames : List Bool) (lent_copies : List FnCopy) (list lent_list : List ℕ) (handler : Option ℕ) (given lent_given lean made lent_made : List SymBlock) → All (LendsOnly (is_lent (lent_by frames))) core.bodies.items → lent_frames ≡ frames → lent_copies ≡ copies → list ≡ map bytes lent_copies → lent_list ≡ list
+      → lent_given ≡ given → lent_made ≡ made → handler ≡ handler_at copies → IsLean (layout_of placed) handler (variables_of lent_list) (is_lent (lent_by lent_frames)) lent_given lean → HasSelects placed handler at lean made → AreStated p copies lent_made
       → IsLeanTo p core copies placed at given made
   lean_lent core frames lent_frames lent_copies list lent_list handler given lent_given lean made lent_made lends of_frames of_copies is of_list of_given of_made same leaner selects stated =
       lean_to core frames list handler given lean made lends (is ∙ ap (map bytes) of_copies) same
-      (subst (λ (b : List Bool). IsLean (layout_of placed) handler (variables_of list) (lent_by b) given lean) of_frames
-      (subst (λ (g : List SymBlock). IsLean (layout_of placed) handler (variables_of list) (lent_by lent_frames) g lean) of_given
-      (subst (λ (l : List ℕ). IsLean (layout_of placed) handler (variables_of l) (lent_by lent_frames) lent_given lean) of_list leaner))) selects
+      (subst (λ (b : List Bool). IsLean (layout_of placed) handler (variables_of list) (is_lent (lent_by b)) given lean) of_frames
+      (subst (λ (g : List SymBlock). IsLean (layout_of placed) handler (variables_of list) (is_lent (lent_by lent_frames)) g lean) of_given
+      (subst (λ (l : List ℕ). IsLean (layout_of placed) handler (variables_of l) (is_lent (lent_by lent_frames)) lent_given lean) of_list leaner))) selects
       (subst (λ (m : List SymBlock). AreStated p copies m) of_made stated)
 
   -- ---- all that is known of the code

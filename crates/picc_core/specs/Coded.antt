@@ -17,6 +17,7 @@ use Rattle.code_place.specs.Places.{block_place, label_place, BlocksHaveAddresse
 use Rattle.code_place.specs.Sizes.{Fit}
 use Rattle.flow_facts.specs.Selects.{HasSelects}
 use Rattle.lean_pass.specs.Made.{IsLean}
+use Rattle.narrow_code.specs.Links.{is_lent}
 use Rattle.narrow_pass.specs.Lent.{LendsOnly}
 use Rattle.program_code.specs.Joined.{IsJoined}
 use Rattle.program_code.specs.Passed.{IsByteCode}
@@ -29,12 +30,12 @@ pub data IsRoomy (p : Program) (copies : List FnCopy) (lowered core : CoreProgra
   Seen : AreStated p copies made → IsRoomy p copies lowered core given lean made
 
 -- Leaner blocks with selects, which were seen to have at most their stated words. The blocks that they are made of are those of byte code that takes addresses of
--- frames that are lent, and of no others.
+-- static objects and of frames that are lent, and of no others.
 pub record IsLeanTo (p : Program) (core : CoreProgram) (copies : List FnCopy) (placed : Placed) (at : List ℕ) (given made : List SymBlock) : Type 0 where
   pub lent : ℕ → Bool
-  pub lends : All (LendsOnly lent) core.bodies.items
+  pub lends : All (LendsOnly (is_lent lent)) core.bodies.items
   pub lean : List SymBlock
-  pub leaner : IsLean (layout_of placed) (handler_at copies) (core_of p copies).variable_bytes lent given lean
+  pub leaner : IsLean (layout_of placed) (handler_at copies) (core_of p copies).variable_bytes (is_lent lent) given lean
   pub selects : HasSelects placed (handler_at copies) at lean made
   pub stated : AreStated p copies made
 
@@ -53,9 +54,9 @@ pub record IsSymbolic (p : Program) (lowered : CoreProgram) (copies : List FnCop
   pub joined : IsJoined core copies given
   -- the frames, by copy, of which that byte code takes addresses
   pub lent : ℕ → Bool
-  pub lends : All (LendsOnly lent) core.bodies.items
+  pub lends : All (LendsOnly (is_lent lent)) core.bodies.items
   pub lean : List SymBlock
-  pub leaner : IsLean (layout_of placed) (handler_at copies) (core_of p copies).variable_bytes lent given lean
+  pub leaner : IsLean (layout_of placed) (handler_at copies) (core_of p copies).variable_bytes (is_lent lent) given lean
   pub selects : HasSelects placed (handler_at copies) at lean made
   pub room : IsRoomy p copies lowered core given lean made
 

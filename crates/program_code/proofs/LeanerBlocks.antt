@@ -1,6 +1,7 @@
 -- Block by block, what the pass gives is made of what it was given.
 use Rattle.std.proofs.Common.{◌≡◌, ℕ, Bool, true, List, [], ◌∷◌, Option, None, refl, sym, ap, ◌∙◌, subst}
 use Rattle.std.specs.List.{AllZip}
+use Rattle.core_code.specs.Bytes.{Object}
 use Rattle.sym_code.specs.Layout.{DataLayout}
 use Rattle.sym_code.specs.declared.code.BlockName.{BlockName}
 use Rattle.sym_code.specs.declared.code.BlockName.TheVariants.{Start}
@@ -51,7 +52,7 @@ all_as_given (g ∷ given) [] z = z
 all_as_given (g ∷ given) (b ∷ lean) z = (as_given g b z.0, all_as_given given lean z.1)
 
 -- ---- those of a certificate
-module _ (variables : ℕ → ℕ) (lent : ℕ → Bool) (k : Sketch) (admissible : IsAdmissible variables lent k) where
+module _ (variables : ℕ → ℕ) (lent : Object → Bool) (k : Sketch) (admissible : IsAdmissible variables lent k) where
   by_rows : (given block : SymBlock) → IsBlockOf k given block → IsLeaner given block
   by_rows given block is = record {
     name = is.name;

@@ -1,6 +1,7 @@
 -- What a leaner block has in common with the block that it was made of.
 use Rattle.std.specs.Prelude.{ℕ, ◌≡◌, Bool, true, List, Option}
 use Rattle.std.specs.List.{AllZip}
+use Rattle.core_code.specs.Bytes.{Object}
 use Rattle.sym_code.specs.Layout.{DataLayout}
 use Rattle.sym_code.specs.declared.code.BlockName.TheVariants.{Start}
 use Rattle.sym_code.specs.declared.code.SymBlock.{SymBlock}
@@ -20,4 +21,4 @@ pub record IsLeaner (given block : SymBlock) : Type 0 where
   pub ends : ends_by_word true given.list.items ≡ true → ends_by_word true block.list.items ≡ true
 
 abbrev pub BlocksAreLeaner : Type 0
-BlocksAreLeaner = (l : DataLayout) (handler : Option ℕ) (variables : ℕ → ℕ) (lent : ℕ → Bool) (given lean : List SymBlock) → IsLean l handler variables lent given lean → AllZip IsLeaner given lean
+BlocksAreLeaner = (l : DataLayout) (handler : Option ℕ) (variables : ℕ → ℕ) (lent : Object → Bool) (given lean : List SymBlock) → IsLean l handler variables lent given lean → AllZip IsLeaner given lean

@@ -1,11 +1,13 @@
 -- What the passes answer for one program, one behind the other, from its typed tree on to the blocks and their addresses.
-use Rattle.std.specs.Prelude.{ℕ, ◌≡◌, Bool, true, List, map, None}
+use Rattle.std.specs.Prelude.{ℕ, ◌≡◌, Bool, true, List, map, None, slice_get}
 use Rattle.std.specs.List.{All, AllZip}
 use Rattle.c_typed.specs.Roots.{broken_root}
 use Rattle.c_typed.specs.Sound.{is_sound}
 use Rattle.c_typed.specs.Trees.{Program}
 use Rattle.call_graph.specs.Numbers.{handler_at}
 use Rattle.call_graph.specs.declared.types.FnCopy.{FnCopy}
+use Rattle.core_code.specs.Bytes.{Object}
+use Rattle.core_code.specs.Machine.{static_byte}
 use Rattle.core_code.specs.declared.code.CoreProgram.{CoreProgram}
 use Rattle.lower_stmt.specs.Bodies.{body_of, bodies_of}
 use Rattle.lower_stmt.specs.Programs.{core_of}
@@ -19,6 +21,7 @@ use Rattle.code_place.specs.Layouts.{layout_of}
 use Rattle.code_place.specs.Places.{BlocksHaveAddresses}
 use Rattle.code_place.specs.Sizes.{Fit}
 use Rattle.lean_pass.specs.Made.{IsLean}
+use Rattle.narrow_code.specs.Lending.{leads_lent}
 use Rattle.narrow_pass.specs.Lent.{LendsOnly}
 use Rattle.narrow_pass.specs.Narrowed.{IsNarrowed}
 use Rattle.program_code.specs.Joined.{IsJoined}
@@ -42,9 +45,10 @@ pub record AreBlocks (p : Program) (copies : List FnCopy) (core : CoreProgram) (
   pub bodies : map body_of lowered.bodies.items ≡ bodies_of p copies
   pub code : IsByteCode lowered core
   pub joined : IsJoined core copies given
-  -- the frames, by copy, of which that takes addresses
-  pub lent : ℕ → Bool
+  -- the objects to which pointers may lead: that takes addresses of no others, and static objects begin with no address of another one
+  pub lent : Object → Bool
   pub lends : All (LendsOnly lent) core.bodies.items
+  pub first : (n offset : ℕ) → leads_lent lent (static_byte (slice_get (core_of p copies).first n) offset) ≡ true
   -- what is left of them where instructions on temporary bytes are left out that nothing needs
   pub leaner : IsLean (layout_of placed) (handler_at copies) (core_of p copies).variable_bytes lent given lean
   -- the blocks with selects

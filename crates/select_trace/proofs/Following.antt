@@ -8,12 +8,11 @@ use Rattle.pic_world.specs.declared.Root.TheVariants.{Main, Isr}
 use Rattle.pic_world.specs.World.{World, arrived, is_due, entered}
 use Rattle.pic_world.proofs.WorldLaws.{arrived_again, arrived_inside, arrived_as, due_as, entered_as}
 use Rattle.core_code.specs.Bytes as bytes
-use Rattle.core_code.specs.Bytes.{Held, Number, Object, Fixed, FrameOf, without_frame}
+use Rattle.core_code.specs.Bytes.{Held, Number, without_frame}
 use Rattle.core_code.specs.Cost.{one_if, is_kept, load_cost, cost_of, leaving, least_of, task_most, least_task, step_most, step_least, context_cost}
 use Rattle.core_code.specs.Machine as core
 use Rattle.core_code.specs.Machine.{Task, Do, Put, PutBit, PutBack, Join, LoadFrom, StoreTo, Over, Waiting, InHandler, tasks, operate, act, may_interrupt, core_step, put}
 use Rattle.core_code.specs.Tree.{Tree, Set, Address, Copy, Load, Store, Unary, Binary, Convert, BitRead, BitWrite, Call, Leave, Many, If, Loop, Exit, Again}
-use Rattle.core_code.specs.declared.code.Byte.{Byte}
 use Rattle.core_code.specs.declared.code.Byte.TheVariants.{Device}
 use Rattle.sym_code.specs.Cost.{Prices, sure_prices, most_prices, thread_cost, step_cost, step_cost_at}
 use Rattle.sym_code.specs.Effect.{Thread, Memory, Port, Rests, effect, effect_rest, effect_at, root_of}
@@ -27,7 +26,7 @@ use Rattle.select_wide.specs.Direct.{is_open}
 use Rattle.select_wide.specs.Links.{sets_bytes, ReachesLent}
 use Rattle.select_trace.proofs.Truths.{true_false, and_left, and_right, if_true, if_false}
 use Rattle.select_trace.proofs.Placed.{same_roots}
-use Rattle.select_trace.proofs.Sites.{Site, layout, IsLent, show, core_of}
+use Rattle.select_trace.proofs.Sites.{Site, layout, show, core_of}
 use Rattle.select_trace.proofs.Machines.{at, lower, Calm, inside_as, at_running, rests_still}
 use Rattle.select_trace.proofs.Live.{is_live, below, handler_user, main_root}
 use Rattle.select_trace.proofs.Memory.{Agree, agree_blank}
@@ -51,15 +50,6 @@ main_outside true e = absurd (cc)
 abbrev pub KnowsAll : Site → ℕ → bytes.Memory → List Task → Type 0
 KnowsAll s f cm (Do before t ∷ c) = Knows s f cm before
 KnowsAll s f cm _ = Unit {0}
-
--- what the next task accesses by a pointer
-lent_load : (s : Site) (to : Byte) (object : Object) (offset k : ℕ) (c : List Task) → ReachesLent s.lent (LoadFrom to object offset k ∷ c) → IsLent s object
-lent_load s to (Fixed o) offset k c h = tt
-lent_load s to (FrameOf g) offset k c h = h.loads to g offset k c refl
-
-lent_store : (s : Site) (object : Object) (offset : ℕ) (from : Byte) (k : ℕ) (c : List Task) → ReachesLent s.lent (StoreTo object offset from k ∷ c) → IsLent s object
-lent_store s (Fixed o) offset from k c h = tt
-lent_store s (FrameOf g) offset from k c h = h.stores g offset from k c refl
 
 module _ (s : Site) (values : ValuesGo s) where
   -- ---- tasks
@@ -121,9 +111,9 @@ module _ (s : Site) (values : ValuesGo s) where
     task_goes loops th (Join ∷ c) known lent e fits fit h =
         subst (λ (y : Thread). Went s (at s t y m wc) (machine f pr c st cm wc) 0 4) (same_thread th h.0 h.1 h.2 e) (join_goes s t wc calm f pr st loops ps cm m fit h.0 th.registers c fits h.3)
     task_goes loops th (LoadFrom to object offset k ∷ c) known lent e fits fit h =
-        subst (λ (y : Thread). After s (one_if (nat_lt 0 k)) (load_cost object) (core.load_from (core_of s) to object offset k c f pr st cm wc) (at s t y m wc)) (same_thread th h.0 h.1 h.2 e) (load_from_goes s t wc calm f pr st loops ps cm m fit to object offset k h.0 th.registers c fits h.3 (lent_load s to object offset k c lent))
+        subst (λ (y : Thread). After s (one_if (nat_lt 0 k)) (load_cost object) (core.load_from (core_of s) to object offset k c f pr st cm wc) (at s t y m wc)) (same_thread th h.0 h.1 h.2 e) (load_from_goes s t wc calm f pr st loops ps cm m fit to object offset k h.0 th.registers c fits h.3 (lent.loads to object offset k c refl))
     task_goes loops th (StoreTo object offset from k ∷ c) known lent e fits fit h =
-        subst (λ (y : Thread). After s (one_if (nat_lt 0 k)) 6 (core.store_to (core_of s) object offset from k c f pr st cm wc) (at s t y m wc)) (same_thread th h.0 h.1 h.2 e) (store_to_goes s t wc calm f pr st loops ps cm m fit object offset from k h.0 th.registers c fits h.3 (lent_store s object offset from k c lent))
+        subst (λ (y : Thread). After s (one_if (nat_lt 0 k)) 6 (core.store_to (core_of s) object offset from k c f pr st cm wc) (at s t y m wc)) (same_thread th h.0 h.1 h.2 e) (store_to_goes s t wc calm f pr st loops ps cm m fit object offset from k h.0 th.registers c fits h.3 (lent.stores object offset from k c refl))
     task_goes loops th (Over ∷ c) known lent e fits fit h =
         (rests_still s t wc calm th m (over_is th h.1 h.2 (over_outside loops fit h.0)), refl)
 

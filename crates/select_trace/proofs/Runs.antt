@@ -323,9 +323,9 @@ opens_law values q copies bodies reaches g price sure chosen lent hidden shows o
     let kept = keeps_on s (values s) (known_moment s) t (at_zero s (core_start (core_of s)) t (starts_stand s r m b)) n ok stays in
     follows_of s (values s) (known_moment s) t n kept (stays n (omega arith))
 
--- where nothing is hidden, and each frame counts as lent
+-- where nothing is hidden, and each object counts as lent
 pub selects_law : ((s : Site) → ValuesGo s) → Selects
 selects_law values q copies bodies reaches g price sure chosen o input e r m entries b n ok =
-    let law = opens_law values q copies bodies reaches g price sure chosen (λ c. true) (λ k. false) (record { objects = λ c offset k lt in_size e. refl; frames = λ c offset k lent in_size e. refl }) o input e r m entries b n ok
-    (λ i le. record { loads = λ to c offset k rest e. refl; stores = λ c offset from k rest e. refl }) in
+    let law = opens_law values q copies bodies reaches g price sure chosen (λ object. true) (λ k. false) (record { objects = λ n offset k lent lt in_size e. refl; frames = λ c offset k lent in_size e. refl }) o input e r m entries b n ok
+    (λ i le. record { loads = λ to object offset k rest e. refl; stores = λ object offset from k rest e. refl }) in
     (law.0, law.1)

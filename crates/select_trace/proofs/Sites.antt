@@ -1,9 +1,9 @@
 -- What is given, as one: a program of byte code, one of symbolic code that was selected for it, and what comes from outside.
-use Rattle.std.proofs.Common.{◌≡◌, ℕ, ◌<◌, Bool, true, List}
+use Rattle.std.proofs.Common.{ℕ, ◌<◌, Bool, List}
 use Rattle.std.specs.List.{All}
 use Rattle.pic_world.specs.World.{Outside, World, world_as}
 use Rattle.call_graph.specs.declared.types.FnCopy.{FnCopy}
-use Rattle.core_code.specs.Bytes.{Held, Object, Fixed, FrameOf}
+use Rattle.core_code.specs.Bytes.{Held, Object}
 use Rattle.core_code.specs.Machine as core
 use Rattle.core_code.specs.declared.code.Body.{Body}
 use Rattle.sym_code.specs.Correct.{AreEntries}
@@ -26,8 +26,8 @@ pub record Site : Type 0 where
   pub o : Outside
   pub entries : AreEntries e
   pub input : All (λ byte. byte < 256) o.input
-  -- the frames to which pointers may lead, and the general bytes to which none does
-  pub lent : ℕ → Bool
+  -- the objects to which pointers may lead, and the general bytes to which none does
+  pub lent : Object → Bool
   pub hidden : ℕ → Bool
   pub shows : AreShown g.program.layout lent hidden
 
@@ -36,11 +36,6 @@ core_of s = record { program = s.q; outside = s.o }
 
 abbrev pub layout : Site → DataLayout
 layout s = s.g.program.layout
-
--- a pointer may lead to the object
-abbrev pub IsLent : Site → Object → Type 0
-IsLent s (Fixed o) = Unit {0}
-IsLent s (FrameOf g) = s.lent g ≡ true
 
 -- the world of byte code as symbolic code shows it
 abbrev pub show : Site → World Held → World ℕ

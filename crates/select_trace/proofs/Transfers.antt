@@ -33,7 +33,7 @@ use Rattle.select_trace.proofs.Labels.{len_append}
 use Rattle.select_trace.proofs.Placed as placed
 use Rattle.select_trace.proofs.Placed.{slot}
 use Rattle.select_trace.proofs.Slots.{good_rises}
-use Rattle.select_trace.proofs.Sites.{Site, layout, IsLent}
+use Rattle.select_trace.proofs.Sites.{Site, layout}
 use Rattle.select_trace.proofs.Machines.{at, Calm}
 use Rattle.select_trace.proofs.Live.{IsUser, is_live, below, passes, Chain, chain_user, user_below, There, valid_on}
 use Rattle.select_trace.proofs.Memory.{InPlace, Shown, agrees_shown}
@@ -213,21 +213,21 @@ module _ (s : Site) (t : Machine) (wc : World Held) (calm : Calm s wc) (f : ℕ)
       ∙ ap (is_clear s.hidden) (placed.stands_in s.q (length s.copies) s.reaches (layout s) s.chosen.layout s.chosen.laid_out b th)
       ∙ ap not e
 
-  static_clear : (r : Registers) (o k : ℕ) → k < static_bytes s.q o → pointer r ≡ layouts.address_of (layout s) (Static o k) → is_clear s.hidden (general_at (pointer r)) ≡ true
-  static_clear r o k lt p =
+  static_clear : (r : Registers) (o k : ℕ) → s.lent (Fixed o) ≡ true → k < static_bytes s.q o → pointer r ≡ layouts.address_of (layout s) (Static o k) → is_clear s.hidden (general_at (pointer r)) ≡ true
+  static_clear r o k lent lt p =
       let i = placed.is_object s.q (length s.copies) s.reaches (layout s) s.chosen.layout s.chosen.laid_out o k lt in
-      indf_clear r (Static o k) lt p (s.shows.objects o k (slot (layout s) (Static o k)) i.0 i.1 (placed.stands_in s.q (length s.copies) s.reaches (layout s) s.chosen.layout s.chosen.laid_out (Static o k) lt))
+      indf_clear r (Static o k) lt p (s.shows.objects o k (slot (layout s) (Static o k)) lent i.0 i.1 (placed.stands_in s.q (length s.copies) s.reaches (layout s) s.chosen.layout s.chosen.laid_out (Static o k) lt))
 
-  frame_clear : (r : Registers) (g y : ℕ) → s.lent g ≡ true → There s (Frame g y) → pointer r ≡ layouts.address_of (layout s) (Frame g y) → is_clear s.hidden (general_at (pointer r)) ≡ true
+  frame_clear : (r : Registers) (g y : ℕ) → s.lent (FrameOf g) ≡ true → There s (Frame g y) → pointer r ≡ layouts.address_of (layout s) (Frame g y) → is_clear s.hidden (general_at (pointer r)) ≡ true
   frame_clear r g y lent th p = indf_clear r (Frame g y) th p (s.shows.frames g y (slot (layout s) (Frame g y)) lent th.1 (placed.stands_in s.q (length s.copies) s.reaches (layout s) s.chosen.layout s.chosen.laid_out (Frame g y) th))
 
   pointer_same : (r r' : Registers) → r'.fsr ≡ r.fsr → r'.irp ≡ r.irp → pointer r' ≡ pointer r
   pointer_same r r' a b = ap (λ z. 256 * z + r'.fsr) b ∙ ap (λ z. 256 * r.irp + z) a
 
   load_static : (to first : Byte) (j o offset k n : ℕ) (r : Registers) (c : List Task) → Fits r → to ≡ behind first j → Points s r j (Fixed o) offset → Has (block s f) n (loads_code first j (suc k)) → Left s f loops (n + length (loads_code first j (suc k))) c
-      → is_own s.q f to 1 ≡ true → is_reached s.q f st (Fixed o) offset ≡ true
+      → is_own s.q f to 1 ≡ true → is_reached s.q f st (Fixed o) offset ≡ true → s.lent (Fixed o) ≡ true
       → Went s (at s t (thread s f n ps r) m wc) (machine f pr (Put to (cm (Static o offset)) ∷ loading (behind to 1) (Fixed o) (offset + 1) k c) st cm (noting_if (s.q.is_watched o) (ReadOf (cells.Static o offset) (cm (Static o offset))) wc)) 1 3
-  load_static to first j o offset k n r c fits e p h l own re =
+  load_static to first j o offset k n r c fits e p h l own re lent =
       let va = reached_static o offset re in
       let lt = lt_of offset (static_bytes s.q o) va in
       let sc = step_code j in
@@ -250,10 +250,10 @@ module _ (s : Site) (t : Machine) (wc : World Held) (calm : Calm s wc) (f : ℕ)
       weaken s (at s t (thread s f n ps r) m wc) d 1 (total s f n sc + (s.price (names.Copy f) n1 + 0)) 1 3 (omega arith) (omega (arith, dr, tot))
       (step_went j n r d 1 (s.price (names.Copy f) n1 + 0) hs
       (static_read s t wc calm f pr st loops ps cm m fit (operands.Register Indf) to o offset n1 r1 (loading (behind to 1) (Fixed o) (offset + 1) k c) (λ q. shared_indf false r1 o offset lt p1 q) (λ q. constant_indf r1 o offset lt p1 q) va f1 ht.0 ht.1
-      (λ r2 a b. next_loading to first j k offset (Fixed o) n (suc n1 + 1) r2 c e (pointer_same r1 r2 a b ∙ p1) (omega (arith, len)) h l) refl (static_clear r1 o offset lt p1)))
+      (λ r2 a b. next_loading to first j k offset (Fixed o) n (suc n1 + 1) r2 c e (pointer_same r1 r2 a b ∙ p1) (omega (arith, len)) h l) refl (static_clear r1 o offset lent lt p1)))
 
   load_frame : (to first : Byte) (j g offset k n : ℕ) (r : Registers) (c : List Task) → Fits r → to ≡ behind first j → Points s r j (FrameOf g) offset → Has (block s f) n (loads_code first j (suc k)) → Left s f loops (n + length (loads_code first j (suc k))) c
-      → is_own s.q f to 1 ≡ true → is_reached s.q f st (FrameOf g) offset ≡ true → s.lent g ≡ true
+      → is_own s.q f to 1 ≡ true → is_reached s.q f st (FrameOf g) offset ≡ true → s.lent (FrameOf g) ≡ true
       → After s 1 6 (put s.q to (cm (Frame g offset)) (loading (behind to 1) (FrameOf g) (offset + 1) k c) f pr st cm wc) (at s t (thread s f n ps r) m wc)
   load_frame to first j g offset k n r c fits e p h l own re lent =
       let fr = reached_frame g offset re in
@@ -289,7 +289,7 @@ module _ (s : Site) (t : Machine) (wc : World Held) (calm : Calm s wc) (f : ℕ)
   one_more : (k lo hi : ℕ) (x : core.Next) (v : Machine) → After s 1 hi x v → After s (one_if (nat_lt 0 (suc k))) hi x v
   one_more k lo hi x v a = subst (λ z. After s (one_if z) hi x v) (sym (of_lt 0 (suc k) (omega arith))) a
 
-  pub load_from_goes : (to : Byte) (object : Object) (offset k n : ℕ) (r : Registers) (c : List Task) → Fits r → Loading s f loops r n to object offset k c → IsLent s object
+  pub load_from_goes : (to : Byte) (object : Object) (offset k n : ℕ) (r : Registers) (c : List Task) → Fits r → Loading s f loops r n to object offset k c → s.lent object ≡ true
       → After s (one_if (nat_lt 0 k)) (load_cost object) (load_from (record { program = s.q; outside = s.o }) to object offset k c f pr st cm wc) (at s t (thread s f n ps r) m wc)
   unfolding held_at after_read
   load_from_goes to object offset zero n r c fits (first, j, e, p, h, l) lent =
@@ -299,7 +299,7 @@ module _ (s : Site) (t : Machine) (wc : World Held) (calm : Calm s wc) (f : ℕ)
       let v = at s t (thread s f n ps r) m wc in
       one_more k 1 3 (when (is_own s.q f to 1 && is_reached s.q f st (Fixed o) offset) next) v
       (when_after s 1 3 (is_own s.q f to 1 && is_reached s.q f st (Fixed o) offset) next v (λ a.
-      load_static to first j o offset k n r c fits e p h l (and_left _ _ a) (and_right (is_own s.q f to 1) _ a)))
+      load_static to first j o offset k n r c fits e p h l (and_left _ _ a) (and_right (is_own s.q f to 1) _ a) lent))
   load_from_goes to (FrameOf g) offset (suc k) n r c fits (first, j, e, p, h, l) lent =
       let next = put s.q to (cm (Frame g offset)) (loading (behind to 1) (FrameOf g) (offset + 1) k c) f pr st cm wc in
       let v = at s t (thread s f n ps r) m wc in
@@ -346,16 +346,16 @@ module _ (s : Site) (t : Machine) (wc : World Held) (calm : Calm s wc) (f : ℕ)
   own_shown from o = agrees_shown s from (cm from) (m (slot (layout s) from)) (fit.agree from (own_valid s f pr (below st) from o))
 
   store_static : (from first : Byte) (j o offset k n : ℕ) (r : Registers) (c : List Task) (held : Held) → cm from ≡ held → (m (slot (layout s) from) ≡ shown (layout s) held) × InPlace s held → Fits r → from ≡ behind first j → Points s r j (Fixed o) offset
-      → Has (block s f) n (stores_code first j (suc k)) → Left s f loops (n + length (stores_code first j (suc k))) c → is_own s.q f from 1 ≡ true → is_reached s.q f st (Fixed o) offset ≡ true → s.q.is_watched o ≡ true
+      → Has (block s f) n (stores_code first j (suc k)) → Left s f loops (n + length (stores_code first j (suc k))) c → is_own s.q f from 1 ≡ true → is_reached s.q f st (Fixed o) offset ≡ true → s.q.is_watched o ≡ true → s.lent (Fixed o) ≡ true
       → Went s (at s t (thread s f n ps r) m wc) (machine f pr (storing (Fixed o) (offset + 1) (behind from 1) k c) st (bytes.with_byte cm (Static o offset) held) (noted (WriteOf (cells.Static o offset) held) wc)) 1 6
-  store_static from first j o offset k n r c held he sh fits e p h l own re wa =
+  store_static from first j o offset k n r c held he sh fits e p h l own re wa lent =
       let va = reached_static o offset re in
       let lt = lt_of offset (static_bytes s.q o) va in
       store_byte (Fixed o) (Static o offset) (noted (WriteOf (cells.Static o offset) held) wc) (bytes.with_byte cm (Static o offset) held) from first j offset k n r c refl lt fits e p h l own (λ n1 r2 f2 w2 p2 h2 soon.
-      static_store s t wc calm f pr st loops ps cm m fit (operands.Register Indf) o offset held n1 r2 (storing (Fixed o) (offset + 1) (behind from 1) k c) (shared_indf true r2 o offset lt p2 wa) f2 (w2 ∙ sh.0, sh.1) h2 soon va refl (static_clear r2 o offset lt p2))
+      static_store s t wc calm f pr st loops ps cm m fit (operands.Register Indf) o offset held n1 r2 (storing (Fixed o) (offset + 1) (behind from 1) k c) (shared_indf true r2 o offset lt p2 wa) f2 (w2 ∙ sh.0, sh.1) h2 soon va refl (static_clear r2 o offset lent lt p2))
 
   store_frame : (from first : Byte) (j g offset k n : ℕ) (r : Registers) (c : List Task) → Fits r → from ≡ behind first j → Points s r j (FrameOf g) offset
-      → Has (block s f) n (stores_code first j (suc k)) → Left s f loops (n + length (stores_code first j (suc k))) c → is_own s.q f from 1 ≡ true → is_reached s.q f st (FrameOf g) offset ≡ true → s.lent g ≡ true
+      → Has (block s f) n (stores_code first j (suc k)) → Left s f loops (n + length (stores_code first j (suc k))) c → is_own s.q f from 1 ≡ true → is_reached s.q f st (FrameOf g) offset ≡ true → s.lent (FrameOf g) ≡ true
       → Went s (at s t (thread s f n ps r) m wc) (machine f pr (storing (FrameOf g) (offset + 1) (behind from 1) k c) st (bytes.with_byte cm (Frame g offset) (cm from)) wc) 1 6
   store_frame from first j g offset k n r c fits e p h l own re lent =
       let fr = reached_frame g offset re in
@@ -363,7 +363,7 @@ module _ (s : Site) (t : Machine) (wc : World Held) (calm : Calm s wc) (f : ℕ)
       private_goes s t wc calm f pr st loops ps cm m fit (Frame g offset) (cm from) (syms.Movwf (operands.Register Indf)) r2.w n1 r2 r2 (storing (FrameOf g) (offset + 1) (behind from 1) k c) pr cm f2 f2.w
       (subst (λ z. Shown s (cm from) z) (sym w2) (own_shown from own)) h2 refl (frame_clear r2 g offset lent fr.0 p2) refl (movwf_silent s wc.inside f n1 ps r2 m (operands.Register Indf) (slot (layout s) (Frame g offset)) (frame_indf true r2 g offset fr.0 fr.1 p2)) soon fit.passing fit.agree fr.2)
 
-  pub store_to_goes : (object : Object) (offset : ℕ) (from : Byte) (k n : ℕ) (r : Registers) (c : List Task) → Fits r → Storing s f loops r n object offset from k c → IsLent s object
+  pub store_to_goes : (object : Object) (offset : ℕ) (from : Byte) (k n : ℕ) (r : Registers) (c : List Task) → Fits r → Storing s f loops r n object offset from k c → s.lent object ≡ true
       → After s (one_if (nat_lt 0 k)) 6 (store_to (record { program = s.q; outside = s.o }) object offset from k c f pr st cm wc) (at s t (thread s f n ps r) m wc)
   unfolding memory_with after_write shown
   store_to_goes object offset from zero n r c fits (first, j, e, p, h, l) lent =
@@ -386,7 +386,7 @@ module _ (s : Site) (t : Machine) (wc : World Held) (calm : Calm s wc) (f : ℕ)
       by Unset q own re sh = tt
       by (Number x) q own re sh =
           when_after s 1 6 (s.q.is_watched o) (goes (storing (Fixed o) (offset + 1) (behind from 1) k c) f pr st (bytes.with_byte cm (Static o offset) (Number x)) (noted (WriteOf (cells.Static o offset) (Number x)) wc)) (at s t (thread s f n ps r) m wc) (λ wa.
-          store_static from first j o offset k n r c (Number x) q (sh, tt) fits e p h l own re wa)
+          store_static from first j o offset k n r c (Number x) q (sh, tt) fits e p h l own re wa lent)
       by (Part a b x) q own re sh =
           when_after s 1 6 (s.q.is_watched o) (goes (storing (Fixed o) (offset + 1) (behind from 1) k c) f pr st (bytes.with_byte cm (Static o offset) (Part a b x)) (noted (WriteOf (cells.Static o offset) (Part a b x)) wc)) (at s t (thread s f n ps r) m wc) (λ wa.
-          store_static from first j o offset k n r c (Part a b x) q sh fits e p h l own re wa)
+          store_static from first j o offset k n r c (Part a b x) q sh fits e p h l own re wa lent)

@@ -12,7 +12,7 @@ use Rattle.c_typed.specs.declared.calls.FnId.TheVariants as callee
 use Rattle.c_typed.specs.declared.calls.Helper.{Helper}
 use Rattle.call_graph.specs.Numbers.{handler_at, copy_of}
 use Rattle.call_graph.specs.declared.types.FnCopy.{FnCopy}
-use Rattle.core_code.specs.Bytes.{Held, Unset, Number, Part, Fixed, FrameOf}
+use Rattle.core_code.specs.Bytes.{Object, Held, Unset, Number, Part, Fixed, FrameOf}
 use Rattle.core_code.specs.Machine.{Program, Task, LoadFrom, StoreTo, core_moment}
 use Rattle.core_code.specs.Runs as core
 use Rattle.core_code.specs.Tree as trees
@@ -167,18 +167,18 @@ Selects =
     → IsSelected q copies bodies reaches g price sure → SelectionKeeps q g price sure
 
 -- ---- accesses through FSR
--- No general byte at which one of a static object or of a lent frame stands is hidden.
-pub record AreShown (l : DataLayout) (lent hidden : ℕ → Bool) : Type 0 where
-  pub objects : (n offset k : ℕ) → n < length l.objects → offset < (object l n).size → general_at (address_of l (bytes.Static n offset)) ≡ Some k → hidden k ≡ false
-  pub frames : (c offset k : ℕ) → lent c ≡ true → offset < (frame l c).size → general_at (address_of l (bytes.Frame c offset)) ≡ Some k → hidden k ≡ false
+-- No general byte at which one of an object stands that is lent, a static one or a frame, is hidden.
+pub record AreShown (l : DataLayout) (lent : Object → Bool) (hidden : ℕ → Bool) : Type 0 where
+  pub objects : (n offset k : ℕ) → lent (Fixed n) ≡ true → n < length l.objects → offset < (object l n).size → general_at (address_of l (bytes.Static n offset)) ≡ Some k → hidden k ≡ false
+  pub frames : (c offset k : ℕ) → lent (FrameOf c) ≡ true → offset < (frame l c).size → general_at (address_of l (bytes.Frame c offset)) ≡ Some k → hidden k ≡ false
 
--- the next task accesses no frame by a pointer but one that is lent
-pub record ReachesLent (lent : ℕ → Bool) (code : List Task) : Type 0 where
-  pub loads : (to : Byte) (c offset n : ℕ) (rest : List Task) → code ≡ LoadFrom to (FrameOf c) offset n ∷ rest → lent c ≡ true
-  pub stores : (c offset : ℕ) (from : Byte) (n : ℕ) (rest : List Task) → code ≡ StoreTo (FrameOf c) offset from n ∷ rest → lent c ≡ true
+-- the next task accesses no object by a pointer but one that is lent
+pub record ReachesLent (lent : Object → Bool) (code : List Task) : Type 0 where
+  pub loads : (to : Byte) (object : Object) (offset n : ℕ) (rest : List Task) → code ≡ LoadFrom to object offset n ∷ rest → lent object ≡ true
+  pub stores : (object : Object) (offset : ℕ) (from : Byte) (n : ℕ) (rest : List Task) → code ≡ StoreTo object offset from n ∷ rest → lent object ≡ true
 
 -- so at each moment up to n
-abbrev pub StaysLent : (ℕ → Bool) → Program → Outside → ℕ → Type 0
+abbrev pub StaysLent : (Object → Bool) → Program → Outside → ℕ → Type 0
 StaysLent lent q o n = (i : ℕ) → i ≤ n → ReachesLent lent (core_moment (record { program = q; outside = o }) i).code
 
 -- Each of the first n steps that carries out an instruction accesses no hidden byte through FSR. Nothing is said of one that enters the
@@ -186,13 +186,13 @@ StaysLent lent q o n = (i : ℕ) → i ≤ n → ReachesLent lent (core_moment (
 abbrev pub StaysOpen : (ℕ → Bool) → Setting → Entry → Outside → Machine → ℕ → Type 0
 StaysOpen hidden g e o t n = (i : ℕ) → i < n → is_due (settled o (sym_run g e o i t)).world ≡ false → is_open hidden g.program (running (settled o (sym_run g e o i t))) ≡ true
 
--- What selection promises where byte code accesses by pointers only static objects and lent frames: what it keeps, and that no step before
+-- What selection promises where byte code accesses by pointers only objects that are lent: what it keeps, and that no step before
 -- the moment that belongs to moment n of byte code goes to a hidden byte through FSR.
 abbrev pub SelectsOpen : Type 0
 SelectsOpen =
     (q : Program) (copies : List FnCopy) (bodies : List Body) (reaches : ℕ → ℕ → Bool) (g : Setting) (price sure : BlockName → ℕ → ℕ)
     → IsSelected q copies bodies reaches g price sure
-    → (lent hidden : ℕ → Bool) → AreShown g.program.layout lent hidden
+    → (lent : Object → Bool) (hidden : ℕ → Bool) → AreShown g.program.layout lent hidden
     → (o : Outside) → All (λ byte. byte < 256) o.input → (e : Entry) (r : Registers) (m : Memory) → AreEntries e → IsBegun q.first g.program.layout r m
     → (n : ℕ) → Goes (core.run_of (record { program = q; outside = o })) n → StaysLent lent q o n
     → (link : Follows (event_as (shown g.program.layout)) (core.run_of (record { program = q; outside = o })) (sym.weighed_of g price sure e o (sym_start g.program r m)) n)
