@@ -325,6 +325,8 @@ def instruction(x, own):
         return (h, (p[0],), p[1] == 1)
     if h == 'SelectPage':
         return (h, (p[0],), target(p[1]))
+    if h == 'Table':
+        return (h, p[0], (p[1],))
     raise ValueError(h)
 
 

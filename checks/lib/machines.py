@@ -184,9 +184,11 @@ class Symbolic(Machine):
     def __init__(self, shown, inputs, pairs, random, blocks, banked, prices):
         super().__init__()
         layout = layout_of(shown)
-        program = Record(block=Function(1, lambda name: blocks.get(name, ())), handler=NONE if shown.handler is None else some(shown.handler), layout=layout)
+        program = Record(block=Function(1, lambda name: blocks.get(name, ())), handler=NONE if shown.handler is None else some(shown.handler), layout=layout,
+                         tables=value(SYM + 'Programs', 'no_tables'))
         limits = {False: 8, True: 8}
-        self.setting = Record(program=program, banked=banked, page_of=Function(1, shown.page_of), limit=Function(1, lambda inside: limits[inside]))
+        self.setting = Record(program=program, banked=banked, page_of=Function(1, shown.page_of), limit=Function(1, lambda inside: limits[inside]),
+                              leaves=value(SYM + 'Registers', 'no_leaves'))
         self.outside = outside_of(inputs, pairs)
         self.step_of, self.cost_of = definition(SYM + 'Machine', 'sym_step'), definition(SYM + 'Cost', 'step_cost')
         self.show = lambda e: ('End',) if e[0] == 'Ended' else (e[0][:-2], e[1], e[2])

@@ -120,6 +120,7 @@ no_target own known (syms.Goto target) skip = absurd (true_false (sym skip))
 no_target own known (syms.Label label) skip = refl
 no_target own known (syms.SelectBank bit on) skip = refl
 no_target own known (syms.SelectPage bit target) skip = refl
+no_target own known (syms.Table table root) skip = absurd (true_false (sym skip))
 
 target_reached : (own : BlockName) (known : Known) (s : Sym) (skip : Bool) → is_skip s ≡ skip → (skip ≡ false → reaches_target own known (target_of s) ≡ true) → reaches_target own known (target_of s) ≡ true
 target_reached own known s true e given = no_target own known s e

@@ -76,6 +76,7 @@ one_most (syms.Goto target) is = refl
 one_most (syms.Label label) is = refl
 one_most (syms.SelectBank bit on) is = refl
 one_most (syms.SelectPage bit target) is = absurd (true_false is)
+one_most (syms.Table table root) is = refl
 
 both_cost_by : (one : ℕ) (d : Option ℕ) (same : Bool) → (if same then Some (Some one) else None) ≡ Some d → cost d ≤ 2
 both_cost_by one d true is =
@@ -148,6 +149,7 @@ one_word (syms.Call target) = omega arith
 one_word (syms.Goto target) = omega arith
 one_word (syms.SelectBank bit on) = omega arith
 one_word (syms.SelectPage bit target) = omega arith
+one_word (syms.Table table root) = omega arith
 
 unknown_words : (s : Sym) (already : Bool) → words_in (if already then [] else s ∷ []) ≤ 1
 unknown_words s true = omega arith

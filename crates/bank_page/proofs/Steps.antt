@@ -116,6 +116,7 @@ after_skip known (syms.Goto target) b skip same = absurd (true_false (sym skip))
 after_skip known (syms.Label label) b skip same = absurd (true_false (sym skip))
 after_skip known (syms.SelectBank bit on) b skip same = absurd (true_false (sym skip))
 after_skip known (syms.SelectPage bit target) b skip same = absurd (true_false (sym skip))
+after_skip known (syms.Table table root) b skip same = absurd (true_false (sym skip))
 
 seen_plain : (own : BlockName) (known : Known) (s : Sym) (b : Bool) → is_select s ≡ false → seen_after own known s b ≡ after known s b
 seen_plain own known s b is = ap (λ (c : Bool). if c then learned own known s else after known s b) is
@@ -133,6 +134,7 @@ label_right placed own known (syms.Call target) is = absurd (true_false (sym is)
 label_right placed own known (syms.Goto target) is = absurd (true_false (sym is))
 label_right placed own known (syms.SelectBank bit on) is = absurd (true_false (sym is))
 label_right placed own known (syms.SelectPage bit target) is = absurd (true_false (sym is))
+label_right placed own known (syms.Table table root) is = absurd (true_false (sym is))
 
 -- what is no select is lean
 plain_lean : (own : BlockName) (known : Known) (s : Sym) → is_select s ≡ false → is_lean own known s ≡ true
@@ -149,6 +151,7 @@ plain_lean own known (syms.SelectBank bank_bits.Irp on) is = refl
 plain_lean own known (syms.SelectBank bank_bits.Rp0 on) is = absurd (true_false is)
 plain_lean own known (syms.SelectBank bank_bits.Rp1 on) is = absurd (true_false is)
 plain_lean own known (syms.SelectPage bit target) is = absurd (true_false is)
+plain_lean own known (syms.Table table root) is = refl
 
 abbrev place_by : Bool → Bool → Bool → Bool → Place
 place_by true select label skip = if select then Broken else (if label then Behind else (if skip then Behind else Free))
@@ -215,6 +218,7 @@ knows_same own known (syms.Plain op) is = absurd (true_false (sym is))
 knows_same own known (syms.Call target) is = absurd (true_false (sym is))
 knows_same own known (syms.Goto target) is = absurd (true_false (sym is))
 knows_same own known (syms.Label label) is = absurd (true_false (sym is))
+knows_same own known (syms.Table table root) is = absurd (true_false (sym is))
 
 -- a select needs nothing, and is no skip
 select_right : (placed : Placed) (own : BlockName) (known : Known) (s : Sym) → is_select s ≡ true → (is_right placed own known s ≡ true) × (is_skip s ≡ false)
@@ -229,6 +233,7 @@ select_right placed own known (syms.Plain op) is = absurd (true_false (sym is))
 select_right placed own known (syms.Call target) is = absurd (true_false (sym is))
 select_right placed own known (syms.Goto target) is = absurd (true_false (sym is))
 select_right placed own known (syms.Label label) is = absurd (true_false (sym is))
+select_right placed own known (syms.Table table root) is = absurd (true_false (sym is))
 
 abbrev pub free_state : Known → State
 free_state known = record { known = known; behind = false }

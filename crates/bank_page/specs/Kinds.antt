@@ -2,6 +2,7 @@
 -- instruction set summary, STATUS, PCL and PCLATH).
 use Rattle.std.specs.Prelude.{Bool, true, false, Option, Some, None, if◌then◌else◌}
 use Rattle.core_code.specs.declared.code.Byte.{Byte}
+use Rattle.sym_code.specs.Programs.{own_place}
 use Rattle.sym_code.specs.Touching.{touches}
 use Rattle.sym_code.specs.declared.code.BitOperation.{BitOperation}
 use Rattle.sym_code.specs.declared.code.BitOperation.TheVariants as bit_ops
@@ -48,8 +49,9 @@ byte_touched (Some touched) = byte_named touched.0
 abbrev pub byte_of : Sym → Option Byte
 byte_of s = byte_touched (touches s)
 
--- the target whose page an instruction needs
+-- the target whose page an instruction needs: of a read of a table one in its own block
 abbrev pub target_of : Sym → Option Target
 target_of (syms.Call target) = Some target
 target_of (syms.Goto target) = Some target
+target_of (syms.Table table root) = Some own_place
 target_of _ = None

@@ -40,8 +40,16 @@ writes is_that (Some touched) = touched.1 && is_that touched.0
 abbrev pub writes_status : Sym → Bool
 writes_status s = writes is_status (touches s)
 
+abbrev pub reads_table : Sym → Bool
+reads_table (syms.Table table root) = true
+reads_table _ = false
+
+abbrev pub names_pclath : Sym → Bool
+names_pclath s = writes is_pclath (touches s)
+
+-- the words that read a table write it as well
 abbrev pub writes_pclath : Sym → Bool
-writes_pclath s = writes is_pclath (touches s)
+writes_pclath s = reads_table s || names_pclath s
 
 -- the instruction may change this bit of the register that it writes
 abbrev pub is_of_bit : Sym → ℕ → Bool

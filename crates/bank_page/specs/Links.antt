@@ -5,6 +5,7 @@ use Rattle.pic_map.specs.declared.Placed.{Placed}
 use Rattle.pic_world.specs.World.{Outside}
 use Rattle.run_links.specs.Runs.{Goes, Follows, IsSlow}
 use Rattle.sym_code.specs.Correct.{AreEntries}
+use Rattle.sym_code.specs.Cost.{time_of, times_in}
 use Rattle.sym_code.specs.Effect.{Setting, Memory}
 use Rattle.sym_code.specs.Machine.{Entry, sym_start}
 use Rattle.sym_code.specs.Programs.{block_in}
@@ -28,16 +29,12 @@ use Rattle.bank_page.specs.Selected.{Reaches, IsApart}
 abbrev pub price_from : ℕ → List Sym → ℕ → ℕ
 price_from selects [] n = 1
 price_from selects (s ∷ rest) zero =
-    if is_select s then price_from (selects + 1) rest zero else (if is_label s then 1 else 1 + selects)
+    if is_select s then price_from (selects + 1) rest zero else (if is_label s then 1 else time_of s + selects)
 price_from selects (s ∷ rest) (suc n) =
     if is_select s then price_from (selects + 1) rest (suc n) else price_from (if is_label s then selects else 0) rest n
 
 abbrev pub price_in : (BlockName → List Sym) → BlockName → ℕ → ℕ
 price_in block name n = price_from 0 (block name) n
-
--- each instruction of code with its selects is one
-abbrev pub one_each : BlockName → ℕ → ℕ
-one_each name n = 1
 
 -- ---- what is given
 -- Blocks with their selects: by what is known on every way through a block each access finds its bank selected, and each jump and
@@ -52,6 +49,7 @@ pub record HasSelects (given made : List SymBlock) (handler : Option ℕ) (place
   pub fit : Fit made at
   pub named : BlocksHaveAddresses placed made at
   pub limits : h.limit ≡ g.limit
+  pub leaves : h.leaves ≡ g.leaves
   pub same : (name : BlockName) → bare (block_in made name) ≡ block_in given name
   pub apart : All IsApart made
   pub reaches : All (Reaches placed) made
@@ -62,8 +60,8 @@ abbrev pub SelectsKeep : Setting → Setting → Type 0
 SelectsKeep g h =
     (o : Outside) (e : Entry) (r : Registers) (m : Memory) → AreEntries e → Fits r → (n : ℕ)
     → Goes (run_of g (price_in h.program.block) e o (sym_start g.program r m)) n
-    → (link : Follows (λ event. event) (run_of g (price_in h.program.block) e o (sym_start g.program r m)) (run_of h one_each e o (sym_start h.program r m)) n)
-    × IsSlow (λ event. event) (run_of g (price_in h.program.block) e o (sym_start g.program r m)) (run_of h one_each e o (sym_start h.program r m)) n link
+    → (link : Follows (λ event. event) (run_of g (price_in h.program.block) e o (sym_start g.program r m)) (run_of h (times_in h.program.block) e o (sym_start h.program r m)) n)
+    × IsSlow (λ event. event) (run_of g (price_in h.program.block) e o (sym_start g.program r m)) (run_of h (times_in h.program.block) e o (sym_start h.program r m)) n link
 
 -- what selects promise
 abbrev pub Chooses : Type 0

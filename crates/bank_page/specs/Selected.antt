@@ -73,7 +73,7 @@ abbrev pub all_pass : (Known → Sym → Bool) → BlockName → State → List 
 all_pass test own state [] = true
 all_pass test own state (s ∷ list) = test state.known s && all_pass test own (seen own state s) list
 
--- Each access to a byte that isn't in every bank, and each jump and call, finds its bank or page selected; of a block, from its
+-- Each access to a byte that isn't in every bank, and each jump, call and read of a table, finds its bank or page selected; of a block, from its
 -- front, where nothing is known.
 abbrev pub reaches_all : Placed → SymBlock → Bool
 reaches_all placed block = all_pass (is_right placed block.name) block.name front block.list.items

@@ -81,14 +81,29 @@ pub fn writes_status(sym: Sym) -> bool
     }
 }
 
-/// Whether an instruction writes PCLATH.
-pub fn writes_pclath(sym: Sym) -> bool
-    ensures { result ≡ stated.writes_pclath sym }
+fn reads_table(sym: Sym) -> bool
+    ensures { result ≡ stated.reads_table sym }
+{
+    match sym {
+        Sym::Table { .. } => true,
+        _ => false,
+    }
+}
+
+fn names_pclath(sym: Sym) -> bool
+    ensures { result ≡ stated.names_pclath sym }
 {
     match touches(sym) {
         None => false,
         Some((file, written)) => written && is_pclath(file),
     }
+}
+
+/// Whether an instruction writes PCLATH: the words that read a table do.
+pub fn writes_pclath(sym: Sym) -> bool
+    ensures { result ≡ stated.writes_pclath sym }
+{
+    reads_table(sym) || names_pclath(sym)
 }
 
 // Whether an instruction may change this bit of the register that it writes.

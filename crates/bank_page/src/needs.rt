@@ -10,7 +10,7 @@ use crate::known::{writes_pclath, writes_status};
 use code_place::address_of;
 use core_code::Byte;
 use pic_map::Placed;
-use sym_code::{Operand, Sym, Target, touches};
+use sym_code::{Label, Operand, Sym, Target, touches};
 
 /// What must be selected before an instruction: a bank, and the page of a target.
 #[derive(Clone, Copy, PartialEq, Eq)]
@@ -59,13 +59,14 @@ fn byte_of(sym: Sym) -> Option<Byte>
     }
 }
 
-// The target whose page an instruction needs.
+// The target whose page an instruction needs: of a read of a table one in its own block, as each inner label is.
 fn target_of(sym: Sym) -> Option<Target>
     ensures { result ≡ kinds.target_of sym }
 {
     match sym {
         Sym::Call(target) => Some(target),
         Sym::Goto(target) => Some(target),
+        Sym::Table { .. } => Some(Target::Label(Label::Inner(0))),
         _ => None,
     }
 }

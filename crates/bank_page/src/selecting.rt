@@ -156,8 +156,9 @@ pub fn put_made(blocks: &mut Vec<SymBlock>, block: SymBlock) -> Result<(), Alloc
 }
 
 /// The program with the selects that it needs: before each access to a byte that isn't in every bank, RP1 and RP0 name its
-/// bank, and before each jump and call, bits 4 and 3 of PCLATH name the page of its target. Each select sets one bit, and none
-/// sets what is known to be so in straight-line code. Over labels and calls nothing is known here.
+/// bank, and before each jump and call, bits 4 and 3 of PCLATH name the page of its target; of a read of a table, which is a
+/// call, that of its own block. Each select sets one bit, and none sets what is known to be so in straight-line code. Over
+/// labels and calls nothing is known here, and behind a read of a table nothing of the page.
 /// Between a skip and the instruction after it stands no select: what both need is selected before the skip.
 ///
 /// There is no such place for them where a skip and what stands after it need two banks, where a label or nothing stands after a

@@ -4,7 +4,8 @@ use Rattle.std.proofs.Math.Path.{fun_ext}
 use Rattle.std.proofs.lemmas.List.Elements.{All-nil, All-cons}
 use Rattle.pic_map.specs.declared.Placed.{Placed}
 use Rattle.sym_code.specs.Effect.{Setting}
-use Rattle.sym_code.specs.Programs.{Program, block_in}
+use Rattle.sym_code.specs.Programs.{Program, block_in, no_tables}
+use Rattle.sym_code.specs.Registers.{Spoiled}
 use Rattle.sym_code.specs.declared.code.BlockName.{BlockName}
 use Rattle.sym_code.specs.declared.code.Sym.{Sym}
 use Rattle.sym_code.specs.declared.code.SymBlock.{SymBlock}
@@ -27,7 +28,7 @@ keeps x sound o e r m entries fits n goes = (follows x sound e o r m n goes, slo
 
 module _ (given made : List SymBlock) (handler : Option ℕ) (placed : Placed) (at : List ℕ) (facts : Facts) (g h : Setting) (has : HasFlow given made handler placed at facts g h) where
   abbrev site : Site
-  site = record { made = block_in made; handler = handler; placed = placed; pages = page_of made at; other = g.page_of; limit = g.limit; facts = facts }
+  site = record { made = block_in made; handler = handler; placed = placed; pages = page_of made at; other = g.page_of; limit = g.limit; tables = no_tables; leaves = g.leaves; facts = facts }
 
   later : (is_open_at facts handler && all_lead facts made) ≡ true
   later = both_last (is_open facts 0) (is_open_at facts handler && all_lead facts made) has.consistent
@@ -47,17 +48,19 @@ module _ (given made : List SymBlock) (handler : Option ℕ) (placed : Placed) (
 
   given_setting : plain_setting site ≡ g
   given_setting =
-      let f : Program → Bool → Setting = λ p b. record { program = p; banked = b; page_of = g.page_of; limit = g.limit } in
-      let q : (BlockName → List Sym) → Program = λ block. record { block = block; handler = handler; layout = layout_of placed } in
+      let f : Program → Bool → Setting = λ p b. record { program = p; banked = b; page_of = g.page_of; limit = g.limit; leaves = g.leaves } in
+      let q : (BlockName → List Sym) → Program = λ block. record { block = block; handler = handler; layout = layout_of placed; tables = no_tables } in
       ap (λ (block : BlockName → List Sym). f (q block) false) (fun_ext has.same) ∙ ap (λ (p : Program). f p false) (sym has.given_code) ∙ ap (f g.program) (sym has.without)
 
   made_setting : banked_setting site ≡ h
   made_setting =
-      let f : Program → Bool → (BlockName → ℕ) → (Bool → ℕ) → Setting = λ p b page limit. record { program = p; banked = b; page_of = page; limit = limit } in
-      ap (λ (p : Program). f p true (page_of made at) g.limit) (sym has.made_code)
-      ∙ ap (λ (b : Bool). f h.program b (page_of made at) g.limit) (sym has.with)
-      ∙ ap (λ (page : BlockName → ℕ). f h.program h.banked page g.limit) (sym has.pages)
-      ∙ ap (f h.program h.banked h.page_of) (sym has.limits)
+      let f : Program → Bool → (BlockName → ℕ) → (Bool → ℕ) → (ℕ → ℕ → Spoiled) → Setting =
+      λ p b page limit leaves. record { program = p; banked = b; page_of = page; limit = limit; leaves = leaves } in
+      ap (λ (p : Program). f p true (page_of made at) g.limit g.leaves) (sym has.made_code)
+      ∙ ap (λ (b : Bool). f h.program b (page_of made at) g.limit g.leaves) (sym has.with)
+      ∙ ap (λ (page : BlockName → ℕ). f h.program h.banked page g.limit g.leaves) (sym has.pages)
+      ∙ ap (λ (limit : Bool → ℕ). f h.program h.banked h.page_of limit g.leaves) (sym has.limits)
+      ∙ ap (f h.program h.banked h.page_of h.limit) (sym has.leaves)
 
   chosen : SelectsKeep g h
   chosen = subst (λ (s : Setting). SelectsKeep s h) given_setting (subst (λ (s : Setting). SelectsKeep (plain_setting site) s) made_setting (keeps site sound))
@@ -83,6 +86,7 @@ flows_of given made handler placed at g h has = record {
   fit = has.fit;
   named = has.named;
   limits = has.limits;
+  leaves = has.leaves;
   same = has.same;
   apart = has.apart;
   mates = λ bit name. refl;

@@ -18,7 +18,7 @@ use Rattle.bank_page.specs.declared.needs.Needs.{Needs}
 use Rattle.bank_page.specs.declared.selecting.State.{State}
 use Rattle.bank_page.proofs.Sizes.{extra, chain_cost, chain_cost_step, debt, needs_cost, cost_of_needs, count_bank, count_page, one_most}
 use Rattle.bank_trace.proofs.Puts.{never, count_of, after_one, priced_first, priced_later, sum_same, sum_shift}
-use Rattle.bank_trace.proofs.Straight.{has_none, none_first, none_later, straight_first, straight_last, straight_later}
+use Rattle.bank_trace.proofs.Straight.{has_none, none_first, none_later, straight_once, straight_first, straight_last, straight_later}
 
 -- ---- the selects for some needs
 unknown_few : (s : Sym) (c : Bool) → length (if c then [] else s ∷ []) ≤ 1
@@ -125,7 +125,7 @@ module _ (placed : Placed) (own : BlockName) where
       let later = dear_front part rest next (none_later s (part ++ rest) n) (straight_later s part e) in
       let needs = needs_in placed (s ∷ part ++ rest) in
       let behind = ap (λ (b : Bool). debt b part) (behind_is (is_select s) (st.behind || is_label s) st s needs no_select) ∙ debt_is (is_skip s) part in
-      let first = priced_first placed own st s (part ++ rest) no_select (straight_first s part e) in
+      let first = priced_first placed own st s (part ++ rest) no_select (straight_first s part e) (straight_once s part e) in
       let others = sum_later st s (part ++ rest) part no_select in
       let few = count_few st s (part ++ rest) (is_label s) needs refl in
       let front = chain_front s part rest e (none_front (s ∷ part) rest n) in

@@ -4,13 +4,14 @@ use Rattle.std.proofs.lemmas.Bool.{cases_lt}
 use Rattle.pic_world.specs.World.{Outside, Happening, arrived, world_at_start}
 use Rattle.pic_world.proofs.WorldLaws.{arrived_trace}
 use Rattle.run_links.specs.Runs.{Run, Goes, Follows, IsSlow}
+use Rattle.sym_code.specs.Cost.{times_in}
 use Rattle.sym_code.specs.Effect.{Memory}
 use Rattle.sym_code.specs.Machine.{Machine, Entry, sym_run, sym_start}
 use Rattle.sym_code.specs.Programs.{Position, front}
 use Rattle.sym_code.specs.Registers.{Registers}
 use Rattle.sym_code.specs.Runs.{run_of}
 use Rattle.sym_code.specs.declared.code.BlockName.TheVariants.{Copy}
-use Rattle.bank_page.specs.Links.{price_in, one_each}
+use Rattle.bank_page.specs.Links.{price_in}
 use Rattle.bank_trace.proofs.Banks.{bits_of}
 use Rattle.bank_trace.proofs.Sites.{Site, IsSound, without, with, plain_setting, banked_setting}
 use Rattle.bank_trace.proofs.Places.{under_front, open_front}
@@ -37,7 +38,7 @@ module _ (x : Site) (sound : IsSound x) (e : Entry) (o : Outside) (r : Registers
   a = run_of (plain_setting x) (price_in x.made) e o first
 
   abbrev b : Run (Happening ℕ)
-  b = run_of (banked_setting x) one_each e o last
+  b = run_of (banked_setting x) (times_in x.made) e o last
 
   abbrev SimAt : ℕ → ℕ → Type 0
   SimAt = Sim x sound e o first last

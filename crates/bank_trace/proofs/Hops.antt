@@ -144,7 +144,7 @@ module _ (x : Site) (sound : IsSound x) (e : Entry) (o : Outside) (first last : 
 
   module _ (i m : ℕ) (goes : one_goes i ≡ true) (h : Ready i m) where
     hop_last : Sim (suc i) (suc h.moment) → other_goes x sound e o first last h.moment ≡ true
-        → step_cost_at (banked_setting x) banked_prices (banked_machine h.joint) + (if is_due h.joint.world then 0 else before_of x (running_twin h.joint).rest (running_twin h.joint).at) ≤ step_cost_at (plain_setting x) (plain_prices x) (plain_machine x h.joint)
+        → step_cost_at (banked_setting x) (banked_prices x) (banked_machine h.joint) + (if is_due h.joint.world then 0 else before_of x (running_twin h.joint).rest (running_twin h.joint).at) ≤ step_cost_at (plain_setting x) (plain_prices x) (plain_machine x h.joint)
         → step_cost_at (plain_setting x) least_prices (plain_machine x h.joint) ≤ step_cost_at (banked_setting x) least_prices (banked_machine h.joint)
         → Hop i m (suc h.moment)
     hop_last sim on most least =
@@ -152,7 +152,7 @@ module _ (x : Site) (sound : IsSound x) (e : Entry) (o : Outside) (first last : 
         let most_led = h.most in
         let least_led = h.least in
         let a = cost_next (plain_setting x) e o first (plain_prices x) i (plain_machine x h.joint) h.plain in
-        let b = cost_next (banked_setting x) e o last banked_prices h.moment (banked_machine h.joint) h.banked in
+        let b = cost_next (banked_setting x) e o last (banked_prices x) h.moment (banked_machine h.joint) h.banked in
         let c = cost_next (plain_setting x) e o first least_prices i (plain_machine x h.joint) h.plain in
         let d = cost_next (banked_setting x) e o last least_prices h.moment (banked_machine h.joint) h.banked in
         record {
@@ -169,7 +169,7 @@ module _ (x : Site) (sound : IsSound x) (e : Entry) (o : Outside) (first last : 
     stops k = sym (ap goes_on (goes_at (plain_setting x) e o first i (plain_machine x h.joint) Stops h.plain k)) ∙ goes
 
     by_outcome : Outcome x (sym_step_at (plain_setting x) e o (plain_machine x h.joint)) (sym_step_at (banked_setting x) e o (banked_machine h.joint))
-        (step_cost_at (plain_setting x) (plain_prices x) (plain_machine x h.joint)) (step_cost_at (banked_setting x) banked_prices (banked_machine h.joint))
+        (step_cost_at (plain_setting x) (plain_prices x) (plain_machine x h.joint)) (step_cost_at (banked_setting x) (banked_prices x) (banked_machine h.joint))
         (step_cost_at (plain_setting x) least_prices (plain_machine x h.joint)) (step_cost_at (banked_setting x) least_prices (banked_machine h.joint))
         (if is_due h.joint.world then 0 else before_of x (running_twin h.joint).rest (running_twin h.joint).at)
         → Hop i m (suc h.moment)
@@ -204,7 +204,7 @@ module _ (x : Site) (sound : IsSound x) (e : Entry) (o : Outside) (first last : 
   -- ---- rest
   rests_by : (i m : ℕ) (h : Ready i m) → is_still (sym_step (plain_setting x) e o (one x sound e o first last i)) ≡ true
       → Outcome x (sym_step_at (plain_setting x) e o (plain_machine x h.joint)) (sym_step_at (banked_setting x) e o (banked_machine h.joint))
-      (step_cost_at (plain_setting x) (plain_prices x) (plain_machine x h.joint)) (step_cost_at (banked_setting x) banked_prices (banked_machine h.joint))
+      (step_cost_at (plain_setting x) (plain_prices x) (plain_machine x h.joint)) (step_cost_at (banked_setting x) (banked_prices x) (banked_machine h.joint))
       (step_cost_at (plain_setting x) least_prices (plain_machine x h.joint)) (step_cost_at (banked_setting x) least_prices (banked_machine h.joint))
       (if is_due h.joint.world then 0 else before_of x (running_twin h.joint).rest (running_twin h.joint).at)
       → is_still (sym_step (banked_setting x) e o (other x sound e o first last m)) ≡ true

@@ -1,15 +1,19 @@
 -- One instruction, with its selects and without them.
-use Rattle.std.proofs.Common.{◌≡◌, ℕ, ◌+◌, ◌*◌, Bool, true, false, ◌&&◌, nat_eq, if◌then◌else◌, List, Option, Some, None, slice_get, refl, sym, subst}
+use Rattle.std.proofs.Common.{◌≡◌, ℕ, ◌+◌, ◌*◌, Bool, true, false, ◌&&◌, nat_eq, if◌then◌else◌, List, Option, Some, None, slice_get, refl, sym, subst, ◌%◌, nat_lt, length, map, ap}
 use Rattle.std.proofs.lemmas.Bool.{eq-eqb}
 use Rattle.pic_world.specs.Bits.{bit, set_bit, clear_bit, truth}
-use Rattle.sym_code.specs.Effect.{Memory, Access, Effect, Stuck, goes, quiet, access_of, file_to_w, file_to_file, store, change, test, file_bit, flag, put_flag, is_in_page, goto, call, literal, literal_value, plain, effect_of}
+use Rattle.sym_code.specs.Effect.{Memory, Access, Effect, Stuck, goes, quiet, access_of, file_to_w, file_to_file, store, change, test, file_bit, flag, put_flag, is_in_page, goto, call, literal, literal_value, plain, effect_of, silent_byte, result_byte, number_of, table_byte, brought, looked_up, look_up}
 use Rattle.sym_code.specs.Layout.{all_near}
-use Rattle.sym_code.specs.Programs.{Position, block_of, behind}
-use Rattle.sym_code.specs.Registers.{Registers, after_row, literal_row, status_bit, with_status_bit}
+use Rattle.sym_code.specs.Programs.{Position, block_of, behind, own_place}
+use Rattle.sym_code.specs.Registers.{Registers, after_row, literal_row, status_bit, with_status_bit, Spoiled, spoiled}
+use Rattle.std.proofs.lemmas.List.{length-map}
+use Rattle.pic_world.specs.declared.Root.{Root}
+use Rattle.core_code.specs.declared.code.Byte.TheVariants as bytes
 use Rattle.sym_code.specs.Touching.{touches}
 use Rattle.sym_code.specs.declared.code.BankBit.TheVariants.{Rp0, Rp1, Irp}
 use Rattle.sym_code.specs.declared.code.BitOperation.{BitOperation}
 use Rattle.sym_code.specs.declared.code.BitOperation.TheVariants.{Bcf, Bsf, Btfsc, Btfss}
+use Rattle.sym_code.specs.declared.code.BlockName.{BlockName}
 use Rattle.sym_code.specs.declared.code.Into.TheVariants as into
 use Rattle.sym_code.specs.declared.code.Literal.{Literal}
 use Rattle.sym_code.specs.declared.code.LiteralOperation.{LiteralOperation}
@@ -29,16 +33,16 @@ use Rattle.bank_page.specs.Selected.{reaches_byte}
 use Rattle.bank_page.specs.declared.known.Known.{Known}
 use Rattle.flow_facts.specs.Facts.{Fact, gives, at_target}
 use Rattle.flow_facts.specs.Walk.{finds_target, is_right, holds_of, all_hold, leaves, leads}
-use Rattle.bank_trace.proofs.Lists.{is_plain, never}
+use Rattle.bank_trace.proofs.Lists.{is_plain, calm_at, never}
 use Rattle.bank_trace.proofs.Facts.{spot_front, passes_at}
 use Rattle.bank_trace.proofs.Holding.{Bits, Holds, HoldsFact, holds_given, both_first, both_last, page_is}
 use Rattle.bank_trace.proofs.Banks.{over, row_over, with_status_over}
 use Rattle.bank_trace.proofs.Sites.{Site, IsSound, IsNamed, without, with, plain_setting, banked_setting}
 use Rattle.bank_trace.proofs.Access.{access_same}
-use Rattle.bank_trace.proofs.Places.{under, fact_at, goes_past, AreBack, Onto, onto}
-use Rattle.bank_trace.proofs.Twins.{Does, GetsStuck}
+use Rattle.bank_trace.proofs.Places.{under, under_behind, block_behind, fact_at, fine_read, goes_past, AreBack, Onto, onto}
+use Rattle.bank_trace.proofs.Twins.{Quietly, Does, GetsStuck, Done}
 use Rattle.bank_trace.proofs.Rows.{one, other, goes_does, store_does, change_does, test_does, put_flag_does, test_flag_does, file_to_w_does, file_to_file_does}
-use Rattle.bank_trace.proofs.Jumps.{goto_does, call_does, back_does, straight_does, clear_does}
+use Rattle.bank_trace.proofs.Jumps.{goto_does, call_if, call_does, back_does, straight_does, clear_does}
 
 module _ (x : Site) (sound : IsSound x) (q : Position) (stack : List Position) (r : Registers) (b : Bits) (open_stack : AreBack x q.block stack) (m : Memory) (inside : Bool) (known : Known) (is : fact_at x q ≡ Some known) (holds : Holds x.pages known b) where
   -- an access, as both make it
@@ -138,6 +142,44 @@ module _ (x : Site) (sound : IsSound x) (q : Position) (stack : List Position) (
   plain_does Retfie fetch = GetsStuck refl
   plain_does Return fetch = back_does x q r b r stack stack open_stack (expected (x.facts.back q.block) (lead (syms.Plain Return) fetch refl))
 
+  -- ---- a read of a table
+  -- the bits of the page behind it are those that its words leave
+  brought_does : (table : ℕ) (root : Root) → slice_get (x.made q.block) q.index ≡ Some (syms.Table table root) → (left : Spoiled) (v : Option ℕ)
+      → Does x (brought (plain_setting x) (under x q) (one x q stack r b open_stack) left v) (brought (banked_setting x) q (other x q stack r b open_stack) left v)
+  brought_does table root fetch left None = GetsStuck refl
+  brought_does table root fetch left (Some v) =
+      let s : Registers = record (spoiled left r) { w = v % 256 } in
+      let bits : Bits = record b { low = truth left.page_low; high = truth left.page_high } in
+      let calm : calm_at (slice_get (x.made q.block) q.index) ≡ true = ap calm_at fetch in
+      Done (Quietly (record { rest = None; at = Some (behind (with x) q); stack = stack; registers = s; bits = bits }) None)
+      (record {
+        at = fine_read x sound q table root known b (truth left.page_low) (truth left.page_high) fetch is holds;
+        stack = subst (λ (n : BlockName). AreBack x n stack) (sym (block_behind x q)) open_stack;
+      })
+      (ap (λ (p : Position). quiet (record { rest = None; at = Some p; stack = map (under x) stack; registers = s })) (under_behind x q calm))
+      refl refl
+
+  looked_up_does : (table : ℕ) (root : Root) → slice_get (x.made q.block) q.index ≡ Some (syms.Table table root) → (k : Option ℕ)
+      → Does x (looked_up (plain_setting x) (under x q) (one x q stack r b open_stack) table k) (looked_up (banked_setting x) q (other x q stack r b open_stack) table k)
+  looked_up_does table root fetch None = GetsStuck refl
+  looked_up_does table root fetch (Some k) = brought_does table root fetch (x.leaves table k) (table_byte (x.tables table) k)
+
+  -- both results stand in every bank
+  look_up_does : (table : ℕ) (root : Root) → slice_get (x.made q.block) q.index ≡ Some (syms.Table table root)
+      → Does x (look_up (plain_setting x) inside (under x q) (one x q stack r b open_stack) m table root) (look_up (banked_setting x) inside q (other x q stack r b open_stack) m table root)
+  look_up_does table root fetch =
+      let low : Operand = operands.Byte (bytes.Result root 0) in
+      let high : Operand = operands.Byte (bytes.Result root 1) in
+      let e : Option ℕ → Option ℕ → Effect = λ v w. looked_up (plain_setting x) (under x q) (one x q stack r b open_stack) table (number_of v w) in
+      let f : Option ℕ → Option ℕ → Effect = λ v w. looked_up (banked_setting x) q (other x q stack r b open_stack) table (number_of v w) in
+      let second = result_byte (plain_setting x) inside r m root 1 in
+      let banked_second = result_byte (banked_setting x) inside (over b r) m root 1 in
+      call_if x q r b (nat_lt (length (map (under x) stack)) (x.limit inside)) (nat_lt (length stack) (x.limit inside)) (ap (λ n. nat_lt n (x.limit inside)) (length-map stack (under x)))
+      (e (result_byte (plain_setting x) inside r m root 0) second) (f (result_byte (banked_setting x) inside (over b r) m root 0) banked_second)
+      (by_access low false refl refl (λ a. e (silent_byte m a) second) (λ a. f (silent_byte m a) banked_second)
+      (λ a. by_access high false refl refl (λ c. e (silent_byte m a) (silent_byte m c)) (λ c. f (silent_byte m a) (silent_byte m c))
+      (λ c. looked_up_does table root fetch (number_of (silent_byte m a) (silent_byte m c)))))
+
   pub row_does : (s : Sym) → slice_get (x.made q.block) q.index ≡ Some s → is_plain s ≡ true → DoesAt s
   unfolding effect_of
   row_does (syms.File op operand into.W) fetch p =
@@ -178,3 +220,6 @@ module _ (x : Site) (sound : IsSound x) (q : Position) (stack : List Position) (
   row_does (syms.SelectBank Rp0 on) fetch p = never p
   row_does (syms.SelectBank Rp1 on) fetch p = never p
   row_does (syms.SelectPage bit target) fetch p = never p
+  row_does (syms.Table table root) fetch p =
+      in_page own_place (reach_target (syms.Table table root) fetch p) (look_up (plain_setting x) inside (under x q) (one x q stack r b open_stack) m table root) (look_up (banked_setting x) inside q (other x q stack r b open_stack) m table root)
+      (look_up_does table root fetch)

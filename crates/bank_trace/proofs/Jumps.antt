@@ -67,7 +67,7 @@ module _ (x : Site) (q : Position) (r : Registers) (b : Bits) where
   goto_does sound inside stack h (targets.Label (Inner n)) there left = jump_to_place q.block stack h (targets.Label (Inner n)) (fine_place x sound q (targets.Label (Inner n)) b there)
   goto_does sound inside stack h (targets.Block name) there left = jump_to_place name stack (back_more x q.block name stack left h) (targets.Block name) (fine_place x sound q (targets.Block name) b there)
 
-  call_if : (c d : Bool) → c ≡ d → (e f : Effect) → Does x e f → Does x (if c then e else Stuck) (if d then f else Stuck)
+  pub call_if : (c d : Bool) → c ≡ d → (e f : Effect) → Does x e f → Does x (if c then e else Stuck) (if d then f else Stuck)
   call_if true true is e f h = h
   call_if false d is e f h = GetsStuck refl
   call_if true false is e f h = never (sym is)

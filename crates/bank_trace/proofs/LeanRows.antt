@@ -11,10 +11,10 @@ use Rattle.sym_code.specs.declared.code.LiteralOperation.TheVariants as literals
 use Rattle.sym_code.specs.declared.code.Operand.TheVariants as operands
 use Rattle.sym_code.specs.declared.code.Sym.{Sym}
 use Rattle.sym_code.specs.declared.code.Sym.TheVariants as syms
-use Rattle.math_helpers.specs.Shape.{is_skip, is_straight}
+use Rattle.math_helpers.specs.Shape.{is_skip, breaks, is_straight}
 use Rattle.select_wide.specs.Links.{IsNearByte, IsNear, AreNear}
 use Rattle.lean_code.specs.Changes.{is_retlw}
-use Rattle.lean_code.specs.Rows.{Note, Act, Keeps, Drops, Puts, Narrows, narrowed, Clears, cleared, Reads, Tests, FlagName, Carry, Zero, tests_flag, byte_before, reads_before, Row, At, old_of, olds, put_by, in_front, puts, is_label, is_none}
+use Rattle.lean_code.specs.Rows.{Note, Act, Keeps, Drops, Puts, Narrows, narrowed, Clears, cleared, Reads, Tests, FlagName, Carry, Zero, tests_flag, byte_before, reads_before, Row, At, old_of, olds, put_by, in_front, puts, is_none}
 use Rattle.lean_code.specs.Steady.{skips, next_stays, next_leads_on, is_steady_skip, puts_return, is_steady_row, is_steady}
 
 pub never : {A : Type 0} → false ≡ true → A
@@ -54,12 +54,14 @@ fewer (row ∷ rows) =
     omega arith
 
 -- ---- straight instructions
-pub straight_first : (s : Sym) (rest : List Sym) → is_straight (s ∷ rest) ≡ true → is_label s ≡ false
+pub straight_first : (s : Sym) (rest : List Sym) → is_straight (s ∷ rest) ≡ true → breaks s ≡ false
 straight_first (syms.Label label) rest e = never e
+straight_first (syms.Table table root) rest e = never e
 straight_first s rest e = refl
 
 last_by : (s : Sym) → is_straight (s ∷ []) ≡ true → not (is_skip s) ≡ true
 last_by (syms.Label label) e = never e
+last_by (syms.Table table root) e = never e
 last_by s e = e
 
 pub not_true : (b : Bool) → not b ≡ true → b ≡ false
@@ -72,18 +74,21 @@ straight_last s e = not_true (is_skip s) (last_by s e)
 pub straight_later : (s : Sym) (rest : List Sym) → is_straight (s ∷ rest) ≡ true → is_straight rest ≡ true
 straight_later s [] e = refl
 straight_later (syms.Label label) (next ∷ rest) e = never e
+straight_later (syms.Table table root) (next ∷ rest) e = never e
 straight_later s (next ∷ rest) e = e
 
-straight_more : (s next : Sym) (rest : List Sym) → is_label s ≡ false → is_straight (next ∷ rest) ≡ true → is_straight (s ∷ next ∷ rest) ≡ true
+straight_more : (s next : Sym) (rest : List Sym) → breaks s ≡ false → is_straight (next ∷ rest) ≡ true → is_straight (s ∷ next ∷ rest) ≡ true
 straight_more (syms.Label label) next rest l e = never (sym l)
+straight_more (syms.Table table root) next rest l e = never (sym l)
 straight_more s next rest l e = e
 
-straight_one : (s : Sym) → is_label s ≡ false → is_skip s ≡ false → is_straight (s ∷ []) ≡ true
+straight_one : (s : Sym) → breaks s ≡ false → is_skip s ≡ false → is_straight (s ∷ []) ≡ true
 straight_one (syms.Label label) l e = never (sym l)
+straight_one (syms.Table table root) l e = never (sym l)
 straight_one s l e = ap not e
 
 -- ---- what is made of one
-narrowed_label : (s : Sym) → is_label s ≡ false → is_label (narrowed s) ≡ false
+narrowed_label : (s : Sym) → breaks s ≡ false → breaks (narrowed s) ≡ false
 narrowed_label (syms.File op operand to) l = refl
 narrowed_label s l = l
 
@@ -93,7 +98,7 @@ narrowed_skip (syms.File Incfsz operand to) = refl
 narrowed_skip (syms.File op operand to) = refl
 narrowed_skip s = refl
 
-cleared_label : (s : Sym) → is_label s ≡ false → is_label (cleared s) ≡ false
+cleared_label : (s : Sym) → breaks s ≡ false → breaks (cleared s) ≡ false
 cleared_label (syms.Movwf operand) l = refl
 cleared_label s l = l
 
@@ -101,7 +106,7 @@ cleared_skip : (s : Sym) → is_skip (cleared s) ≡ is_skip s
 cleared_skip (syms.Movwf operand) = refl
 cleared_skip s = refl
 
-read_label : (n : ℕ) (s : Sym) → is_label s ≡ false → is_label (reads_before n s) ≡ false
+read_label : (n : ℕ) (s : Sym) → breaks s ≡ false → breaks (reads_before n s) ≡ false
 read_label n (syms.File op operand to) l = refl
 read_label n (syms.Bit op operand bit) l = refl
 read_label n s l = l
@@ -115,7 +120,7 @@ read_skip n (syms.Bit Btfss operand bit) = refl
 read_skip n (syms.Bit op operand bit) = refl
 read_skip n s = refl
 
-test_label : (flag : FlagName) (turned : Bool) (s : Sym) → is_label s ≡ false → is_label (tests_flag flag turned s) ≡ false
+test_label : (flag : FlagName) (turned : Bool) (s : Sym) → breaks s ≡ false → breaks (tests_flag flag turned s) ≡ false
 test_label flag turned (syms.Bit op operand bit) l = refl
 test_label flag turned s l = l
 
@@ -166,7 +171,7 @@ puts_no_return s op n said rest e = by_skip (skips s) (steady_first s (Puts op n
     by_skip false e = not_true (is_retlw op) e
 
 -- ---- straight rows
-put_front : (t : Sym) (made : List Sym) → is_label t ≡ false → (made ≡ [] → is_skip t ≡ false) → is_straight made ≡ true → is_straight (t ∷ made) ≡ true
+put_front : (t : Sym) (made : List Sym) → breaks t ≡ false → (made ≡ [] → is_skip t ≡ false) → is_straight made ≡ true → is_straight (t ∷ made) ≡ true
 put_front t [] l e f = straight_one t l (e refl)
 put_front t (u ∷ made) l e f = straight_more t u made l f
 

@@ -12,7 +12,7 @@ use Rattle.sym_code.specs.Runs.{goes_on, sym_goes}
 use Rattle.sym_code.specs.Selects.{is_select}
 use Rattle.sym_code.specs.declared.code.Sym.{Sym}
 use Rattle.bank_trace.proofs.Lists.{select_at, never}
-use Rattle.bank_trace.proofs.Prices.{selects_before, selects_ahead, ahead_some}
+use Rattle.bank_trace.proofs.Prices.{select_time, selects_before, selects_ahead, ahead_some}
 use Rattle.bank_trace.proofs.Holding.{Bits}
 use Rattle.bank_trace.proofs.Sites.{Site, IsSound, without, plain_setting, banked_setting}
 use Rattle.bank_trace.proofs.Places.{under, under_lands}
@@ -58,7 +58,7 @@ module _ (x : Site) (sound : IsSound x) (e : Entry) (o : Outside) (first last : 
   one_most i = cost_by (plain_setting x) (plain_prices x) e o i first
 
   abbrev pub other_most : ℕ → ℕ
-  other_most m = cost_by (banked_setting x) banked_prices e o m last
+  other_most m = cost_by (banked_setting x) (banked_prices x) e o m last
 
   abbrev pub one_least : ℕ → ℕ
   one_least i = cost_by (plain_setting x) least_prices e o i first
@@ -132,7 +132,7 @@ module _ (x : Site) (sound : IsSound x) (e : Entry) (o : Outside) (first last : 
         let passed = select_before x q stack r b s fetch select in
         let most = led.most in
         let least = led.least in
-        let one_more = goal_cost banked_prices refl in
+        let one_more = goal_cost (banked_prices x) (select_time (slice_get (x.made q.block) q.index) (ap select_at fetch ∙ select)) in
         let one_least_more = goal_cost least_prices refl in
         record {
           joint = led.joint;

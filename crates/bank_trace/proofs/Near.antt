@@ -27,7 +27,7 @@ use Rattle.bank_page.specs.declared.needs.Needs.{Needs}
 use Rattle.bank_page.specs.declared.selecting.State.{State}
 use Rattle.bank_page.proofs.Chains.{needs_step}
 use Rattle.bank_trace.proofs.Puts.{never, count_of, count, after_one, priced_first, priced_later, sum_same, sum_shift}
-use Rattle.bank_trace.proofs.Straight.{has_none, none_first, none_later, straight_first, straight_last, straight_later}
+use Rattle.bank_trace.proofs.Straight.{has_none, none_first, none_later, straight_once, straight_first, straight_last, straight_later}
 use Rattle.bank_trace.proofs.Dear.{none_front, sum_later, nothing_taken}
 use Rattle.bank_trace.proofs.Owned.{and_none, IsTame, AllTame, tame_of}
 use Rattle.bank_trace.proofs.Meets.{Meets, meets_none, meets_after, few_missing, meets_with}
@@ -148,7 +148,7 @@ module _ (placed : Placed) (own : BlockName) (bank c size : ℕ) (frame_bank : (
       let no_select = none_first s (part ++ rest) none in
       let label = straight_first s part straight in
       let next = after_one placed own st s (part ++ rest) no_select in
-      let first = priced_first placed own st s (part ++ rest) no_select label in
+      let first = priced_first placed own st s (part ++ rest) no_select label (straight_once s part straight) in
       let others = sum_later placed own st s (part ++ rest) part no_select in
       let number : count placed own st s (part ++ rest) no_select ≡ 0 =
       ap (λ (b : Bool). count_of b own st (needs_in placed (s ∷ part ++ rest))) label ∙ ap (count_of false own st) is in
@@ -164,7 +164,7 @@ module _ (placed : Placed) (own : BlockName) (bank c size : ℕ) (frame_bank : (
       let no_select = none_first s (part ++ rest) none in
       let label = straight_first s part straight in
       let next = after_one placed own st s (part ++ rest) no_select in
-      let first = priced_first placed own st s (part ++ rest) no_select label in
+      let first = priced_first placed own st s (part ++ rest) no_select label (straight_once s part straight) in
       let others = sum_later placed own st s (part ++ rest) part no_select in
       let front = none_front (s ∷ part) rest none in
       let fits = needs_fit placed own bank (s ∷ part) m (all_tame (s ∷ part) near) front (sym (needs_front s part rest straight front) ∙ is) in
@@ -189,7 +189,7 @@ module _ (placed : Placed) (own : BlockName) (bank c size : ℕ) (frame_bank : (
       let no_select = none_first s (part ++ rest) none in
       let label = straight_first s part straight in
       let next = after_one placed own st s (part ++ rest) no_select in
-      let first = priced_first placed own st s (part ++ rest) no_select label in
+      let first = priced_first placed own st s (part ++ rest) no_select label (straight_once s part straight) in
       let others = sum_later placed own st s (part ++ rest) part no_select in
       let known = next_known_behind placed own bank k s (part ++ rest) no_select in
       let met = meets_after placed own bank has false k s true (near_tame s near.0) label (ends_not s false near.0) h in

@@ -2,6 +2,7 @@
 use Rattle.std.proofs.Common.{◌≡◌, ℕ, suc, ◌/◌, ◌<◌, ◌≤◌, Bool, true, false, ◌&&◌, ◌||◌, nat_eq, if◌then◌else◌, List, [], ◌∷◌, All, Option, Some, None, refl, sym, ap, ◌∙◌, subst, ne_eqb, arith}
 use Rattle.core_code.specs.declared.code.Byte.TheVariants as bytes
 use Rattle.pic_world.specs.declared.Root.{Root}
+use Rattle.std.proofs.lemmas.Option.{none-some}
 use Rattle.pic_map.specs.declared.Placed.{Placed}
 use Rattle.sym_code.specs.Programs.{block_of}
 use Rattle.sym_code.specs.Touching.{touches, is_file, is_bit_write}
@@ -21,7 +22,7 @@ use Rattle.sym_code.specs.declared.code.Target.TheVariants as targets
 use Rattle.code_place.specs.Addresses.{address_of}
 use Rattle.math_helpers.specs.Shape.{is_in_frame, accesses_frame, jumps, IsOwn, IsOwnOperand}
 use Rattle.bank_page.specs.Kinds.{is_label, is_skip, byte_named, byte_touched, byte_of, target_of}
-use Rattle.bank_page.specs.Known.{is_status, is_pclath, writes, writes_status, writes_pclath, is_of_bit, forgets}
+use Rattle.bank_page.specs.Known.{is_status, is_pclath, writes, writes_status, writes_pclath, is_of_bit, forgets, reads_table, names_pclath}
 use Rattle.bank_page.specs.Needs.{banked_at, banked}
 use Rattle.bank_trace.proofs.Puts.{never}
 
@@ -58,13 +59,19 @@ neither false b e f = f
 below_three : (k n : ℕ) → k < 3 → 3 ≤ n → nat_eq k n ≡ false
 below_three k n l m = ne_eqb k n (λ e. absurd (omega arith))
 
+-- what names a file operand reads no table
+reads_none : (s : Sym) (touched : Operand × Bool) → touches s ≡ Some touched → reads_table s ≡ false
+reads_none (syms.Table table root) touched e = absurd (none-some touched e)
+reads_none s touched e = refl
+
 -- an instruction on a file operand that is in the frame or in every bank, and no register that selects
 module _ (placed : Placed) (own : BlockName) (bank : ℕ) where
   pub tame_of : (s : Sym) (file : Operand) (w : Bool) → touches s ≡ Some (file, w) → accesses_frame s ≡ is_in_frame file → target_of s ≡ None → jumps s ≡ false → forgets s ≡ false
       → banked placed (byte_named file) ≡ Some (if is_in_frame file then Some bank else None) → is_status file ≡ false → is_pclath file ≡ false → IsTame placed own bank s
   tame_of s file w is frame no_target no_jump no_forget named no_status no_pclath =
       let status : writes_status s ≡ false = ap (writes is_status) is ∙ and_none w (is_status file) no_status in
-      let pclath : writes_pclath s ≡ false = ap (writes is_pclath) is ∙ and_none w (is_pclath file) no_pclath in
+      let pclath : writes_pclath s ≡ false =
+      neither (reads_table s) (names_pclath s) (reads_none s (file, w) is) (ap (writes is_pclath) is ∙ and_none w (is_pclath file) no_pclath) in
       record {
         needs = ap (λ (o : Option (Operand × Bool)). banked placed (byte_touched o)) is ∙ named ∙ ap (λ (b : Bool). Some (if b then Some bank else None)) (sym frame);
         page = subst (λ (o : Option Target). FitsPage own (jumps s) o) (sym no_target) no_jump;

@@ -1,5 +1,6 @@
 -- Positions of code with its selects, the positions of the code without them that belong to these, and what is known there.
 use Rattle.std.proofs.Common.{◌≡◌, ℕ, suc, ◌+◌, Bool, true, false, not, ◌&&◌, if◌then◌else◌, List, [], ◌∷◌, Option, Some, None, option_map, slice_get, refl, sym, ap, ◌∙◌, subst, add-one}
+use Rattle.pic_world.specs.declared.Root.{Root}
 use Rattle.sym_code.specs.Programs.{Program, Position, position, is_word, lands, stand, front, behind, onward, label_from, place_of, block_of}
 use Rattle.sym_code.specs.Selects.{bare}
 use Rattle.sym_code.specs.declared.code.BankBit.TheVariants.{Rp0, Rp1, Irp}
@@ -33,6 +34,7 @@ behind_is q p = stand_is q (position p.block (p.index + 1)) ∙ ap (λ n. positi
 -- an instruction behind which the code goes on, if it runs
 abbrev pub goes_past : Sym → Bool
 goes_past (syms.Call target) = false
+goes_past (syms.Table table root) = false
 goes_past s = is_plain s && not (ends s)
 
 not_true : (c : Bool) → not c ≡ true → c ≡ false
@@ -44,6 +46,7 @@ past_calm (syms.Label label) e = never e
 past_calm (syms.SelectBank Rp0 on) e = never e
 past_calm (syms.SelectBank Rp1 on) e = never e
 past_calm (syms.SelectPage bit target) e = never e
+past_calm (syms.Table table root) e = never e
 past_calm s e = refl
 
 module _ (x : Site) where
@@ -193,6 +196,7 @@ module _ (x : Site) where
       ran name known behind (syms.SelectBank Rp1 on) e h = never e
       ran name known behind (syms.SelectBank Irp on) e h = holds_left x.pages known (syms.SelectBank Irp on) b h
       ran name known behind (syms.SelectPage bit target) e h = never e
+      ran name known behind (syms.Table table root) e h = never e
       ran name known behind (syms.Plain op) e h = passed_runs (is_return op) behind (left known (syms.Plain op) false false) (not_true (is_return op) e) (holds_left x.pages known (syms.Plain op) b h)
       ran name known behind (syms.Literal op value) e h = passed_runs (is_retlw op) behind (left known (syms.Literal op value) false false) (not_true (is_retlw op) e) (holds_left x.pages known (syms.Literal op value) b h)
       ran name known behind (syms.File op file into) e h = holds_left x.pages known (syms.File op file into) b h
@@ -208,6 +212,7 @@ module _ (x : Site) where
       skipped name known (syms.SelectBank Rp1 on) e h = never e
       skipped name known (syms.SelectBank Irp on) e h = holds_left x.pages known (syms.SelectBank Irp on) b h
       skipped name known (syms.SelectPage bit target) e h = never e
+      skipped name known (syms.Table table root) e h = holds_left x.pages known (syms.Table table root) b h
       skipped name known (syms.Plain op) e h = passed_over (is_return op) (left known (syms.Plain op) false false) (holds_left x.pages known (syms.Plain op) b h)
       skipped name known (syms.Literal op value) e h = passed_over (is_retlw op) (left known (syms.Literal op value) false false) (holds_left x.pages known (syms.Literal op value) b h)
       skipped name known (syms.File op file into) e h = holds_left x.pages known (syms.File op file into) b h
@@ -262,6 +267,16 @@ module _ (x : Site) where
             fine = fine_over r calm (after_skip q s fetch (skip refl)) (fine_ran q s known fetch past is h);
             block = block_behind r ∙ block_behind q;
           }
+
+    -- behind a read of a table, which leaves any bits of the page
+    pub fine_read : (q : Position) (table : ℕ) (root : Root) (known : Known) (b : Bits) (low high : ℕ) → slice_get (x.made q.block) q.index ≡ Some (syms.Table table root) → fact_at q ≡ Some known → Holds x.pages known b
+        → IsFine (behind (with x) q) (record b { low = low; high = high })
+    fine_read q table root known b low high fetch is h =
+        let left : Bits = record b { low = low; high = high } in
+        let next = spot_next x.facts q.block (spot_front x.facts q.block) (x.made q.block) q.index (syms.Table table root) fetch in
+        let holds : Holds x.pages (record { rp0 = known.rp0; rp1 = known.rp1; low = None; high = None }) left = record { rp0 = h.rp0; rp1 = h.rp1; low = tt; high = tt } in
+        fine_behind left q (subst (λ (t : Spot). HoldsFact x.pages t.fact left) (sym next)
+        (subst (λ (y : Fact). HoldsFact x.pages (fact_after x.facts q.block y (spot q).behind (syms.Table table root)) left) (sym is) holds))
 
   -- ---- where something stands
   pub under_lands : (q : Position) → settle (x.made q.block) q.index ≡ q.index → lands (without x) (under q) ≡ true → lands (with x) q ≡ true

@@ -1,5 +1,6 @@
 -- How many selects stand before an instruction: those behind the instruction before it, and those from a place on.
 use Rattle.std.proofs.Common.{◌≡◌, ℕ, zero, suc, ◌+◌, Bool, true, if◌then◌else◌, List, [], ◌∷◌, slice_get, refl, sym, ap, ◌∙◌, subst, arith}
+use Rattle.sym_code.specs.Cost.{time_of, time_at}
 use Rattle.sym_code.specs.Programs.{is_word}
 use Rattle.sym_code.specs.Selects.{is_select}
 use Rattle.sym_code.specs.declared.code.BankBit.TheVariants.{Rp0, Rp1}
@@ -24,11 +25,11 @@ before_zero n [] = refl
 before_zero n (s ∷ list) = refl
 
 price_select : (n : ℕ) (s : Sym) (list : List Sym) (k : ℕ) → is_select s ≡ true → price_from n (s ∷ list) k ≡ price_from (n + 1) list k
-price_select n s list zero is = ap (λ (b : Bool). if b then price_from (n + 1) list zero else (if is_label s then 1 else 1 + n)) is
+price_select n s list zero is = ap (λ (b : Bool). if b then price_from (n + 1) list zero else (if is_label s then 1 else time_of s + n)) is
 price_select n s list (suc k) is = ap (λ (b : Bool). if b then price_from (n + 1) list (suc k) else price_from (if is_label s then n else 0) list k) is
 
--- an instruction's price is one more than their number
-pub price_is : (n : ℕ) (list : List Sym) (j : ℕ) → plain_at (slice_get list j) ≡ true → price_from n list (mark list j) ≡ 1 + selects_before n list j
+-- an instruction's price is its time and their number
+pub price_is : (n : ℕ) (list : List Sym) (j : ℕ) → plain_at (slice_get list j) ≡ true → price_from n list (mark list j) ≡ time_at (slice_get list j) + selects_before n list j
 price_is n [] j e = never e
 price_is n (syms.Label label ∷ list) zero e = never e
 price_is n (syms.SelectBank Rp0 on ∷ list) zero e = never e
@@ -99,3 +100,9 @@ ahead_some (syms.SelectBank Rp1 on ∷ list) zero n w e = refl
 ahead_some (syms.SelectPage bit target ∷ list) zero n w e = refl
 ahead_some (s ∷ list) zero n w e = zero_suc n e
 ahead_some (s ∷ list) (suc j) n w e = ahead_some list j n w e
+
+-- a select takes one instruction of the chip
+pub select_time : (s : Option Sym) → select_at s ≡ true → time_at s ≡ 1
+select_time None e = never e
+select_time (Some (syms.Table table root)) e = never e
+select_time (Some s) e = refl

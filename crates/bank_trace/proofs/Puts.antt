@@ -1,6 +1,7 @@
 -- The prices of what a list becomes with its selects.
 use Rattle.std.proofs.Common.{◌≡◌, ℕ, zero, suc, ◌+◌, Bool, true, false, not, ◌&&◌, ◌||◌, if◌then◌else◌, List, [], ◌∷◌, ◌++◌, length, Option, Some, None, refl, sym, ap, ◌∙◌, true≢false, append_assoc, arith}
 use Rattle.pic_map.specs.declared.Placed.{Placed}
+use Rattle.sym_code.specs.Cost.{time_of}
 use Rattle.sym_code.specs.Selects.{is_select, bare}
 use Rattle.sym_code.specs.declared.code.BlockName.{BlockName}
 use Rattle.sym_code.specs.declared.code.Sym.{Sym}
@@ -63,7 +64,7 @@ for_needs own known needs =
 
 -- ---- prices behind selects
 price_select : (n : ℕ) (s : Sym) (list : List Sym) (k : ℕ) → is_select s ≡ true → price_from n (s ∷ list) k ≡ price_from (n + 1) list k
-price_select n s list zero is = ap (λ (b : Bool). if b then price_from (n + 1) list zero else (if is_label s then 1 else 1 + n)) is
+price_select n s list zero is = ap (λ (b : Bool). if b then price_from (n + 1) list zero else (if is_label s then 1 else time_of s + n)) is
 price_select n s list (suc k) is = ap (λ (b : Bool). if b then price_from (n + 1) list (suc k) else price_from (if is_label s then n else 0) list k) is
 
 pub price_past : (n : ℕ) (xs ys : List Sym) (k : ℕ) → are_selects xs ≡ true → price_from n (xs ++ ys) k ≡ price_from (n + length xs) ys k
@@ -72,9 +73,10 @@ price_past n (x ∷ xs) ys k e =
     let z : n + 1 + length xs ≡ n + suc (length xs) = omega arith in
     price_select n x (xs ++ ys) k (and_first (is_select x) (are_selects xs) e) ∙ price_past (n + 1) xs ys k (and_last (is_select x) (are_selects xs) e) ∙ ap (λ m. price_from m ys k) z
 
-price_here : (n : ℕ) (s : Sym) (list : List Sym) → is_select s ≡ false → is_label s ≡ false → price_from n (s ∷ list) zero ≡ 1 + n
-price_here n s list e l =
-    ap (λ (b : Bool). if b then price_from (n + 1) list zero else (if is_label s then 1 else 1 + n)) e ∙ ap (λ (b : Bool). if b then 1 else 1 + n) l
+price_here : (n : ℕ) (s : Sym) (list : List Sym) → is_select s ≡ false → is_label s ≡ false → time_of s ≡ 1 → price_from n (s ∷ list) zero ≡ 1 + n
+price_here n s list e l once =
+    ap (λ (b : Bool). if b then price_from (n + 1) list zero else (if is_label s then 1 else time_of s + n)) e
+    ∙ ap (λ (b : Bool). if b then 1 else time_of s + n) l ∙ ap (λ (time : ℕ). time + n) once
 
 price_later : (n : ℕ) (s : Sym) (list : List Sym) (k : ℕ) → is_select s ≡ false → (is_label s ≡ true → n ≡ 0) → price_from n (s ∷ list) (suc k) ≡ price_from 0 list k
 price_later n s list k e l =
@@ -115,8 +117,8 @@ module _ (placed : Placed) (own : BlockName) (st : State) (s : Sym) (rest : List
           let z : 0 + length selects ≡ length selects = omega arith in
           ap (λ (l : List Sym). price_from 0 l k) (append_assoc selects (s ∷ []) more) ∙ price_past 0 selects (s ∷ more) k (for_needs own st.known needs) ∙ ap (λ n. price_from n (s ∷ more) k) z
 
-  pub priced_first : is_label s ≡ false → priced 0 ≡ 1 + count
-  priced_first l = put_price alone (needs_in placed (s ∷ rest)) (selected_from placed own after_one rest) 0 ∙ price_here count s (selected_from placed own after_one rest) no_select l
+  pub priced_first : is_label s ≡ false → time_of s ≡ 1 → priced 0 ≡ 1 + count
+  priced_first l once = put_price alone (needs_in placed (s ∷ rest)) (selected_from placed own after_one rest) 0 ∙ price_here count s (selected_from placed own after_one rest) no_select l once
 
   label_none : is_label s ≡ true → count ≡ 0
   label_none l = ap (λ (b : Bool). count_of b own st (needs_in placed (s ∷ rest))) (by_or st.behind (is_label s) l)

@@ -4,6 +4,7 @@ use Rattle.pic_map.specs.declared.Placed.{Placed}
 use Rattle.sym_code.specs.Effect.{Setting}
 use Rattle.sym_code.specs.Layout.{all_near}
 use Rattle.sym_code.specs.Programs.{Program}
+use Rattle.sym_code.specs.Registers.{Spoiled}
 use Rattle.sym_code.specs.Selects.{bare}
 use Rattle.sym_code.specs.Touching.{touches}
 use Rattle.sym_code.specs.declared.code.BlockName.{BlockName}
@@ -25,20 +26,23 @@ pub record Site : Type 0 where
   pub pages : BlockName → ℕ
   pub other : BlockName → ℕ
   pub limit : Bool → ℕ
+  -- the tables, and what a read of a byte of one leaves
+  pub tables : ℕ → Option (List ℕ)
+  pub leaves : ℕ → ℕ → Spoiled
   -- what is known of the bits that selects set
   pub facts : Facts
 
 abbrev pub without : Site → Program
-without x = record { block = λ name. bare (x.made name); handler = x.handler; layout = layout_of x.placed }
+without x = record { block = λ name. bare (x.made name); handler = x.handler; layout = layout_of x.placed; tables = x.tables }
 
 abbrev pub with : Site → Program
-with x = record { block = x.made; handler = x.handler; layout = layout_of x.placed }
+with x = record { block = x.made; handler = x.handler; layout = layout_of x.placed; tables = x.tables }
 
 abbrev pub plain_setting : Site → Setting
-plain_setting x = record { program = without x; banked = false; page_of = x.other; limit = x.limit }
+plain_setting x = record { program = without x; banked = false; page_of = x.other; limit = x.limit; leaves = x.leaves }
 
 abbrev pub banked_setting : Site → Setting
-banked_setting x = record { program = with x; banked = true; page_of = x.pages; limit = x.limit }
+banked_setting x = record { program = with x; banked = true; page_of = x.pages; limit = x.limit; leaves = x.leaves }
 
 -- the file operand of an instruction has an address
 abbrev pub IsNamed : Placed → Option (Operand × Bool) → Type 0

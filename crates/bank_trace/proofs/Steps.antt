@@ -2,14 +2,14 @@
 use Rattle.std.proofs.Common.{◌≡◌, ℕ, ◌+◌, ◌≤◌, Bool, true, false, if◌then◌else◌, List, Option, Some, None, slice_get, refl, sym, ap, ◌∙◌, subst, arith}
 use Rattle.pic_world.specs.World.{Outside, is_due}
 use Rattle.core_code.specs.Cost.{context_cost}
-use Rattle.sym_code.specs.Cost.{Prices, least_prices, most_prices, instruction_cost, thread_cost, step_cost_at}
+use Rattle.sym_code.specs.Cost.{times_in, Prices, least_prices, most_prices, instruction_cost, thread_cost, step_cost_at}
 use Rattle.sym_code.specs.Effect.{Setting, Thread, Memory, Rest, Effect, Stuck, effect_of, effect_if, effect_at, effect}
 use Rattle.sym_code.specs.Machine.{Machine, Entry, Next, Goes, Stops, Still, running, acted, act, enter, sym_step_at}
 use Rattle.sym_code.specs.Programs.{Position, fetched, is_word, lands}
 use Rattle.sym_code.specs.Registers.{Registers}
 use Rattle.sym_code.specs.declared.code.Sym.{Sym}
 use Rattle.sym_code.specs.declared.code.Sym.TheVariants as syms
-use Rattle.bank_page.specs.Links.{price_in, one_each}
+use Rattle.bank_page.specs.Links.{price_in}
 use Rattle.bank_trace.proofs.Lists.{plain_at, calm_plain, never, mark_fetches}
 use Rattle.bank_trace.proofs.Prices.{selects_before, selects_ahead, price_is, ahead_none}
 use Rattle.bank_trace.proofs.Holding.{Bits, live}
@@ -33,8 +33,8 @@ before_of x None (Some q) = selects_before 0 (x.made q.block) q.index
 abbrev pub plain_prices : Site → Prices
 plain_prices x = most_prices (price_in x.made)
 
-abbrev pub banked_prices : Prices
-banked_prices = most_prices one_each
+abbrev pub banked_prices : Site → Prices
+banked_prices x = most_prices (times_in x.made)
 
 -- The code without selects stops; or both rest, or both go on. With its selects, and those that were passed, the step costs no
 -- more at most, and no less at least. Where both rest, no select was passed.
@@ -88,7 +88,7 @@ module _ (x : Site) (sound : IsSound x) (o : Outside) (j : Joint) (fine : IsFine
   abbrev ByEffects : Position → Position → ℕ → Effect → Effect → Type 0
   ByEffects p q before e f =
       Outcome x (acted (plain_setting x) o (plain_machine x j) e) (acted (banked_setting x) o (banked_machine j) f)
-      (instruction_cost (plain_prices x) (Some p) e) (instruction_cost banked_prices (Some q) f)
+      (instruction_cost (plain_prices x) (Some p) e) (instruction_cost (banked_prices x) (Some q) f)
       (instruction_cost least_prices (Some p) e) (instruction_cost least_prices (Some q) f) before
 
   by_effects : (q : Position) → plain_at (slice_get (x.made q.block) q.index) ≡ true → (e f : Effect) → Does x e f → ByEffects (under x q) q (selects_before 0 (x.made q.block) q.index) e f
@@ -97,13 +97,13 @@ module _ (x : Site) (sound : IsSound x) (o : Outside) (j : Joint) (fine : IsFine
       let before = selects_before 0 (x.made q.block) q.index in
       let price = price_is 0 (x.made q.block) q.index p in
       let a = plain_cost x (plain_prices x) (under x q) d in
-      let b = banked_cost banked_prices q d in
+      let b = banked_cost (banked_prices x) q d in
       let c = plain_cost x least_prices (under x q) d in
       let z = banked_cost least_prices q d in
       subst (λ (y : Effect). ByEffects (under x q) q before y f) (sym k)
       (subst (λ (y : Effect). ByEffects (under x q) q before (plain_effect x d) y) (sym l)
       (outcome_of x (acted (plain_setting x) o (plain_machine x j) (plain_effect x d)) (acted (banked_setting x) o (banked_machine j) (banked_effect d))
-      (instruction_cost (plain_prices x) (Some (under x q)) (plain_effect x d)) (instruction_cost banked_prices (Some q) (banked_effect d))
+      (instruction_cost (plain_prices x) (Some (under x q)) (plain_effect x d)) (instruction_cost (banked_prices x) (Some q) (banked_effect d))
       (instruction_cost least_prices (Some (under x q)) (plain_effect x d)) (instruction_cost least_prices (Some q) (banked_effect d)) before
       (omega arith) (omega arith) (both_acted x o j fine d h n)))
 
@@ -112,7 +112,7 @@ module _ (x : Site) (sound : IsSound x) (o : Outside) (j : Joint) (fine : IsFine
     abbrev ByThreads : Option Rest → ℕ → Thread → Thread → Type 0
     ByThreads rest before th tv =
         Outcome x (acted (plain_setting x) o (plain_machine x j) (effect (plain_setting x) inside th m)) (acted (banked_setting x) o (banked_machine j) (effect (banked_setting x) inside tv m))
-        (thread_cost (plain_setting x) (plain_prices x) inside th m rest) (thread_cost (banked_setting x) banked_prices inside tv m rest)
+        (thread_cost (plain_setting x) (plain_prices x) inside th m rest) (thread_cost (banked_setting x) (banked_prices x) inside tv m rest)
         (thread_cost (plain_setting x) least_prices inside th m rest) (thread_cost (banked_setting x) least_prices inside tv m rest) before
 
     abbrev twin : Option Rest → Option Position → List Position → Registers → Bits → Twin
@@ -175,7 +175,7 @@ module _ (x : Site) (sound : IsSound x) (o : Outside) (j : Joint) (fine : IsFine
   abbrev ByRunning : Thread → Thread → Type 0
   ByRunning th tv =
       Outcome x (acted (plain_setting x) o (plain_machine x j) (effect (plain_setting x) j.world.inside th j.memory)) (acted (banked_setting x) o (banked_machine j) (effect (banked_setting x) j.world.inside tv j.memory))
-      (thread_cost (plain_setting x) (plain_prices x) j.world.inside th j.memory th.rest) (thread_cost (banked_setting x) banked_prices j.world.inside tv j.memory tv.rest)
+      (thread_cost (plain_setting x) (plain_prices x) j.world.inside th j.memory th.rest) (thread_cost (banked_setting x) (banked_prices x) j.world.inside tv j.memory tv.rest)
       (thread_cost (plain_setting x) least_prices j.world.inside th j.memory th.rest) (thread_cost (banked_setting x) least_prices j.world.inside tv j.memory tv.rest)
       (before_of x (running_twin j).rest (running_twin j).at)
 
@@ -188,7 +188,7 @@ module _ (x : Site) (sound : IsSound x) (o : Outside) (j : Joint) (fine : IsFine
 
   pub step_outcome : (e : Entry) → (is_due j.world ≡ false → ahead_of x (running_twin j).rest (running_twin j).at ≡ 0)
       → Outcome x (sym_step_at (plain_setting x) e o (plain_machine x j)) (sym_step_at (banked_setting x) e o (banked_machine j))
-      (step_cost_at (plain_setting x) (plain_prices x) (plain_machine x j)) (step_cost_at (banked_setting x) banked_prices (banked_machine j))
+      (step_cost_at (plain_setting x) (plain_prices x) (plain_machine x j)) (step_cost_at (banked_setting x) (banked_prices x) (banked_machine j))
       (step_cost_at (plain_setting x) least_prices (plain_machine x j)) (step_cost_at (banked_setting x) least_prices (banked_machine j)) before_in
   step_outcome e ready = by_due (is_due j.world) ready
     where
@@ -197,7 +197,7 @@ module _ (x : Site) (sound : IsSound x) (o : Outside) (j : Joint) (fine : IsFine
           (if c then enter (plain_setting x) e x.handler (plain_machine x j) else act (plain_setting x) o (plain_machine x j))
           (if c then enter (banked_setting x) e x.handler (banked_machine j) else act (banked_setting x) o (banked_machine j))
           (if c then context_cost else thread_cost (plain_setting x) (plain_prices x) j.world.inside (running (plain_machine x j)) j.memory (running (plain_machine x j)).rest)
-          (if c then context_cost else thread_cost (banked_setting x) banked_prices j.world.inside (running (banked_machine j)) j.memory (running (banked_machine j)).rest)
+          (if c then context_cost else thread_cost (banked_setting x) (banked_prices x) j.world.inside (running (banked_machine j)) j.memory (running (banked_machine j)).rest)
           (if c then 1 else thread_cost (plain_setting x) least_prices j.world.inside (running (plain_machine x j)) j.memory (running (plain_machine x j)).rest)
           (if c then 1 else thread_cost (banked_setting x) least_prices j.world.inside (running (banked_machine j)) j.memory (running (banked_machine j)).rest)
           (if c then 0 else before_of x (running_twin j).rest (running_twin j).at)

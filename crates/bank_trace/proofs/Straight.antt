@@ -1,5 +1,6 @@
 -- Instructions that stand one behind the other: no label among them, and the last is no skip.
 use Rattle.std.proofs.Common.{◌≡◌, Bool, true, false, not, ◌&&◌, if◌then◌else◌, List, [], ◌∷◌, refl, sym, ap, ◌∙◌}
+use Rattle.sym_code.specs.Cost.{time_of}
 use Rattle.sym_code.specs.Selects.{is_select, bare}
 use Rattle.sym_code.specs.declared.code.BitOperation.TheVariants.{Btfsc, Btfss}
 use Rattle.sym_code.specs.declared.code.FileOperation.TheVariants.{Decfsz, Incfsz}
@@ -47,12 +48,18 @@ same_skip (syms.Bit Btfss file bit) = refl
 same_skip (syms.Bit op file bit) = refl
 same_skip s = refl
 
+pub straight_once : (s : Sym) (rest : List Sym) → is_straight (s ∷ rest) ≡ true → time_of s ≡ 1
+straight_once (syms.Label label) rest e = never e
+straight_once (syms.Table table root) rest e = never e
+straight_once s rest e = refl
+
 pub straight_first : (s : Sym) (rest : List Sym) → is_straight (s ∷ rest) ≡ true → is_label s ≡ false
 straight_first (syms.Label label) rest e = never e
 straight_first s rest e = refl
 
 last_by : (s : Sym) → is_straight (s ∷ []) ≡ true → not (shape.is_skip s) ≡ true
 last_by (syms.Label label) e = never e
+last_by (syms.Table table root) e = never e
 last_by s e = e
 
 -- a skip isn't the last
@@ -66,4 +73,5 @@ straight_last s e = by_skip (is_skip s) (ap not (sym (same_skip s)) ∙ last_by 
 pub straight_later : (s : Sym) (rest : List Sym) → is_straight (s ∷ rest) ≡ true → is_straight rest ≡ true
 straight_later s [] e = refl
 straight_later (syms.Label label) (next ∷ rest) e = never e
+straight_later (syms.Table table root) (next ∷ rest) e = never e
 straight_later s (next ∷ rest) e = e

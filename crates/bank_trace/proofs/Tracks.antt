@@ -15,7 +15,7 @@ use Rattle.bank_page.specs.declared.known.Known.{Known}
 use Rattle.bank_page.specs.declared.needs.Needs.{Needs}
 use Rattle.bank_page.specs.declared.selecting.State.{State}
 use Rattle.bank_trace.proofs.Puts.{never, count_of, count, after_one, priced_first, priced_later, sum_same, sum_shift}
-use Rattle.bank_trace.proofs.Straight.{has_none, none_first, none_later, straight_first, straight_later}
+use Rattle.bank_trace.proofs.Straight.{has_none, none_first, none_later, straight_once, straight_first, straight_later}
 use Rattle.bank_trace.proofs.Dear.{behind_is, sum_later, nothing_taken}
 use Rattle.bank_trace.proofs.Tight.{label_first, is_tight}
 use Rattle.bank_trace.proofs.Owned.{IsTame, AllTame, FitsPage}
@@ -133,7 +133,7 @@ module _ (placed : Placed) (own : BlockName) (n : ℕ) where
       let no_select = none_first s (part ++ rest) none in
       let label = straight_first s part straight in
       let next = after_one placed own st s (part ++ rest) no_select in
-      let first = priced_first placed own st s (part ++ rest) no_select label in
+      let first = priced_first placed own st s (part ++ rest) no_select label (straight_once s part straight) in
       let others = sum_later placed own st s (part ++ rest) part no_select in
       let words = paid_words bank page s part tame.0 label (paid refl).0 (paid refl).1 in
       let later : sum_of next part rest ≤ words_from bank page part =
@@ -153,7 +153,7 @@ module _ (placed : Placed) (own : BlockName) (n : ℕ) where
       let fits_page = subst (λ (c : Bool). FitsPage own c needed.needs.page) (jmp_front s part rest straight) needed.fits.page in
       let few = few_missing own n k needed.needs bank page a j h fits_bank fits_page in
       let number = count_free k s (part ++ rest) no_select label needed.needs needed.is in
-      let first = priced_first placed own st s (part ++ rest) no_select label in
+      let first = priced_first placed own st s (part ++ rest) no_select label (straight_once s part straight) in
       let others = sum_later placed own st s (part ++ rest) part no_select in
       let all = early placed own n (s ∷ part) (front_tame placed own n (s ∷ part) rest tame) straight bank page in
       let words = paid_words (bank || a) (page || j) s part tame.0 label (λ e. or_last bank a e) (λ e. or_last page j e) in

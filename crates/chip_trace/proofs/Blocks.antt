@@ -55,6 +55,7 @@ is_one (syms.Literal a b) e = refl
 is_one (syms.Plain a) e = refl
 is_one (syms.Call a) e = refl
 is_one (syms.Goto a) e = refl
+is_one (syms.Table table root) e = refl
 
 -- behind an instruction
 pub word_on : (xs : List Sym) (i : ℕ) (s : Sym) → slice_get xs i ≡ Some s → is_word (Some s) ≡ true → words_in (take (i + 1) xs) ≡ words_in (take i xs) + 1
@@ -77,6 +78,7 @@ front_words (syms.Literal a b ∷ xs) = refl
 front_words (syms.Plain a ∷ xs) = refl
 front_words (syms.Call a ∷ xs) = refl
 front_words (syms.Goto a ∷ xs) = refl
+front_words (syms.Table table root ∷ xs) = refl
 
 pub labels_words : (xs : List Sym) (i : ℕ) → words_in (take (i + labels_in_front (drop i xs)) xs) ≡ words_in (take i xs)
 labels_words [] zero = refl
@@ -101,6 +103,7 @@ front_end (syms.Literal a b ∷ xs) = inl refl
 front_end (syms.Plain a ∷ xs) = inl refl
 front_end (syms.Call a ∷ xs) = inl refl
 front_end (syms.Goto a ∷ xs) = inl refl
+front_end (syms.Table table root ∷ xs) = inl refl
 
 labels_end : (xs : List Sym) (i : ℕ) → (is_word (slice_get xs (i + labels_in_front (drop i xs))) ≡ true) ⊎ (slice_get xs (i + labels_in_front (drop i xs)) ≡ None)
 labels_end [] zero = inr refl
@@ -274,6 +277,7 @@ label_stands (syms.Literal a b ∷ xs) label n start k e = on_rest (syms.Literal
 label_stands (syms.Plain a ∷ xs) label n start k e = on_rest (syms.Plain a) xs label n start k (label_stands xs label (n + 1) (start + 1) k e) refl
 label_stands (syms.Call a ∷ xs) label n start k e = on_rest (syms.Call a) xs label n start k (label_stands xs label (n + 1) (start + 1) k e) refl
 label_stands (syms.Goto a ∷ xs) label n start k e = on_rest (syms.Goto a) xs label n start k (label_stands xs label (n + 1) (start + 1) k e) refl
+label_stands (syms.Table table root ∷ xs) label n start k e = on_rest (syms.Table table root) xs label n start k (label_stands xs label (n + 1) (start + 1) k e) refl
 
 -- ---- lists in parts
 pub get_behind : (xs ys : List Sym) (i : ℕ) → slice_get (xs ++ ys) (length xs + i) ≡ slice_get ys i
@@ -310,6 +314,7 @@ label_behind (syms.Literal a b ∷ xs) ys label n e = let m : n + 1 + length xs 
 label_behind (syms.Plain a ∷ xs) ys label n e = let m : n + 1 + length xs ≡ n + suc (length xs) = omega arith in label_behind xs ys label (n + 1) e ∙ ap (label_from ys label) m
 label_behind (syms.Call a ∷ xs) ys label n e = let m : n + 1 + length xs ≡ n + suc (length xs) = omega arith in label_behind xs ys label (n + 1) e ∙ ap (label_from ys label) m
 label_behind (syms.Goto a ∷ xs) ys label n e = let m : n + 1 + length xs ≡ n + suc (length xs) = omega arith in label_behind xs ys label (n + 1) e ∙ ap (label_from ys label) m
+label_behind (syms.Table table root ∷ xs) ys label n e = let m : n + 1 + length xs ≡ n + suc (length xs) = omega arith in label_behind xs ys label (n + 1) e ∙ ap (label_from ys label) m
 
 -- ---- lists of words alone
 abbrev pub are_words : List Sym → Bool
@@ -348,6 +353,7 @@ no_label (syms.Literal b d ∷ xs) label n a = no_label xs label (n + 1) a
 no_label (syms.Plain b ∷ xs) label n a = no_label xs label (n + 1) a
 no_label (syms.Call b ∷ xs) label n a = no_label xs label (n + 1) a
 no_label (syms.Goto b ∷ xs) label n a = no_label xs label (n + 1) a
+no_label (syms.Table table root ∷ xs) label n a = no_label xs label (n + 1) a
 
 -- two words at one place are one
 take_more_words : (xs : List Sym) (i d j : ℕ) → j ≡ d + i → words_in (take i xs) ≤ words_in (take j xs)

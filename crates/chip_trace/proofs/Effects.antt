@@ -1,14 +1,15 @@
 -- What an instruction does depends on its thread and on the bytes that it may read, and it writes its own bytes alone.
-use Rattle.std.proofs.Common.{◌≡◌, ℕ, Bool, true, false, Option, Some, None, refl, sym, ap, ◌∙◌}
+use Rattle.std.proofs.Common.{◌≡◌, ℕ, Bool, true, false, Option, Some, None, refl, sym, ap, ◌∙◌, if◌then◌else◌, nat_lt, List, length}
 use Rattle.std.specs.Prelude.{if◌then◌else◌, ◌&&◌, nat_eq}
 use Rattle.std.proofs.lemmas.Bool.{eqb-true}
 use Rattle.pic_world.specs.Bits.{bit, set_bit, clear_bit}
 use Rattle.pic_world.specs.Registers.{is_register, lowest}
 use Rattle.pic_world.specs.declared.Root.TheVariants.{Main, Isr}
+use Rattle.pic_world.specs.declared.Root.{Root}
 use Rattle.core_code.specs.declared.code.Byte.TheVariants as bytes
-use Rattle.sym_code.specs.Effect.{Setting, Port, Shared, Rest, Thread, Memory, write, Access, Pointer, Event, Silent, Denied, access_by, general_access, is_selected, access_of, Quiet, goes, quiet, after_file, result_in_w, file_to_w, file_to_file, store, change, test, file_bit, bits, effect_of, effect_if, effect_at, effect_rest, effect}
+use Rattle.sym_code.specs.Effect.{Setting, Port, Shared, Rest, Thread, Memory, write, Access, Pointer, Event, Silent, Denied, access_by, general_access, is_selected, access_of, Quiet, goes, quiet, after_file, result_in_w, file_to_w, file_to_file, store, change, test, file_bit, bits, effect_of, effect_if, effect_at, effect_rest, effect, Effect, Stuck, is_in_page, silent_byte, result_byte, number_of, looked_up, look_up}
 use Rattle.sym_code.specs.Layout.{is_covered, DataLayout, address_of, general_at, Owner, Watched, Constant, Of, Nobody, owner}
-use Rattle.sym_code.specs.Programs.{Position, fetched, behind, onward}
+use Rattle.sym_code.specs.Programs.{Position, fetched, behind, onward, own_place}
 use Rattle.sym_code.specs.Registers.{Registers, pointer, result_with}
 use Rattle.sym_code.specs.declared.code.BitOperation.{BitOperation}
 use Rattle.sym_code.specs.declared.code.BitOperation.TheVariants.{Bcf, Bsf, Btfsc, Btfss}
@@ -140,6 +141,20 @@ module _ (g : Setting) (i : Bool) (th : Thread) where
   bits_same p m k op b (operands.Register Pclath) s = bit_same p m k op b (operands.Register Pclath) s
   bits_same p m k op b (operands.Saved x) s = bit_same p m k op b (operands.Saved x) s
 
+  silent_same : (m k : Memory) (x : Access) → IsAccess l i false x → Own m k → silent_byte m x ≡ silent_byte k x
+  silent_same m k Pointer a s = refl
+  silent_same m k (Event b) a s = refl
+  silent_same m k (Silent n) a s = ap (λ (v : ℕ). Some v) (s n a)
+  silent_same m k Denied a s = refl
+
+  result_same : (m k : Memory) (root : Root) (n : ℕ) → Own m k → result_byte g i th.registers m root n ≡ result_byte g i th.registers k root n
+  result_same m k root n s = silent_same m k _ (access_sound g i false th.registers (operands.Byte (bytes.Result root n))) s
+
+  look_up_same : (p : Position) (m k : Memory) (table : ℕ) (root : Root) → Own m k → look_up g i p th m table root ≡ look_up g i p th k table root
+  look_up_same p m k table root s =
+      let f : Option ℕ → Option ℕ → Effect = λ v w. if nat_lt (length th.stack) (g.limit i) then looked_up g p th table (number_of v w) else Stuck in
+      ap (λ (v : Option ℕ). f v (result_byte g i th.registers m root 1)) (result_same m k root 0 s) ∙ ap (f (result_byte g i th.registers k root 0)) (result_same m k root 1 s)
+
   same_of : (p : Position) (m k : Memory) (s : Sym) → Own m k → effect_of g i p th m s ≡ effect_of g i p th k s
   unfolding effect_of
   same_of p m k (sym'.File op x into.W) s = w_same p m k op _ (access_sound g i false th.registers x) s
@@ -154,6 +169,7 @@ module _ (g : Setting) (i : Bool) (th : Thread) where
   same_of p m k (sym'.Label x) s = refl
   same_of p m k (sym'.SelectBank x b) s = refl
   same_of p m k (sym'.SelectPage x t) s = refl
+  same_of p m k (sym'.Table table root) s = ap (λ (e : Effect). if is_in_page g p th.registers own_place then e else Stuck) (look_up_same p m k table root s)
 
   same_if : (p : Position) (m k : Memory) (s : Option Sym) → Own m k → effect_if g i p th m s ≡ effect_if g i p th k s
   same_if p m k None s = refl

@@ -105,6 +105,7 @@ module _ (g : Setting) (h : Ground) (i : Bool) (th : Thread) (m : Memory) (p : P
   ordinary (syms.Plain op) n wd e = plain_ordinary op n e
   ordinary (syms.Call t) n wd e = inr (subst Ordinary (sym e.1) (refl, refl))
   ordinary (syms.Goto t) n wd e = inr (subst Ordinary (sym e.1) (refl, refl))
+  ordinary (syms.Table table root) n wd e = absurd e
 
   effect_is : (y : Sym) → th.rest ≡ None → th.at ≡ Some p → fetched g.program p ≡ Some y → effect g i th m ≡ effect_of g i p th m y
   unfolding effect

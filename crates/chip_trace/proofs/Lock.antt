@@ -442,3 +442,4 @@ module _ (reaches : ℕ → ℕ → Bool) (g : Setting) (h : Ground) (o : Outsid
   sym_locked (syms.Plain op) n wd e = subst (λ k. Row k (plain q p th op)) (sym e) (plain_locked op)
   sym_locked (syms.Call t) n wd e = subst (λ k. Row k (if is_in_page g p r t then call g i p th t else Stuck)) (sym e.1) (call_locked t e.0 e.2 (is_in_page g p r t) refl)
   sym_locked (syms.Goto t) n wd e = subst (λ k. Row k (if is_in_page g p r t then goto g i p th t else Stuck)) (sym e.1) (goto_locked t e.0 e.2 (is_in_page g p r t) refl)
+  sym_locked (syms.Table table root) n wd e = absurd e

@@ -20,7 +20,8 @@ use Rattle.sym_code.specs.Layout.{owner, Nobody}
 use Rattle.sym_code.specs.Machine.{Machine, Entry, Stops, Made, made, made_write, checked, moved, settled, sym_step_at, sym_step, sym_run, lands_at, value_by, read_by, is_forbidden}
 use Rattle.sym_code.specs.Programs.{Position, lands}
 use Rattle.sym_code.specs.Registers.{page}
-use Rattle.chip_trace.specs.Arriving.{one_each, is_kept}
+use Rattle.sym_code.specs.declared.code.BlockName.{BlockName}
+use Rattle.chip_trace.specs.Arriving.{is_kept}
 use Rattle.chip_trace.specs.Keeping.{file_in, TouchesThere}
 use Rattle.chip_trace.proofs.Fetch.{LockedAt, locked_at, Ordinary}
 use Rattle.chip_trace.proofs.Image.{IsImage, after, elsewhere, ending, observed_long, put_written, put_apart, words_length, same_length}
@@ -33,6 +34,10 @@ use Rattle.chip_trace.proofs.Rested.{rested, words_at, image_at}
 use Rattle.chip_trace.proofs.Runs.{over, raised, Extends, exactly, Comes, settled_is, raised_none, step_from, cost_from, off_steps, main_makes, main_made, main_ends, makes, same_made, main_cost, one_cost, rest_cost, end_cost, comes_main, comes_loud}
 use Rattle.chip_trace.proofs.Sound.{IsGood, IsSound, IsLeft, is_out, sound}
 use Rattle.chip_trace.proofs.Stands.{Stands, IsMain, InMain, IsThere, IsSince}
+
+-- each instruction is one where no table is read
+abbrev pub one_each : BlockName → ℕ → ℕ
+one_each name n = 1
 
 abbrev pub dear_prices : Prices
 dear_prices = most_prices one_each

@@ -49,6 +49,7 @@ use Rattle.sym_code.specs.declared.code.Sym.TheVariants as syms
 use Rattle.sym_code.specs.declared.code.SymBlock.{SymBlock}
 use Rattle.sym_code.specs.declared.code.Target.{Target}
 use Rattle.sym_code.specs.declared.code.Target.TheVariants as targets
+use Rattle.sym_code.specs.Registers.{no_leaves}
 use Rattle.code_place.specs.Addresses.{address_of, file_address, in_memory, object_byte, frame_byte}
 use Rattle.code_place.specs.Image.{Holds}
 use Rattle.code_place.specs.Instructions as code
@@ -192,7 +193,7 @@ module _ (placed : Placed) where
 
 module _ (blocks : List SymBlock) (at : List ℕ) (placed : Placed) (handler : Option ℕ) (image : List ℕ) (watch : Watch) (limit : Bool → ℕ) where
   abbrev pub G : Setting
-  G = record { program = program_of blocks handler placed; banked = true; page_of = page_of blocks at; limit = limit }
+  G = record { program = program_of blocks handler placed; banked = true; page_of = page_of blocks at; limit = limit; leaves = no_leaves }
 
   abbrev pub place_in : Position → ℕ
   place_in p = known (block_place blocks at p.block) + words_to G.program p
@@ -360,6 +361,7 @@ module _ (blocks : List SymBlock) (at : List ℕ) (placed : Placed) (handler : O
         let k = reach (target hs p f t) in
         let lt : k < 2048 = omega arith in
         (isa.Goto k, word_there hs p f ok (syms.Goto t) is wd (isa.Goto k) refl lt, (k, refl, reaches hs p f t))
+    code_by hs p f ok (syms.Table table root) is wd = absurd (named hs p f ok (syms.Table table root) is wd)
 
     pub are_placed : watch.halt < 2048 → IsPlaced G H image
     are_placed hs = record {

@@ -1,7 +1,8 @@
 -- Where no flag arrives any more, the chip takes no more instructions for a stretch than the early run, and a few.
-use Rattle.std.proofs.Common.{◌≡◌, ℕ, zero, suc, ◌+◌, ◌-◌, ◌<◌, ◌≤◌, ◌⊎◌, inl, inr, Bool, true, false, List, ◌++◌, length, Some, None, refl, sym, ap, ◌∙◌, subst, ⊎_elim, arith, length-append}
-use Rattle.std.specs.Prelude.{if◌then◌else◌, slice_index, bit_or}
+use Rattle.std.proofs.Common.{◌≡◌, ℕ, zero, suc, ◌+◌, ◌-◌, ◌<◌, ◌≤◌, ◌⊎◌, inl, inr, Bool, true, false, List, ◌++◌, length, Some, None, refl, sym, ap, ◌∙◌, subst, ⊎_elim, arith, length-append, Option}
+use Rattle.std.specs.Prelude.{if◌then◌else◌, slice_index, bit_or, slice_get}
 use Rattle.std.proofs.lemmas.Bool.{cases_lt}
+use Rattle.std.proofs.Math.Path.{fun_ext}
 use Rattle.pic_chip.specs.Run as chip
 use Rattle.pic_chip.specs.Run.{IsStart, Moment, moment, takes, is_handling, observed}
 use Rattle.pic_chip.specs.State.{State}
@@ -11,17 +12,17 @@ use Rattle.pic_world.specs.World.{Schedule, Outside}
 use Rattle.pic_world.specs.Arrivals.{arriving}
 use Rattle.pic_world.specs.declared.Event.{Event}
 use Rattle.core_code.specs.Bytes.{Held}
-use Rattle.sym_code.specs.Cost.{least_prices, cost_by, step_cost, step_cost_at, thread_cost, instruction_cost}
+use Rattle.sym_code.specs.Cost.{least_prices, cost_by, step_cost, step_cost_at, thread_cost, instruction_cost, most_prices, time_at, times_in}
 use Rattle.sym_code.specs.Effect.{Setting, Thread, Memory, Effect, Rests, effect}
 use Rattle.sym_code.specs.Layout.{owner, Watched}
 use Rattle.sym_code.specs.Machine.{Machine, Entry, settled, sym_step, sym_step_at, sym_run}
-use Rattle.sym_code.specs.Programs.{front}
+use Rattle.sym_code.specs.Programs.{front, position}
 use Rattle.sym_code.specs.Registers.{Registers}
 use Rattle.sym_code.specs.declared.code.BlockName.TheVariants.{Copy}
-use Rattle.chip_trace.specs.Arriving.{slack, IsQuiet, ComesTo, IsMet, IsRunning, IsStarted, early}
+use Rattle.chip_trace.specs.Arriving.{slack, IsQuiet, ComesTo, IsMet, IsRunning, IsStarted, early, outside_at}
 use Rattle.chip_trace.proofs.Image.{IsImage, same_length, observed_long}
-use Rattle.chip_trace.proofs.MainStep.{dear_prices}
-use Rattle.chip_trace.proofs.Relations.{Ground}
+use Rattle.chip_trace.proofs.MainStep.{dear_prices, one_each}
+use Rattle.chip_trace.proofs.Relations.{Ground, IsPlaced}
 use Rattle.chip_trace.proofs.Runs.{over, raised, raised_none, Extends, exactly, settled_is, off_steps, main_rests, main_cost, comes_main}
 use Rattle.chip_trace.proofs.Sound.{IsSound, sound}
 use Rattle.chip_trace.proofs.Schedules.{nothing_arrives, goes_on as schedule_goes_on}
@@ -37,9 +38,20 @@ use Rattle.pic_world.specs.declared.Cell.{Cell}
 use Rattle.pic_world.proofs.OrLaws.{or_assoc}
 use Rattle.sym_code.specs.Cost.{Prices}
 use Rattle.sym_code.specs.Machine.{Still, gone}
+use Rattle.sym_code.specs.declared.code.BlockName.{BlockName}
+use Rattle.sym_code.specs.declared.code.Sym.{Sym}
+use Rattle.sym_code.specs.declared.code.Sym.TheVariants as syms
 use Rattle.chip_trace.proofs.Past.{watched_somebody}
 use Rattle.chip_trace.proofs.Whole.{e, outside_is, one_on}
 use Rattle.chip_trace.proofs.Given.{A, E, R, M, first_machine, S, At, stands, met_by, met_at_index}
+
+-- ---- code that stands in an image reads no table
+once : (g : Setting) (h : Ground) (image : List ℕ) → IsPlaced g h image → times_in g.program.block ≡ one_each
+once g h image placed = fun_ext (λ (name : BlockName). fun_ext (λ (n : ℕ). by name n (slice_get (g.program.block name) n) refl)) where
+  by : (name : BlockName) (n : ℕ) (o : Option Sym) → slice_get (g.program.block name) n ≡ o → time_at o ≡ 1
+  by name n None e = refl
+  by name n (Some (syms.Table table root)) e = absurd (placed.code (position name n) (syms.Table table root) e refl).2
+  by name n (Some s) e = refl
 
 -- ---- costs rise
 pub cost_rises : (g : Setting) (p : Prices) (e : Entry) (o : Outside) (t : Machine) (i d n : ℕ) → n ≡ d + i → cost_by g p e o i t ≤ cost_by g p e o n t
@@ -346,4 +358,5 @@ module _ (g : Setting) (h : Ground) (c : chip.Setting) (hd : ℕ) (x : IsImage g
     pace i j comes rich =
         let o = outside_is g h c hd x halt_is ranges_is start only main_is first started N N in
         paced i j (λ k lt. subst (λ z. length (sym_run g ee z k start_machine).world.trace < length (tr t)) o (comes.before k lt))
-        (subst (λ z. cost_by g dear_prices ee z j start_machine + slack ≤ cost_by g dear_prices ee z i start_machine + (N - t)) o rich)
+        (subst (λ z. cost_by g dear_prices ee z j start_machine + slack ≤ cost_by g dear_prices ee z i start_machine + (N - t)) o
+        (subst (λ (price : BlockName → ℕ → ℕ). cost_by g (most_prices price) ee (outside_at g c N) j start_machine + slack ≤ cost_by g (most_prices price) ee (outside_at g c N) i start_machine + (N - t)) (once g h c.image x.placed) rich))

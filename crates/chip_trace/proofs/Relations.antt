@@ -71,7 +71,7 @@ module _ (g : Setting) (h : Ground) where
   Reaches p (targets.Label Restore) k = (k < 2048) × (g.page_of (block_of p.block (targets.Label Restore)) * 2048 + k ≡ h.restore)
   Reaches p target k = (k < 2048) × ((p' : Position) → place_of g.program p target ≡ Some p' → lands g.program p' ≡ true → g.page_of (block_of p.block target) * 2048 + k ≡ h.place p')
 
-  -- the instruction that stands for a symbolic one
+  -- the instruction that stands for a symbolic one; none does for a read of a table
   abbrev pub Means : Position → Sym → Ins → Type 0
   Means p (syms.Label label) i = Unit {0}
   Means p (syms.SelectBank which on) i = i ≡ bank_row which on
@@ -84,6 +84,7 @@ module _ (g : Setting) (h : Ground) where
   Means p (syms.Plain op) i = i ≡ plain_row op
   Means p (syms.Call target) i = (k : ℕ) × (i ≡ isa.Call k) × Reaches p target k
   Means p (syms.Goto target) i = (k : ℕ) × (i ≡ isa.Goto k) × Reaches p target k
+  Means p (syms.Table table root) i = ⊥
 
   -- the words of the positions, the top first
   abbrev pub words : List Position → List ℕ → List ℕ

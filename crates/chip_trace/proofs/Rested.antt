@@ -35,6 +35,7 @@ module _ (g : Setting) (h : Ground) (j : ℕ) where
   means_at p (syms.Plain op) i m = m
   means_at p (syms.Call target) i m = (m.0, m.1, reaches_at p target m.0 m.2)
   means_at p (syms.Goto target) i m = (m.0, m.1, reaches_at p target m.0 m.2)
+  means_at p (syms.Table table root) i m = m
 
   pub words_at : (xs : List Position) (below : List ℕ) → words g (rested h j) xs below ≡ words g h xs below
   words_at [] below = refl

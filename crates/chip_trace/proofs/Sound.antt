@@ -4,10 +4,10 @@ use Rattle.std.specs.Prelude.{nat_lt, if◌then◌else◌, ◌&&◌, nat_eq, opt
 use Rattle.std.proofs.lemmas.Bool.{ltb-true}
 use Rattle.pic_world.specs.Bits.{bit, set_bit, clear_bit, truth}
 use Rattle.pic_world.specs.Registers.{is_register, lowest}
-use Rattle.sym_code.specs.Effect.{Setting, Loud, Port, Shared, Rest, Thread, Memory, Write, write, Access, Pointer, Event, Silent, Denied, Effect, Stuck, Quiet, Reads, Writes, Leaves, Ends, Rests, goes, quiet, file_to_w, file_to_file, store, change, test, file_bit, put_flag, test_flag, flag, bits, is_in_page, jump_to, halt, restore, goto, call, back, literal, literal_value, plain, is_far, select, effect_of, effect_if, effect_at, effect_rest, effect}
+use Rattle.sym_code.specs.Effect.{Setting, Loud, Port, Shared, Rest, Thread, Memory, Write, write, Access, Pointer, Event, Silent, Denied, Effect, Stuck, Quiet, Reads, Writes, Leaves, Ends, Rests, goes, quiet, file_to_w, file_to_file, store, change, test, file_bit, put_flag, test_flag, flag, bits, is_in_page, jump_to, halt, restore, goto, call, back, literal, literal_value, plain, is_far, select, effect_of, effect_if, effect_at, effect_rest, effect, silent_byte, result_byte, number_of, table_byte, brought, looked_up, look_up}
 use Rattle.sym_code.specs.Layout.{DataLayout, Watched, owner, all_near}
-use Rattle.sym_code.specs.Programs.{Program, Position, position, fetched, behind, onward, place_of, stand, label_from}
-use Rattle.sym_code.specs.Registers.{Registers, flags_with, after_row, literal_row, skips_with, status_bit, with_status_bit, with_bank_bit, with_page_bit}
+use Rattle.sym_code.specs.Programs.{Program, Position, position, fetched, behind, onward, place_of, stand, label_from, own_place}
+use Rattle.sym_code.specs.Registers.{Registers, flags_with, after_row, literal_row, skips_with, status_bit, with_status_bit, with_bank_bit, with_page_bit, Spoiled}
 use Rattle.sym_code.specs.declared.code.BitOperation.{BitOperation}
 use Rattle.sym_code.specs.declared.code.BitOperation.TheVariants.{Bcf, Bsf, Btfsc, Btfss}
 use Rattle.sym_code.specs.declared.code.BlockName.{BlockName}
@@ -327,6 +327,15 @@ module _ (g : Setting) (i : Bool) where
       page_keeps pages.Low v = good.low
       page_keeps pages.High v = good.low
 
+      -- what a read of a table leaves is neither RP1 nor IRP
+      brought_sound : (left : Spoiled) (o : Option ℕ) → IsSound th (brought g p th left o)
+      brought_sound left None = tt
+      brought_sound left (Some v) = (tt, good_behind _ good.low, none)
+
+      looked_up_sound : (table : ℕ) (o : Option ℕ) → IsSound th (looked_up g p th table o)
+      looked_up_sound table None = tt
+      looked_up_sound table (Some k) = brought_sound (g.leaves table k) (table_byte (g.program.tables table) k)
+
       pub sound_of : (m : Memory) (s : Sym) → keeps_out s ≡ true → IsSound th (effect_of g i p th m s)
       unfolding effect_of
       sound_of m (sym'.File op x into.W) e = w_sound m op _ (access_sound g i false th.registers x)
@@ -341,6 +350,10 @@ module _ (g : Setting) (i : Bool) where
       sound_of m (sym'.Label x) e = tt
       sound_of m (sym'.SelectBank x b) e = select_sound x b
       sound_of m (sym'.SelectPage x t) e = (tt, good_behind _ (page_keeps x _), none)
+      sound_of m (sym'.Table table root) e =
+          let k = number_of (result_byte g i th.registers m root 0) (result_byte g i th.registers m root 1) in
+          paged (is_in_page g p th.registers own_place) (look_up g i p th m table root)
+          (paged (nat_lt (length th.stack) (g.limit i)) (looked_up g p th table k) (looked_up_sound table k))
 
     sound_if : (th : Thread) (p : Position) → IsGood th → th.rest ≡ None → is_copy p.block ≡ true → (m : Memory) (s : Option Sym) → fetched g.program p ≡ s → IsSound th (effect_if g i p th m s)
     sound_if th p good none here m None e = tt

@@ -13,7 +13,7 @@ use Rattle.chip_trace.proofs.StartWhole.{started}
 
 -- a setting is made of what is known of it
 setting_is : (blocks : List SymBlock) (at : List ℕ) (placed : Placed) (handler : Option ℕ) (c : chip.Setting) (g : Setting) → IsAssembled blocks at placed handler c.image c.watch g → G blocks at placed handler c.image c.watch g.limit ≡ g
-setting_is blocks at placed handler c g a = λ i. record { program = sym a.code i; banked = sym a.banked i; page_of = sym a.pages i; limit = g.limit }
+setting_is blocks at placed handler c g a = λ i. record { program = sym a.code i; banked = sym a.banked i; page_of = sym a.pages i; limit = g.limit; leaves = sym a.leaves i }
 
 pub starting : Starting
 starting blocks at placed handler statics g c a b start inputs =

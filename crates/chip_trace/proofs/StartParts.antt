@@ -102,6 +102,7 @@ no_label (syms.Literal a b ∷ xs) label m n e = no_label xs label (m + 1) (n + 
 no_label (syms.Plain a ∷ xs) label m n e = no_label xs label (m + 1) (n + 1) e
 no_label (syms.Call a ∷ xs) label m n e = no_label xs label (m + 1) (n + 1) e
 no_label (syms.Goto a ∷ xs) label m n e = no_label xs label (m + 1) (n + 1) e
+no_label (syms.Table table root ∷ xs) label m n e = no_label xs label (m + 1) (n + 1) e
 
 -- ---- a test along a list in two parts
 pub pass_both : (test : Known → Sym → Bool) (xs ys : List Sym) (st : Selecting) → all_pass test Start st (xs ++ ys) ≡ true → (all_pass test Start st xs ≡ true) × (all_pass test Start (state_behind st xs) ys ≡ true)
@@ -127,6 +128,7 @@ module _ (placed : Placed) where
   select_fine (syms.Plain a) e = absurd (cc)
   select_fine (syms.Call a) e = absurd (cc)
   select_fine (syms.Goto a) e = absurd (cc)
+  select_fine (syms.Table table root) e = absurd (cc)
 
   fine_on : (x : Sym) (xs : List Sym) → (AreFine placed (bare xs) → AreFine placed xs) → (b : Bool) → is_select x ≡ b → AreFine placed (bare (x ∷ xs)) → AreFine placed (x ∷ xs)
   fine_on x xs rest true e f = (select_fine x e, rest (subst (AreFine placed) (bare_select x xs e) f))

@@ -56,6 +56,7 @@ module _ (l : DataLayout) where
   select_same (syms.Plain a) w ram e = absurd (cc)
   select_same (syms.Call a) w ram e = absurd (cc)
   select_same (syms.Goto a) w ram e = absurd (cc)
+  select_same (syms.Table table root) w ram e = absurd (cc)
 
   bare_on : (x : Sym) (xs : List Sym) (w : ℕ) (ram : List ℕ) → ((w' : ℕ) (ram' : List ℕ) → ram_behind xs w' ram' ≡ ram_behind (bare xs) w' ram') → (b : Bool) → is_select x ≡ b
       → ram_behind (x ∷ xs) w ram ≡ ram_behind (bare (x ∷ xs)) w ram

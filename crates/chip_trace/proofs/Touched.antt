@@ -485,3 +485,4 @@ module _ (reaches : ℕ → ℕ → Bool) (g : Setting) (h : Ground) (banked : g
   sym_touched (syms.Label x) here wd e n is f q = absurd (cc)
   sym_touched (syms.SelectBank which on) here wd e n is f q = in_status f (sym (bank_named which on) ∙ ap file_of (sym is) ∙ q)
   sym_touched (syms.SelectPage which t) here wd e n is f q = in_pclath f (sym (page_named which (g.page_of (block_of p.block t))) ∙ ap file_of (sym is) ∙ q)
+  sym_touched (syms.Table table root) here wd e n is f q = absurd is

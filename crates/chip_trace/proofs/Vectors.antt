@@ -127,6 +127,7 @@ module _ (hd : ℕ) where
   select_at (syms.Plain b ∷ xs) j a lt = absurd (cc)
   select_at (syms.Call b ∷ xs) j a lt = absurd (cc)
   select_at (syms.Goto b ∷ xs) j a lt = absurd (cc)
+  select_at (syms.Table table root ∷ xs) j a lt = absurd (cc)
 
   -- what holds of lists of selects
   selects_are : (xs : List Sym) → are_page_selects hd xs ≡ true → (are_words xs ≡ true) × (halts_nowhere xs ≡ true)
@@ -143,6 +144,7 @@ module _ (hd : ℕ) where
   selects_are (syms.Plain b ∷ xs) a = absurd (cc)
   selects_are (syms.Call b ∷ xs) a = absurd (cc)
   selects_are (syms.Goto b ∷ xs) a = absurd (cc)
+  selects_are (syms.Table table root ∷ xs) a = absurd (cc)
 
   abbrev BitAt : PageBit → List Sym → Type 0
   BitAt b xs = (k : ℕ) × (k < length xs) × (bit_of (slice_get xs k) ≡ b)
@@ -164,6 +166,7 @@ module _ (hd : ℕ) where
   low_at (syms.Plain b ∷ xs) a e = absurd (cc)
   low_at (syms.Call b ∷ xs) a e = absurd (cc)
   low_at (syms.Goto b ∷ xs) a e = absurd (cc)
+  low_at (syms.Table table root ∷ xs) a e = absurd (cc)
 
   high_at : (xs : List Sym) → are_page_selects hd xs ≡ true → has_high xs ≡ true → BitAt High xs
   high_at [] a e = absurd (cc)
@@ -179,6 +182,7 @@ module _ (hd : ℕ) where
   high_at (syms.Plain b ∷ xs) a e = absurd (cc)
   high_at (syms.Call b ∷ xs) a e = absurd (cc)
   high_at (syms.Goto b ∷ xs) a e = absurd (cc)
+  high_at (syms.Table table root ∷ xs) a e = absurd (cc)
 
 -- ---- selects of the halt's page
 record TurnAt (xs : List Sym) (j : ℕ) : Type 0 where
@@ -202,6 +206,7 @@ turn_at (syms.Literal b d ∷ xs) j a lt = absurd (cc)
 turn_at (syms.Plain b ∷ xs) j a lt = absurd (cc)
 turn_at (syms.Call b ∷ xs) j a lt = absurd (cc)
 turn_at (syms.Goto b ∷ xs) j a lt = absurd (cc)
+turn_at (syms.Table table root ∷ xs) j a lt = absurd (cc)
 
 turns_are : (xs : List Sym) → are_halt_selects xs ≡ true → are_words xs ≡ true
 turns_are [] a = refl
@@ -219,6 +224,7 @@ turns_are (syms.Literal b d ∷ xs) a = absurd (cc)
 turns_are (syms.Plain b ∷ xs) a = absurd (cc)
 turns_are (syms.Call b ∷ xs) a = absurd (cc)
 turns_are (syms.Goto b ∷ xs) a = absurd (cc)
+turns_are (syms.Table table root ∷ xs) a = absurd (cc)
 
 abbrev halt_jump : List Sym
 halt_jump = syms.Goto (targets.Label Halt) ∷ []

@@ -230,6 +230,7 @@ module _ (g : Setting) (h : Ground) (c : chip.Setting) (hd : ℕ) (x : IsImage g
         not_word p th m (Some (syms.Plain a)) w = absurd (cc)
         not_word p th m (Some (syms.Call a)) w = absurd (cc)
         not_word p th m (Some (syms.Goto a)) w = absurd (cc)
+        not_word p th m (Some (syms.Table table root)) w = absurd (cc)
 
         abbrev p0 : Position
         p0 = front g.program (Copy 0)

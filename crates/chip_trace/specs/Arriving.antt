@@ -24,7 +24,7 @@ use Rattle.sym_code.specs.Effect.{Setting, Memory}
 use Rattle.sym_code.specs.Layout.{all_near, IsLaidOut, Owner, owner, Watched, Of}
 use Rattle.sym_code.specs.Machine.{Entry, sym_start, sym_run}
 use Rattle.sym_code.specs.Programs.{block_in, block_of, label_from}
-use Rattle.sym_code.specs.Registers.{Registers, Fits}
+use Rattle.sym_code.specs.Registers.{Registers, Fits, no_leaves}
 use Rattle.sym_code.specs.Runs.{run_of}
 use Rattle.sym_code.specs.Words.{words_in}
 use Rattle.sym_code.specs.declared.code.BlockName.{BlockName}
@@ -38,6 +38,7 @@ use Rattle.sym_code.specs.declared.code.Sym.TheVariants as syms
 use Rattle.sym_code.specs.declared.code.SymBlock.{SymBlock}
 use Rattle.sym_code.specs.declared.code.Target.{Target}
 use Rattle.sym_code.specs.declared.code.Target.TheVariants as targets
+use Rattle.sym_code.specs.Cost.{times_in}
 use Rattle.code_place.specs.Instructions.{known}
 use Rattle.code_place.specs.Layouts.{program_of, page_of}
 use Rattle.code_place.specs.Pages.{page_words}
@@ -129,6 +130,7 @@ pub record IsAssembled (blocks : List SymBlock) (at : List ℕ) (placed : Placed
   pub code : g.program ≡ program_of blocks handler placed
   pub banked : g.banked ≡ true
   pub pages : g.page_of ≡ page_of blocks at
+  pub leaves : g.leaves ≡ no_leaves
   pub fit : Fit blocks at
   pub words : HoldsInstructions placed blocks at image
   pub named : BlocksHaveAddresses placed blocks at
@@ -153,9 +155,6 @@ pub record IsAssembled (blocks : List SymBlock) (at : List ℕ) (placed : Placed
   pub depth : depth_for handler g.limit ≤ 8
 
 -- ---- the early run
-abbrev pub one_each : BlockName → ℕ → ℕ
-one_each name n = 1
-
 -- how many instructions more than a stretch of the early run the chip may take for it: those of one return from the handler
 abbrev pub slack : ℕ
 slack = 192
@@ -177,7 +176,7 @@ module _ (g : Setting) (c : chip.Setting) where
   outside_at n = outside_of c.inputs (read_off (λ k. (moment c k).trace) n c.arrivals)
 
   abbrev pub early : Entry → Registers → Memory → ℕ → Run (Happening ℕ)
-  early e r m n = run_of g one_each e (outside_at n) (sym_start g.program r m)
+  early e r m n = run_of g (times_in g.program.block) e (outside_at n) (sym_start g.program r m)
 
   -- Under the schedule read off up to each moment k no step is stuck that comes after at most k instructions, while its trace is
   -- no longer than the chip's at that moment.

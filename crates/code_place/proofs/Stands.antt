@@ -49,6 +49,7 @@ is_that label (syms.Literal op value) e = absurd (untrue e)
 is_that label (syms.Plain op) e = absurd (untrue e)
 is_that label (syms.Call target) e = absurd (untrue e)
 is_that label (syms.Goto target) e = absurd (untrue e)
+is_that label (syms.Table table root) e = absurd (untrue e)
 
 either : (a b : Option ℕ) (p : ℕ) → option_or a b ≡ Some p → (a ≡ Some p) ⊎ (b ≡ Some p)
 either None b p e = inr e

@@ -53,6 +53,7 @@ count_one placed target (syms.Literal op value) = refl
 count_one placed target (syms.Plain op) = refl
 count_one placed target (syms.Call name) = refl
 count_one placed target (syms.Goto name) = refl
+count_one placed target (syms.Table table root) = refl
 
 pub count_all : (placed : Placed) (target : Target → Option ℕ) (xs : List Sym) → length (words placed target xs) ≡ words_in xs
 count_all placed target [] = refl

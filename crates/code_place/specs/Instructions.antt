@@ -94,6 +94,10 @@ literal_of placed (values.High byte) = known (address_of placed byte) / 256
 abbrev pub reach : Option ℕ → ℕ
 reach target = known target % 2048
 
+-- A read of a table is a call, but no table has an address: no code in which one is read is put anywhere.
+abbrev pub no_call : Ins
+no_call = isa.Call 0
+
 abbrev pub rows : Placed → (Target → Option ℕ) → Sym → List Ins
 rows placed at (syms.Label label) = []
 rows placed at (syms.SelectBank bit on) = bank_row bit on ∷ []
@@ -106,6 +110,7 @@ rows placed at (syms.Literal op value) = literal_row op (literal_of placed value
 rows placed at (syms.Plain op) = plain_row op ∷ []
 rows placed at (syms.Call target) = isa.Call (reach (at target)) ∷ []
 rows placed at (syms.Goto target) = isa.Goto (reach (at target)) ∷ []
+rows placed at (syms.Table table root) = no_call ∷ []
 
 -- the words of a list, one behind the other
 abbrev pub words : Placed → (Target → Option ℕ) → List Sym → List ℕ

@@ -106,7 +106,7 @@ HasLiteral placed (values.Number number) = Unit {0}
 HasLiteral placed (values.Low byte) = IsSome (address_of placed byte)
 HasLiteral placed (values.High byte) = IsSome (address_of placed byte)
 
--- what an instruction names has an address
+-- what an instruction names has an address; a table has none
 abbrev pub HasAddress : Placed → (Target → Option ℕ) → Sym → Type 0
 HasAddress placed target (syms.Label label) = Unit {0}
 HasAddress placed target (syms.SelectBank bit on) = Unit {0}
@@ -119,6 +119,7 @@ HasAddress placed target (syms.Literal op value) = HasLiteral placed value
 HasAddress placed target (syms.Plain op) = Unit {0}
 HasAddress placed target (syms.Call to) = IsSome (target to)
 HasAddress placed target (syms.Goto to) = IsSome (target to)
+HasAddress placed target (syms.Table table root) = ⊥
 
 -- the same of each instruction of a list
 abbrev pub HaveAddresses : Placed → (Target → Option ℕ) → List Sym → Type 0

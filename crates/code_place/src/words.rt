@@ -91,6 +91,8 @@ impl<'a> Scope<'a> {
             Sym::Goto(target) => Some(Ins::Goto {
                 k: self.target(target) % 2048,
             }),
+            // No table has an address.
+            Sym::Table { .. } => unreachable!(),
         }
     }
 }

@@ -187,7 +187,7 @@ thinning_keeps placed handler at given made thinned apart reaches =
     }
 
 pub thinning_has_flow : ThinningHasFlow
-thinning_has_flow given whole made handler placed at g h thinned apart reaches near same given_code made_code without with pages fit named limits =
+thinning_has_flow given whole made handler placed at g h thinned apart reaches near same given_code made_code without with pages fit named limits leaves =
     let keeps = thinning_keeps placed handler at whole made thinned apart reaches in
     record {
       given_code = given_code;
@@ -198,6 +198,7 @@ thinning_has_flow given whole made handler placed at g h thinned apart reaches n
       fit = fit;
       named = named;
       limits = limits;
+      leaves = leaves;
       same = λ name. keeps.same name ∙ same name;
       apart = keeps.apart;
       mates = keeps.mates;

@@ -1,6 +1,7 @@
 -- What is left of a list without the selects that are known.
 use Rattle.std.proofs.Common.{◌≡◌, ℕ, zero, suc, ◌+◌, ◌≤◌, Bool, true, false, not, ◌&&◌, if◌then◌else◌, List, [], ◌∷◌, Option, Some, None, refl, sym, ap, ◌∙◌, subst, arith}
 use Rattle.std.proofs.lemmas.List.Sums.{sum_by-cons}
+use Rattle.sym_code.specs.Cost.{time_of}
 use Rattle.sym_code.specs.Programs.{block_of}
 use Rattle.sym_code.specs.Selects.{is_select, bare}
 use Rattle.sym_code.specs.Words.{words_of_one, words_in}
@@ -196,13 +197,13 @@ module _ (f : Facts) (own : BlockName) where
 
   -- ---- prices
   price_of_select : (n : ℕ) (s : Sym) (list : List Sym) (k : ℕ) → is_select s ≡ true → price_from n (s ∷ list) k ≡ price_from (n + 1) list k
-  price_of_select n s list zero is = ap (λ (b : Bool). if b then price_from (n + 1) list zero else (if is_label s then 1 else 1 + n)) is
+  price_of_select n s list zero is = ap (λ (b : Bool). if b then price_from (n + 1) list zero else (if is_label s then 1 else time_of s + n)) is
   price_of_select n s list (suc k) is = ap (λ (b : Bool). if b then price_from (n + 1) list (suc k) else price_from (if is_label s then n else 0) list k) is
 
-  here_less : (m n x y : ℕ) (select label : Bool) → m ≤ n → x ≤ y → (if select then x else (if label then 1 else 1 + m)) ≤ (if select then y else (if label then 1 else 1 + n))
-  here_less m n x y true label l r = r
-  here_less m n x y false true l r = omega arith
-  here_less m n x y false false l r = omega arith
+  here_less : (time m n x y : ℕ) (select label : Bool) → m ≤ n → x ≤ y → (if select then x else (if label then 1 else time + m)) ≤ (if select then y else (if label then 1 else time + n))
+  here_less time m n x y true label l r = r
+  here_less time m n x y false true l r = omega arith
+  here_less time m n x y false false l r = omega arith
 
   later_less : (select : Bool) (x y z w : ℕ) → x ≤ y → z ≤ w → (if select then x else z) ≤ (if select then y else w)
   later_less true x y z w l r = l
@@ -224,7 +225,7 @@ module _ (f : Facts) (own : BlockName) where
       by true known k same next =
           subst (λ (x : ℕ). price_from m (thin_from f own fact behind list) k ≤ x) (sym (price_of_select n s list k (known_select f own fact s known))) (same m (n + 1) (omega arith) k)
       by false known zero same next =
-          here_less m n (price_from (m + 1) (rest_of fact behind s list) zero) (price_from (n + 1) list zero) (is_select s) (is_label s) l
+          here_less (time_of s) m n (price_from (m + 1) (rest_of fact behind s list) zero) (price_from (n + 1) list zero) (is_select s) (is_label s) l
           (next (m + 1) (n + 1) (omega arith) zero)
       by false known (suc k) same next =
           later_less (is_select s) (price_from (m + 1) (rest_of fact behind s list) (suc k)) (price_from (n + 1) list (suc k))

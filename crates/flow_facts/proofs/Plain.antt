@@ -56,6 +56,7 @@ module _ (f : Facts) (none : AreUnknown f) where
   leads_none own known (syms.Bit op file bit) = refl
   leads_none own known (syms.SelectBank bit on) = refl
   leads_none own known (syms.SelectPage bit target) = refl
+  leads_none own known (syms.Table table root) = refl
 
   hold_none : (own : BlockName) (fact : Fact) (behind : Bool) (list : List Sym) → all_hold (leads f own) f own fact behind list ≡ true
   hold_none own fact behind [] = refl

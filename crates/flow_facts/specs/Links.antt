@@ -30,6 +30,7 @@ pub record HasFlow (given made : List SymBlock) (handler : Option ℕ) (placed :
   pub fit : Fit made at
   pub named : BlocksHaveAddresses placed made at
   pub limits : h.limit ≡ g.limit
+  pub leaves : h.leaves ≡ g.leaves
   pub same : (name : BlockName) → bare (block_in made name) ≡ block_in given name
   pub apart : All IsApart made
   pub mates : AreMates (page_of made at) facts.mate
@@ -49,5 +50,5 @@ ThinningHasFlow =
     (given whole made : List SymBlock) (handler : Option ℕ) (placed : Placed) (at : List ℕ) (g h : Setting) (thinned : IsThinned handler at whole made)
     → All IsApart whole → All (plain.Reaches placed) whole → KeepNear placed whole → ((name : BlockName) → bare (block_in whole name) ≡ block_in given name)
     → g.program ≡ program_of given handler placed → h.program ≡ program_of made handler placed → g.banked ≡ false → h.banked ≡ true
-    → h.page_of ≡ page_of made at → Fit made at → BlocksHaveAddresses placed made at → h.limit ≡ g.limit
+    → h.page_of ≡ page_of made at → Fit made at → BlocksHaveAddresses placed made at → h.limit ≡ g.limit → h.leaves ≡ g.leaves
     → HasFlow given made handler placed at thinned.facts g h

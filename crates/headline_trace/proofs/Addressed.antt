@@ -73,6 +73,7 @@ use Rattle.headline_trace.proofs.Statics.{some_is}
 select_has : (placed : Placed) (s : Sym) → is_select s ≡ true → HasOperand placed s
 select_has placed (syms.SelectBank bit on) e = tt
 select_has placed (syms.SelectPage bit to) e = tt
+select_has placed (syms.Table table root) e = tt
 select_has placed (syms.Label label) e = tt
 select_has placed (syms.File op file into) e = absurd (cc)
 select_has placed (syms.Movwf file) e = absurd (cc)
@@ -133,6 +134,7 @@ module _ (placed : Placed) where
   narrowed_has (syms.Label label) h = h
   narrowed_has (syms.SelectBank bit on) h = h
   narrowed_has (syms.SelectPage bit target) h = h
+  narrowed_has (syms.Table table root) h = h
 
   cleared_has : (s : Sym) → HasOperand placed s → HasOperand placed (cleared s)
   cleared_has (syms.File op file into) h = h
@@ -146,6 +148,7 @@ module _ (placed : Placed) where
   cleared_has (syms.Label label) h = h
   cleared_has (syms.SelectBank bit on) h = h
   cleared_has (syms.SelectPage bit target) h = h
+  cleared_has (syms.Table table root) h = h
 
   -- a byte before one of a frame that has an address has one, too
   within : (b c : Bool) (x y : ℕ) → (b ≡ true → c ≡ true) → IsSome (if b then Some x else None) → IsSome (if c then Some y else None)
@@ -180,6 +183,7 @@ module _ (placed : Placed) where
   read_has n (syms.Label label) h = h
   read_has n (syms.SelectBank bit on) h = h
   read_has n (syms.SelectPage bit target) h = h
+  read_has n (syms.Table table root) h = h
 
   test_has : (flag : FlagName) (turned : Bool) (s : Sym) → HasOperand placed s → HasOperand placed (tests_flag flag turned s)
   test_has flag turned (syms.File op file into) h = h
@@ -193,6 +197,7 @@ module _ (placed : Placed) where
   test_has flag turned (syms.Label label) h = h
   test_has flag turned (syms.SelectBank bit on) h = h
   test_has flag turned (syms.SelectPage bit target) h = h
+  test_has flag turned (syms.Table table root) h = h
 
   rows_have : (rows : List Row) → HaveOperands placed (olds rows) → HaveOperands placed (puts rows)
   rows_have [] h = tt

@@ -35,6 +35,7 @@ assembly_had p copies core given made placed at image map_content passed has spr
       code = refl;
       banked = refl;
       pages = refl;
+      leaves = refl;
       fit = passed.fit;
       words = made_image.words;
       named = passed.named;

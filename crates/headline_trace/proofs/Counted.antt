@@ -8,6 +8,7 @@ use Rattle.sym_code.specs.Selects.{is_select, bare}
 use Rattle.sym_code.specs.Words.{words_of_one, words_in}
 use Rattle.sym_code.specs.declared.code.Sym.{Sym}
 use Rattle.sym_code.specs.declared.code.Sym.TheVariants as syms
+use Rattle.sym_code.specs.Cost.{time_of}
 use Rattle.math_helpers.specs.Shape.{select_words, accesses_frame, jumps, words_from, most_words, is_straight, sum_from, ArePriced}
 use Rattle.bank_page.specs.Kinds.{is_label}
 use Rattle.bank_page.specs.Links.{price_from}
@@ -36,12 +37,20 @@ counted_shift p n (s ∷ list) =
 
 -- ---- words of code with its selects
 price_select : (n : ℕ) (s : Sym) (list : List Sym) → is_select s ≡ true → (k : ℕ) → price_from n (s ∷ list) k ≡ price_from (n + 1) list k
-price_select n s list is zero = ap (λ (b : Bool). if b then price_from (n + 1) list zero else (if is_label s then 1 else 1 + n)) is
+price_select n s list is zero = ap (λ (b : Bool). if b then price_from (n + 1) list zero else (if is_label s then 1 else time_of s + n)) is
 price_select n s list is (suc k) = ap (λ (b : Bool). if b then price_from (n + 1) list (suc k) else price_from (if is_label s then n else 0) list k) is
 
-price_here : (n : ℕ) (s : Sym) (list : List Sym) → is_select s ≡ false → is_label s ≡ false → price_from n (s ∷ list) zero ≡ 1 + n
+-- an instruction takes one of the chip at least
+some_time : (s : Sym) → 1 ≤ time_of s
+some_time (syms.Table table root) = omega arith
+some_time s = omega arith
+
+price_here : (n : ℕ) (s : Sym) (list : List Sym) → is_select s ≡ false → is_label s ≡ false → 1 + n ≤ price_from n (s ∷ list) zero
 price_here n s list e l =
-    ap (λ (b : Bool). if b then price_from (n + 1) list zero else (if is_label s then 1 else 1 + n)) e ∙ ap (λ (b : Bool). if b then 1 else 1 + n) l
+    let time = some_time s in
+    let price : price_from n (s ∷ list) zero ≡ time_of s + n =
+    ap (λ (b : Bool). if b then price_from (n + 1) list zero else (if is_label s then 1 else time_of s + n)) e ∙ ap (λ (b : Bool). if b then 1 else time_of s + n) l in
+    omega (arith, time, price)
 
 price_later : (n : ℕ) (s : Sym) (list : List Sym) → is_select s ≡ false → (k : ℕ) → price_from n (s ∷ list) (suc k) ≡ price_from (if is_label s then n else 0) list k
 price_later n s list e k = ap (λ (b : Bool). if b then price_from (n + 1) list (suc k) else price_from (if is_label s then n else 0) list k) e
@@ -59,7 +68,7 @@ select_no_label (syms.Label label) e = absurd (cc)
 select_no_label s e = refl
 
 -- one element more in front
-words_more : (s : Sym) (more : List Sym) → ((n : ℕ) → n + words_in more ≡ counted (price_from n more) 0 (bare more)) → (n : ℕ) → n + words_in (s ∷ more) ≡ counted (price_from n (s ∷ more)) 0 (bare (s ∷ more))
+words_more : (s : Sym) (more : List Sym) → ((n : ℕ) → n + words_in more ≤ counted (price_from n more) 0 (bare more)) → (n : ℕ) → n + words_in (s ∷ more) ≤ counted (price_from n (s ∷ more)) 0 (bare (s ∷ more))
 unfolding counted
 words_more s more below n = by (is_select s) (is_label s) refl refl where
   sum : words_in (s ∷ more) ≡ words_of_one s + words_in more
@@ -72,7 +81,7 @@ words_more s more below n = by (is_select s) (is_label s) refl refl where
       (counted_shift (price_from n (s ∷ more)) 0 (bare more)
       ∙ counted_same (λ k. price_from n (s ∷ more) (suc k)) (price_from (if is_label s then n else 0) more) (price_later n s more f) 0 (bare more))
 
-  by : (a b : Bool) → is_select s ≡ a → is_label s ≡ b → n + words_in (s ∷ more) ≡ counted (price_from n (s ∷ more)) 0 (bare (s ∷ more))
+  by : (a b : Bool) → is_select s ≡ a → is_label s ≡ b → n + words_in (s ∷ more) ≤ counted (price_from n (s ∷ more)) 0 (bare (s ∷ more))
   by true b f g =
       let rest = below (n + 1) in
       let one = other_words s (select_no_label s f) in
@@ -95,7 +104,7 @@ words_more s more below n = by (is_select s) (is_label s) refl refl where
       omega (arith, rest, one, out, cost, price, sum)
 
 -- the last instruction
-words_last : (last : Sym) → is_select last ≡ false → is_label last ≡ false → (n : ℕ) → n + words_in (last ∷ []) ≡ counted (price_from n (last ∷ [])) 0 (bare (last ∷ []))
+words_last : (last : Sym) → is_select last ≡ false → is_label last ≡ false → (n : ℕ) → n + words_in (last ∷ []) ≤ counted (price_from n (last ∷ [])) 0 (bare (last ∷ []))
 unfolding counted
 words_last last e l n =
     let one = other_words last l in
@@ -106,8 +115,8 @@ words_last last e l n =
     ap (λ (b : Bool). counted (price_from n (last ∷ [])) 0 (if not b then last ∷ [] else [])) e in
     omega (arith, one, sum, price, cost, rest)
 
--- Of code that ends with an instruction, so many selects before it and its words are what its instructions cost.
-pub words_are : (list : List Sym) (last : Sym) → is_select last ≡ false → is_label last ≡ false → (n : ℕ) → n + words_in (list ++ last ∷ []) ≡ counted (price_from n (list ++ last ∷ [])) 0 (bare (list ++ last ∷ []))
+-- Of code that ends with an instruction, so many selects before it and its words are no more than what its instructions cost.
+pub words_are : (list : List Sym) (last : Sym) → is_select last ≡ false → is_label last ≡ false → (n : ℕ) → n + words_in (list ++ last ∷ []) ≤ counted (price_from n (list ++ last ∷ [])) 0 (bare (list ++ last ∷ []))
 words_are [] last e l n = words_last last e l n
 words_are (s ∷ list) last e l n = words_more s (list ++ last ∷ []) (λ k. words_are list last e l k) n
 
@@ -144,13 +153,13 @@ has_last (s ∷ t ∷ rest) e =
     let more = has_last (t ∷ rest) e in
     record { front = s ∷ more.front; last = more.last; is = ap (λ l. s ∷ l) more.is; no_select = more.no_select; no_label = more.no_label }
 
--- so its words are what its instructions cost
-pub words_counted : (list : List Sym) → ends_well list ≡ true → words_in list ≡ counted (price_from 0 list) 0 (bare list)
+-- so its words are no more than what its instructions cost
+pub words_counted : (list : List Sym) → ends_well list ≡ true → words_in list ≤ counted (price_from 0 list) 0 (bare list)
 words_counted list e =
     let x = has_last list e in
-    let P : List Sym → Type 0 = λ l. words_in l ≡ counted (price_from 0 l) 0 (bare l) in
-    let z : 0 + words_in (x.front ++ x.last ∷ []) ≡ words_in (x.front ++ x.last ∷ []) = omega arith in
-    subst P (sym x.is) (sym z ∙ words_are x.front x.last x.no_select x.no_label 0)
+    let P : List Sym → Type 0 = λ l. words_in l ≤ counted (price_from 0 l) 0 (bare l) in
+    let few = words_are x.front x.last x.no_select x.no_label 0 in
+    subst P (sym x.is) (omega (arith, few))
 
 -- ---- stretches between labels
 -- instructions behind others, up to a label or the end, don't end with a skip

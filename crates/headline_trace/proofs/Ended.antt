@@ -35,6 +35,7 @@ ends_later last (s ∷ list) e = e
 select_word : (s : Sym) → is_select s ≡ true → becomes_word s ≡ true
 select_word (syms.SelectBank bit on) e = refl
 select_word (syms.SelectPage bit target) e = refl
+select_word (syms.Table table root) e = refl
 select_word (syms.Label label) e = absurd (cc)
 select_word (syms.File op file into) e = refl
 select_word (syms.Movwf file) e = refl
@@ -48,6 +49,7 @@ select_word (syms.Goto target) e = refl
 one_word : (s : Sym) → becomes_word s ≡ true → words_of_one s ≡ 1
 one_word (syms.SelectBank bit on) e = refl
 one_word (syms.SelectPage bit target) e = refl
+one_word (syms.Table table root) e = refl
 one_word (syms.Label label) e = absurd (cc)
 one_word (syms.File op file into) e = refl
 one_word (syms.Movwf file) e = refl
@@ -62,6 +64,7 @@ label_wordless : (label : Label) (s : Sym) → is_label label (label_of s) ≡ t
 label_wordless label (syms.Label l) e = refl
 label_wordless label (syms.SelectBank bit on) e = absurd (cc)
 label_wordless label (syms.SelectPage bit target) e = absurd (cc)
+label_wordless label (syms.Table table root) e = absurd (cc)
 label_wordless label (syms.File op file into) e = absurd (cc)
 label_wordless label (syms.Movwf file) e = absurd (cc)
 label_wordless label (syms.Clrf file) e = absurd (cc)

@@ -24,8 +24,9 @@ use Rattle.sym_code.specs.Registers.{Registers, Fits}
 use Rattle.sym_code.specs.Runs.{run_of}
 use Rattle.sym_code.specs.declared.code.BlockName.TheVariants.{Copy}
 use Rattle.sym_code.specs.declared.code.Sym.{Sym}
+use Rattle.sym_code.specs.Cost.{times_in}
 use Rattle.select_trace.proofs.Placed.{slot, stands_in, watched, frames_own}
-use Rattle.chip_trace.specs.Arriving.{IsStarted, IsMet, Arrives, one_each, is_kept, keeps_out, outside_at}
+use Rattle.chip_trace.specs.Arriving.{IsStarted, IsMet, Arrives, is_kept, keeps_out, outside_at}
 use Rattle.headline.specs.Headline.{Source, last_written, is_guarded}
 use Rattle.headline.specs.OnChip.{IsClean}
 use Rattle.headline_trace.specs.Carried.{IsLed, IsSeen, IsTold, frame_of}
@@ -77,7 +78,7 @@ module _ {E : Type 0} (show : E → Happening ℕ) (above : Outside → Run E) (
     (begins : Registers) (fits : Fits begins) (arrives : (n : ℕ) → (entry : Entry) × AreEntries entry × Arrives g c entry begins (slice_index (moment c started.at).state.ram) n)
     (seen : (o : Outside) → o.input ≡ c.inputs → IsSeen show (above o) (source.run o))
     (led : (e : Entry) → AreEntries e → (o : Outside) → o.input ≡ c.inputs
-    → IsLed show (above o) (source.run o).steps source.nodes (run_of g one_each e o (sym_start g.program begins (slice_index (moment c started.at).state.ram))))
+    → IsLed show (above o) (source.run o).steps source.nodes (run_of g (times_in g.program.block) e o (sym_start g.program begins (slice_index (moment c started.at).state.ram))))
   where
     abbrev l : DataLayout
     l = g.program.layout

@@ -120,6 +120,7 @@ no_halt (syms.Label label ∷ list) n e = by (same_label label labels.Halt) (no_
   by false below h = below h
 no_halt (syms.SelectBank bit on ∷ list) n e = no_halt list (n + 1) e
 no_halt (syms.SelectPage bit target ∷ list) n e = no_halt list (n + 1) e
+no_halt (syms.Table table root ∷ list) n e = no_halt list (n + 1) e
 no_halt (syms.File op file into ∷ list) n e = no_halt list (n + 1) e
 no_halt (syms.Movwf file ∷ list) n e = no_halt list (n + 1) e
 no_halt (syms.Clrf file ∷ list) n e = no_halt list (n + 1) e

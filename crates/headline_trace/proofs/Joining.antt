@@ -16,7 +16,8 @@ use Rattle.sym_code.specs.Effect.{Setting, Memory}
 use Rattle.sym_code.specs.Machine.{Entry, sym_start, sym_run}
 use Rattle.sym_code.specs.Registers.{Registers}
 use Rattle.sym_code.specs.Runs.{run_of}
-use Rattle.chip_trace.specs.Arriving.{IsStarted, IsRunning, IsMet, Arrives, one_each, outside_at, early}
+use Rattle.sym_code.specs.Cost.{times_in}
+use Rattle.chip_trace.specs.Arriving.{IsStarted, IsRunning, IsMet, Arrives, outside_at, early}
 use Rattle.headline.specs.Headline.{Source, SourceRun, HasNext, IsQuiet}
 use Rattle.headline.specs.OnChip.{IsClean}
 use Rattle.headline_trace.specs.Carried.{IsSteady, IsLed, IsSeen}
@@ -28,7 +29,7 @@ module _ {E : Type 0} (show : E → Happening ℕ) (above : Outside → Run E) (
     (begins : Registers) (arrives : (n : ℕ) → (entry : Entry) × AreEntries entry × Arrives g c entry begins (slice_index (moment c started.at).state.ram) n)
     (seen : (o : Outside) → o.input ≡ c.inputs → IsSeen show (above o) (source.run o))
     (led : (e : Entry) → AreEntries e → (o : Outside) → o.input ≡ c.inputs
-    → IsLed show (above o) (source.run o).steps source.nodes (run_of g one_each e o (sym_start g.program begins (slice_index (moment c started.at).state.ram))))
+    → IsLed show (above o) (source.run o).steps source.nodes (run_of g (times_in g.program.block) e o (sym_start g.program begins (slice_index (moment c started.at).state.ram))))
   where
     abbrev m : Memory
     m = slice_index (moment c started.at).state.ram
@@ -56,7 +57,7 @@ module _ {E : Type 0} (show : E → Happening ℕ) (above : Outside → Run E) (
     link n k = led (entry n) (arrives n).1 (O k) refl
 
     b_is_run : (n k : ℕ) → IsRun (b n k)
-    b_is_run n k = is_run g one_each (entry n) (O k) (sym_start g.program begins m)
+    b_is_run n k = is_run g (times_in g.program.block) (entry n) (O k) (sym_start g.program begins m)
 
     shown_long : (n i : ℕ) → length ((s n).trace i) ≡ length ((u n).trace i)
     shown_long n i = ap length ((seen (O n) refl).trace i) ∙ length-map (map show ((u n).trace i)) event_of ∙ length-map ((u n).trace i) show
@@ -110,7 +111,7 @@ module _ {E : Type 0} (show : E → Happening ℕ) (above : Outside → Run E) (
       length_u i = length ((u n).trace i)
 
       single_b : (i : ℕ) → length_b (suc i) ≤ length_b i + 1
-      single_b i = by (next_longer g one_each (entry n) (O n) (sym_start g.program begins m) i) where
+      single_b i = by (next_longer g (times_in g.program.block) (entry n) (O n) (sym_start g.program begins m) i) where
         by : Longer ((b n n).trace i) ((b n n).trace (suc i)) → length_b (suc i) ≤ length_b i + 1
         by (inl same) = let q = ap length same in omega arith
         by (inr more) = let q = ap length more.1 ∙ length-append ((b n n).trace i) (more.0 ∷ []) in omega arith

@@ -77,6 +77,7 @@ module _ (placed : Placed) where
   narrowed_near (syms.Label label) h = h
   narrowed_near (syms.SelectBank bit on) h = h
   narrowed_near (syms.SelectPage bit target) h = h
+  narrowed_near (syms.Table table root) h = h
 
   cleared_near : (s : Sym) → IsNear placed s → IsNear placed (cleared s)
   cleared_near (syms.File op file into) h = h
@@ -90,6 +91,7 @@ module _ (placed : Placed) where
   cleared_near (syms.Label label) h = h
   cleared_near (syms.SelectBank bit on) h = h
   cleared_near (syms.SelectPage bit target) h = h
+  cleared_near (syms.Table table root) h = h
 
   read_near : (n : ℕ) (s : Sym) → HaveOperands placed (s ∷ []) → IsNear placed s → IsNear placed (reads_before n s)
   read_near n (syms.File op file into) has h = operand_near n file has.0 h
@@ -103,6 +105,7 @@ module _ (placed : Placed) where
   read_near n (syms.Label label) has h = h
   read_near n (syms.SelectBank bit on) has h = h
   read_near n (syms.SelectPage bit target) has h = h
+  read_near n (syms.Table table root) has h = h
 
   status_low : (at : ℕ) → Some 0x03 ≡ Some at → at < 0x100
   status_low at q = let same = same_Some 0x03 at q in omega (arith, same)
@@ -119,6 +122,7 @@ module _ (placed : Placed) where
   test_near flag turned (syms.Label label) h = h
   test_near flag turned (syms.SelectBank bit on) h = h
   test_near flag turned (syms.SelectPage bit target) h = h
+  test_near flag turned (syms.Table table root) h = h
 
   rows_near : (rows : List Row) → HaveOperands placed (olds rows) → AreNear placed (olds rows) → AreNear placed (puts rows)
   rows_near [] has h = tt

@@ -60,6 +60,7 @@ with_selects test (s ∷ list) selects e = by (is_select s) refl e (with_selects
 small_select : (s : Sym) → is_select s ≡ true → is_small s ≡ true
 small_select (syms.SelectBank bit on) e = refl
 small_select (syms.SelectPage bit target) e = refl
+small_select (syms.Table table root) e = refl
 small_select (syms.Label label) e = refl
 small_select (syms.File op file into) e = refl
 small_select (syms.Movwf file) e = refl
@@ -73,6 +74,7 @@ small_select (syms.Goto target) e = refl
 outside_select : (s : Sym) → is_select s ≡ true → keeps_out s ≡ true
 outside_select (syms.SelectBank bit on) e = refl
 outside_select (syms.SelectPage bit target) e = refl
+outside_select (syms.Table table root) e = refl
 outside_select (syms.Label label) e = refl
 outside_select (syms.File op file into) e = refl
 outside_select (syms.Movwf file) e = refl
@@ -116,6 +118,7 @@ plain_own (s ∷ list) e = by (not (is_select s)) (is_small s) (keeps_out s) (is
 own_select : (s : Sym) → is_select s ≡ true → is_own s ≡ true
 own_select (syms.SelectBank bit on) e = refl
 own_select (syms.SelectPage bit target) e = refl
+own_select (syms.Table table root) e = refl
 own_select (syms.Label (labels.Inner n)) e = refl
 own_select (syms.Label labels.Halt) e = absurd (cc)
 own_select (syms.Label labels.Restore) e = absurd (cc)

@@ -104,6 +104,7 @@ narrowed_plain (syms.Goto target) e = e
 narrowed_plain (syms.Label label) e = e
 narrowed_plain (syms.SelectBank bit on) e = e
 narrowed_plain (syms.SelectPage bit target) e = e
+narrowed_plain (syms.Table table root) e = e
 
 cleared_plain : (s : Sym) → is_plain s ≡ true → is_plain (cleared s) ≡ true
 cleared_plain (syms.File op file into) e = e
@@ -117,6 +118,7 @@ cleared_plain (syms.Goto target) e = e
 cleared_plain (syms.Label label) e = e
 cleared_plain (syms.SelectBank bit on) e = e
 cleared_plain (syms.SelectPage bit target) e = e
+cleared_plain (syms.Table table root) e = e
 
 read_plain : (n : ℕ) (s : Sym) → is_plain s ≡ true → is_plain (reads_before n s) ≡ true
 read_plain n (syms.File op file into) e = e
@@ -130,6 +132,7 @@ read_plain n (syms.Goto target) e = e
 read_plain n (syms.Label label) e = e
 read_plain n (syms.SelectBank bit on) e = e
 read_plain n (syms.SelectPage bit target) e = e
+read_plain n (syms.Table table root) e = e
 
 test_plain : (flag : FlagName) (turned : Bool) (s : Sym) → is_plain s ≡ true → is_plain (tests_flag flag turned s) ≡ true
 test_plain flag turned (syms.File op file into) e = e
@@ -143,6 +146,7 @@ test_plain flag turned (syms.Goto target) e = e
 test_plain flag turned (syms.Label label) e = e
 test_plain flag turned (syms.SelectBank bit on) e = e
 test_plain flag turned (syms.SelectPage bit target) e = e
+test_plain flag turned (syms.Table table root) e = e
 
 front_of : (a b : Bool) → (a && b) ≡ true → a ≡ true
 front_of true b e = refl

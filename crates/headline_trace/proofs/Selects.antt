@@ -45,4 +45,4 @@ made_same p copies core given made placed at passed name =
 pub selects_had : SelectsAreHad
 selects_had p copies core given made placed at limit passed near =
     thinning_has_flow passed.lean passed.whole made (handler_at copies) placed at (bare_setting passed.lean made (handler_at copies) placed at limit) (full_setting made (handler_at copies) placed at limit) passed.thinned
-    passed.blocks.apart passed.blocks.reaches near (whole_same p copies core given made placed at passed) refl refl refl refl refl passed.fit passed.named refl
+    passed.blocks.apart passed.blocks.reaches near (whole_same p copies core given made placed at passed) refl refl refl refl refl passed.fit passed.named refl refl

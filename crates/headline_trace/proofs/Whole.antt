@@ -21,7 +21,7 @@ use Rattle.core_code.specs.Machine as core
 use Rattle.core_code.specs.Runs as core_runs
 use Rattle.core_code.specs.declared.code.Body.{Body}
 use Rattle.core_code.specs.declared.code.FirstByte.{FirstByte}
-use Rattle.sym_code.specs.Cost.{cost_by}
+use Rattle.sym_code.specs.Cost.{cost_by, times_in}
 use Rattle.sym_code.specs.Correct.{AreEntries, IsBegun}
 use Rattle.sym_code.specs.Effect.{Setting, Memory}
 use Rattle.sym_code.specs.Layout.{DataLayout, shown}
@@ -39,7 +39,7 @@ use Rattle.lower_trace.specs.Lowering.{source_run, held_as}
 use Rattle.lower_trace.proofs.Lowered.{lowers}
 use Rattle.bank_page.specs.Links.{price_in}
 use Rattle.bank_trace.proofs.Chosen.{flows_keep}
-use Rattle.chip_trace.specs.Arriving.{IsStarted, Arrives, one_each}
+use Rattle.chip_trace.specs.Arriving.{IsStarted, Arrives}
 use Rattle.chip_trace.proofs.Final.{arriving}
 use Rattle.chip_trace.proofs.StartFinal.{starting}
 use Rattle.headline.specs.Headline.{Source}
@@ -137,7 +137,7 @@ module _ (p : Program) (copies : List FnCopy) (bodies : List Body) (statics : Li
     bare_run = run_of bare (price_in (block_in made)) e o (sym_start bare.program begins m)
 
     abbrev full_run : Run (Happening ℕ)
-    full_run = run_of full one_each e o (sym_start full.program begins m)
+    full_run = run_of full (times_in full.program.block) e o (sym_start full.program begins m)
 
     -- byte code, by the law of lowering
     led_byte : IsLed (event_as (held_as p copies)) (above o) (steps_by (sources.setting_of p o)) (nodes_of p) byte_run

@@ -6,7 +6,7 @@ use Rattle.std.proofs.lemmas.List.Sums.{sum_by-cons}
 use Rattle.chip_trace.specs.Arriving.{is_near, is_small}
 use Rattle.code_place.specs.Addresses.{address_of, in_memory, object_byte, frame_byte, result_byte}
 use Rattle.code_place.specs.Image.{Holds}
-use Rattle.code_place.specs.Instructions.{file_row, bit_row, literal_row, plain_row, bank_row, page_row, bit_set, known, low, literal_of, reach, rows}
+use Rattle.code_place.specs.Instructions.{file_row, bit_row, literal_row, plain_row, bank_row, page_row, bit_set, known, low, literal_of, reach, rows, no_call}
 use Rattle.code_place.specs.Places.{target_for, HoldsInstructions, IsErasedElsewhere, IsFree}
 use Rattle.core_code.specs.declared.code.Byte.{Byte}
 use Rattle.core_code.specs.declared.code.Byte.TheVariants as bytes
@@ -147,6 +147,7 @@ module _ (placed : Placed) where
   has_row target (syms.Label label) one fits small = absurd (omega (arith, one))
   has_row target (syms.SelectBank which on) one fits small = record { row = bank_row which on; is = refl; good = bank_good which on }
   has_row target (syms.SelectPage which to) one fits small = record { row = page_row which (known (target to)); is = refl; good = page_good which (known (target to)) }
+  has_row target (syms.Table table root) one fits small = record { row = no_call; is = refl; good = record { fits = omega arith; modelled = refl } }
   has_row target (syms.File op y into) one fits small = record { row = file_row op (low placed y) (is_file into); is = refl; good = file_good op (low placed y) (is_file into) (omega arith) }
   has_row target (syms.Movwf y) one fits small = record { row = isa.Movwf (low placed y); is = refl; good = record { fits = omega arith; modelled = refl } }
   has_row target (syms.Clrf y) one fits small = record { row = isa.Clrf (low placed y); is = refl; good = record { fits = omega arith; modelled = refl } }
@@ -161,6 +162,7 @@ one_or_none : (s : Sym) → (words_of_one s ≡ 0) ⊎ (words_of_one s ≡ 1)
 one_or_none (syms.Label label) = inl refl
 one_or_none (syms.SelectBank which on) = inr refl
 one_or_none (syms.SelectPage which to) = inr refl
+one_or_none (syms.Table table root) = inr refl
 one_or_none (syms.File op y into) = inr refl
 one_or_none (syms.Movwf y) = inr refl
 one_or_none (syms.Clrf y) = inr refl

@@ -10,8 +10,8 @@ use Rattle.sym_code.specs.Effect.{Setting, Memory}
 use Rattle.sym_code.specs.Layout.{DataLayout, frame, is_whole}
 use Rattle.sym_code.specs.Machine.{Entry, running, settled, sym_run, sym_start}
 use Rattle.sym_code.specs.Marks.{is_marked}
-use Rattle.sym_code.specs.Programs.{Program, block_in}
-use Rattle.sym_code.specs.Registers.{Registers}
+use Rattle.sym_code.specs.Programs.{Program, block_in, no_tables}
+use Rattle.sym_code.specs.Registers.{Registers, no_leaves}
 use Rattle.sym_code.specs.Runs.{run_of, weighed_of}
 use Rattle.sym_code.specs.declared.code.BlockName.{BlockName}
 use Rattle.sym_code.specs.declared.code.BlockName.TheVariants.{Copy}
@@ -30,11 +30,11 @@ use Rattle.lean_pass.specs.Made.{IsLean}
 -- ---- programs
 -- by the code of each name
 abbrev pub program_by : DataLayout → Option ℕ → (BlockName → List Sym) → Program
-program_by l handler block = record { block = block; handler = handler; layout = l }
+program_by l handler block = record { block = block; handler = handler; layout = l; tables = no_tables }
 
 -- banks and pages don't count: selects come later
 abbrev pub setting_by : DataLayout → Option ℕ → (BlockName → List Sym) → (BlockName → ℕ) → (Bool → ℕ) → Setting
-setting_by l handler block page limit = record { program = program_by l handler block; banked = false; page_of = page; limit = limit }
+setting_by l handler block page limit = record { program = program_by l handler block; banked = false; page_of = page; limit = limit; leaves = no_leaves }
 
 -- ---- accesses through FSR
 -- At each of its first n steps that carries out an instruction the code accesses no hidden byte through FSR.

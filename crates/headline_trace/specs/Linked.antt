@@ -24,7 +24,7 @@ use Rattle.sym_code.specs.Effect.{Setting, Memory}
 use Rattle.sym_code.specs.Layout.{DataLayout, frame}
 use Rattle.sym_code.specs.Machine.{Entry, running, settled, sym_run, sym_start}
 use Rattle.sym_code.specs.Programs.{block_in}
-use Rattle.sym_code.specs.Registers.{Registers}
+use Rattle.sym_code.specs.Registers.{Registers, no_leaves}
 use Rattle.sym_code.specs.Runs.{run_of, weighed_of}
 use Rattle.sym_code.specs.declared.code.BlockName.{BlockName}
 use Rattle.sym_code.specs.declared.code.SymBlock.{SymBlock}
@@ -78,10 +78,10 @@ LeadsTo lent q = (o : Outside) (i : ℕ) → reaches_lent lent (byte_code.core_m
 -- ---- symbolic code
 -- symbolic code as it was selected, or leaner, without selects, on the pages of what is made of it; and with them
 abbrev pub bare_setting : List SymBlock → List SymBlock → Option ℕ → Placed → List ℕ → (Bool → ℕ) → Setting
-bare_setting given made handler placed at limit = record { program = program_of given handler placed; banked = false; page_of = page_of made at; limit = limit }
+bare_setting given made handler placed at limit = record { program = program_of given handler placed; banked = false; page_of = page_of made at; limit = limit; leaves = no_leaves }
 
 abbrev pub full_setting : List SymBlock → Option ℕ → Placed → List ℕ → (Bool → ℕ) → Setting
-full_setting made handler placed at limit = record { program = program_of made handler placed; banked = true; page_of = page_of made at; limit = limit }
+full_setting made handler placed at limit = record { program = program_of made handler placed; banked = true; page_of = page_of made at; limit = limit; leaves = no_leaves }
 
 -- At each of its first n steps that carries out an instruction the code accesses no hidden byte through FSR.
 abbrev pub StaysOpen : (ℕ → Bool) → Setting → Outside → Entry → Registers → Memory → ℕ → Type 0

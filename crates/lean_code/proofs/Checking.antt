@@ -187,6 +187,7 @@ module _ (k : Sketch) (limit : Bool → ℕ) (old_page new_page : BlockName → 
   kept_is rest (syms.Label label) e = tt
   kept_is rest (syms.SelectBank which on) e = expects_at rest f d bytes here e
   kept_is rest (syms.SelectPage which target) e = expects_at rest f d bytes here e
+  kept_is rest (syms.Table table root) e = never e
 
   -- ---- what is left out
   within_works : (op : FileOperation) (byte : Option ℕ) → Within (one_works op byte f d) bytes

@@ -274,3 +274,4 @@ module _ (x : Lean) (sound : IsSound x) (inside : Bool) (rest : ℕ → Bool) (s
       stuck_both (is_far which on && layouts.all_near x.layout) (quiet (goes first (behind (old_program x) p) (with_bank_bit r which (truth on)))) (quiet (goes second (behind (new_program x) (under x p)) (with_bank_bit s which (truth on))))
       (goes_both f d e (with_bank_bit r which (truth on)) (with_bank_bit s which (truth on)) (bank_alike which (truth on)) (bank_holds which (truth on)) scene.still)
   kept_both (syms.SelectPage which target) clear e = goes_both f d e (with_page_bit r which _) (with_page_bit s which _) (page_alike which _ _) (page_holds which _) scene.still
+  kept_both (syms.Table table root) clear e = absurd e

@@ -4,11 +4,11 @@ use Rattle.std.specs.Prelude.{◌&&◌, nat_eq, nat_lt, length}
 use Rattle.pic_world.specs.World.{Outside, is_due}
 use Rattle.pic_world.specs.Bits.{truth, bit, set_bit, clear_bit}
 use Rattle.sym_code.specs.Layout.{all_near}
-use Rattle.sym_code.specs.Effect.{Setting, Rest, Thread, Memory, Access, Pointer, Event, Silent, Denied, access_of, Effect, Stuck, Quiet, Reads, Writes, Leaves, Ends, Rests, file_to_w, file_to_file, store, change, test, flag, put_flag, test_flag, is_in_page, jump_to, halt, restore, goto, call, back, literal, plain, quiet, goes, is_far, effect_of, effect_if, effect}
+use Rattle.sym_code.specs.Effect.{Setting, Rest, Thread, Memory, Access, Pointer, Event, Silent, Denied, access_of, Effect, Stuck, Quiet, Reads, Writes, Leaves, Ends, Rests, file_to_w, file_to_file, store, change, test, flag, put_flag, test_flag, is_in_page, jump_to, halt, restore, goto, call, back, literal, plain, quiet, goes, is_far, table_byte, number_of, result_byte, brought, looked_up, look_up, effect_of, effect_if, effect}
 use Rattle.sym_code.specs.Machine as next
 use Rattle.sym_code.specs.Machine.{Machine, Entry, Next, Stops, Still, Made, made, checked, moved, running, acted, act, enter, with_entry, at_front, sym_step_at}
-use Rattle.sym_code.specs.Programs.{Program, Position, fetched, front, lands, behind, place_of}
-use Rattle.sym_code.specs.Registers.{Registers, status_bit, with_status_bit, with_bank_bit}
+use Rattle.sym_code.specs.Programs.{Program, Position, own_place, fetched, front, lands, behind, place_of}
+use Rattle.sym_code.specs.Registers.{Registers, Spoiled, status_bit, with_status_bit, with_bank_bit}
 use Rattle.sym_code.specs.Runs.{is_still}
 use Rattle.sym_code.specs.declared.code.BitOperation.{BitOperation}
 use Rattle.sym_code.specs.declared.code.BitOperation.TheVariants.{Bcf, Bsf, Btfsc, Btfss}
@@ -119,6 +119,14 @@ moves_if : (c : Bool) (e : Effect) → Moves e → Moves (if c then e else Stuck
 moves_if true e h = h
 moves_if false e h = refl
 
+brought_moves : (g : Setting) (p : Position) (th : Thread) (left : Spoiled) (o : Option ℕ) → Moves (brought g p th left o)
+brought_moves g p th left None = refl
+brought_moves g p th left (Some v) = refl
+
+looked_up_moves : (g : Setting) (p : Position) (th : Thread) (table : ℕ) (o : Option ℕ) → Moves (looked_up g p th table o)
+looked_up_moves g p th table None = refl
+looked_up_moves g p th table (Some k) = brought_moves g p th (g.leaves table k) (table_byte (g.program.tables table) k)
+
 module _ (g : Setting) (inside : Bool) (p : Position) (th : Thread) (m : Memory) where
   goto_moves : (target : Target) → Moves (goto g inside p th target)
   goto_moves (targets.Label labels.Halt) = halt_moves inside th th.stack
@@ -146,6 +154,10 @@ module _ (g : Setting) (inside : Bool) (p : Position) (th : Thread) (m : Memory)
   row_moves (syms.Label label) = refl
   row_moves (syms.SelectBank which on) = stuck_moves g.program p th m (is_far which on && all_near g.program.layout) (quiet (goes th (behind g.program p) (with_bank_bit th.registers which (truth on)))) refl
   row_moves (syms.SelectPage which target) = refl
+  row_moves (syms.Table table root) =
+      let k = number_of (result_byte g inside th.registers m root 0) (result_byte g inside th.registers m root 1) in
+      moves_if (is_in_page g p th.registers own_place) (look_up g inside p th m table root)
+      (moves_if (nat_lt (length th.stack) (g.limit inside)) (looked_up g p th table k) (looked_up_moves g p th table k))
 
   some_moves : (o : Option Sym) → Moves (effect_if g inside p th m o)
   some_moves None = refl

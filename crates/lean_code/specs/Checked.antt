@@ -341,6 +341,7 @@ module _ (k : Sketch) (block : ListedBlock) (n : ListedNote) where
   is_kept rest (syms.Label label) = true
   is_kept rest (syms.SelectBank bit on) = expects (ahead rest) f d here_bytes
   is_kept rest (syms.SelectPage bit target) = expects (ahead rest) f d here_bytes
+  is_kept rest (syms.Table table root) = false
 
   abbrev pub drops_carried : List ListedRow → ℕ → ℕ → Bool → Bool
   drops_carried rest i c true = expects_by (ties_left None (f.held i)) (ahead rest) (moved (ToByte i) f) (record d { w = false; z = not (reports n.shown) }) here_bytes

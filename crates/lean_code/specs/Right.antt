@@ -215,6 +215,7 @@ module _ (x : Lean) (own : BlockName) (inside : Bool) (n : Note) where
   IsKept rest (syms.Label label) = Unit {0}
   IsKept rest (syms.SelectBank bit on) = Expects (note_ahead rest) f d
   IsKept rest (syms.SelectPage bit target) = Expects (note_ahead rest) f d
+  IsKept rest (syms.Table table root) = ⊥
 
   -- ---- only the given code has it
   -- W may be on the other machine already what is read

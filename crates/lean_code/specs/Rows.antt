@@ -5,7 +5,8 @@ use Rattle.core_code.specs.declared.code.Byte.{Byte}
 use Rattle.core_code.specs.declared.code.Byte.TheVariants as bytes
 use Rattle.sym_code.specs.Effect.{Setting}
 use Rattle.sym_code.specs.Layout.{DataLayout}
-use Rattle.sym_code.specs.Programs.{Program, labels_in_front}
+use Rattle.sym_code.specs.Programs.{Program, no_tables, labels_in_front}
+use Rattle.sym_code.specs.Registers.{no_leaves}
 use Rattle.sym_code.specs.declared.code.BitOperation.{BitOperation}
 use Rattle.sym_code.specs.declared.code.BitOperation.TheVariants as bit_ops
 use Rattle.sym_code.specs.declared.code.BlockName.{BlockName}
@@ -239,13 +240,13 @@ pub record Lean : Type 0 where
   pub hidden : ℕ → Bool
 
 abbrev pub old_program : Lean → Program
-old_program x = record { block = λ name. olds (x.rows name); handler = x.handler; layout = x.layout }
+old_program x = record { block = λ name. olds (x.rows name); handler = x.handler; layout = x.layout; tables = no_tables }
 
 abbrev pub new_program : Lean → Program
-new_program x = record { block = λ name. puts (x.rows name); handler = x.handler; layout = x.layout }
+new_program x = record { block = λ name. puts (x.rows name); handler = x.handler; layout = x.layout; tables = no_tables }
 
 abbrev pub old_setting : Lean → Setting
-old_setting x = record { program = old_program x; banked = false; page_of = x.old_page; limit = x.limit }
+old_setting x = record { program = old_program x; banked = false; page_of = x.old_page; limit = x.limit; leaves = no_leaves }
 
 abbrev pub new_setting : Lean → Setting
-new_setting x = record { program = new_program x; banked = false; page_of = x.new_page; limit = x.limit }
+new_setting x = record { program = new_program x; banked = false; page_of = x.new_page; limit = x.limit; leaves = no_leaves }

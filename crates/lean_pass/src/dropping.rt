@@ -491,6 +491,7 @@ impl<'a> Here<'a> {
             Sym::Label(_) => false,
             Sym::SelectBank(_, _) => false,
             Sym::SelectPage(_, _) => false,
+            Sym::Table { .. } => false,
         }
     }
 

@@ -378,6 +378,7 @@ impl<'a> Here<'a> {
             Sym::Label(_) => true,
             Sym::SelectBank(_, _) => self.keeps_same(rest),
             Sym::SelectPage(_, _) => self.keeps_same(rest),
+            Sym::Table { .. } => false,
         }
     }
 }

@@ -113,5 +113,6 @@ pub fn is_marked(variables: &[u64], sym: Sym) -> bool
         Sym::Label(_) => false,
         Sym::SelectBank(..) => false,
         Sym::SelectPage(..) => false,
+        Sym::Table { .. } => true,
     }
 }

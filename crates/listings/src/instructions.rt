@@ -1,6 +1,7 @@
 //! Symbolic code: a line for each instruction.
 
 use crate::listing::Listing;
+use crate::names::of_root;
 use crate::operations::put_byte;
 use sym_code::{
     BankBit, BitOperation, BlockName, FileOperation, Into, Label, Literal, LiteralOperation,
@@ -156,6 +157,7 @@ fn head_of(sym: Sym) -> &'static str {
         Sym::Label(_) => "Label",
         Sym::SelectBank(..) => "SelectBank",
         Sym::SelectPage(..) => "SelectPage",
+        Sym::Table { .. } => "Table",
     }
 }
 
@@ -186,6 +188,10 @@ fn put_fields(out: &mut Listing, sym: Sym) {
         Sym::SelectPage(bit, target) => {
             out.word(of_page(bit));
             put_target(out, target);
+        }
+        Sym::Table { table, root } => {
+            out.number(table as u64);
+            out.word(of_root(root));
         }
     }
 }

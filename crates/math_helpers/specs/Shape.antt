@@ -58,11 +58,18 @@ is_skip (Sym.Bit Btfsc file bit) = true
 is_skip (Sym.Bit Btfss file bit) = true
 is_skip _ = false
 
--- No label stands among the instructions, and the last of them isn't a skip, before which the selects of the following one
+-- A label, at which nothing is known; and a read of a table, which costs more than its word.
+abbrev pub breaks : Sym → Bool
+breaks (Sym.Label label) = true
+breaks (Sym.Table table root) = true
+breaks _ = false
+
+-- Neither stands among the instructions, and the last of them isn't a skip, before which the selects of the following one
 -- would stand.
 abbrev pub is_straight : List Sym → Bool
 is_straight [] = true
 is_straight (Sym.Label label ∷ rest) = false
+is_straight (Sym.Table table root ∷ rest) = false
 is_straight (sym ∷ []) = not (is_skip sym)
 is_straight (sym ∷ next ∷ rest) = is_straight (next ∷ rest)
 

@@ -211,6 +211,14 @@ selects none 0
 made 0
 wants bank rp1 0; bank rp0 1; movwf D86h; label L40; movwf D86h; page high L40; page low L40; goto L40
 end
+case a read of a table needs the page of its own block, and leaves any: the bank of TRISB, 86h, stays selected
+block copy.0
+put movwf D86h; table 0 main; movwf D86h; table 0 main
+plain
+blocks 1
+made 0
+wants bank rp1 0; bank rp0 1; movwf D86h; page high L0; page low L0; table 0 main; movwf D86h; page high L0; page low L0; table 0 main
+end
 case to what stands behind a jump and no label nothing comes: by straight code it has its selects
 block copy.0
 put goto halt; movwf D86h
@@ -319,7 +327,7 @@ end
 
 #[test]
 fn selects_stand_where_they_are_needed(rt: HostRuntime) -> Result<(), Fail> {
-    assert_eq!(rt; check(&rt, rt.alloc(), SELECTS)?, (22, 42));
+    assert_eq!(rt; check(&rt, rt.alloc(), SELECTS)?, (23, 46));
     Ok(())
 }
 

@@ -177,6 +177,17 @@ fn other(name: &str, rest: &str) -> Option<Sym> {
             };
             Some(Sym::SelectPage(bit, target(second)))
         }
+        "table" => {
+            let root = if second == "isr" {
+                Root::Isr
+            } else {
+                Root::Main
+            };
+            Some(Sym::Table {
+                table: number(first),
+                root,
+            })
+        }
         _ => None,
     }
 }

@@ -28,6 +28,7 @@ same_labels label (syms.Goto target) = refl
 same_labels label (syms.Label other) = refl
 same_labels label (syms.SelectBank bit on) = refl
 same_labels label (syms.SelectPage bit target) = refl
+same_labels label (syms.Table table root) = refl
 
 cleared_labels : (label : Label) (s : Sym) → is_label label (label_of (cleared s)) ≡ is_label label (label_of s)
 cleared_labels label (syms.File op file into) = refl
@@ -41,6 +42,7 @@ cleared_labels label (syms.Goto target) = refl
 cleared_labels label (syms.Label other) = refl
 cleared_labels label (syms.SelectBank bit on) = refl
 cleared_labels label (syms.SelectPage bit target) = refl
+cleared_labels label (syms.Table table root) = refl
 
 read_labels : (label : Label) (n : ℕ) (s : Sym) → is_label label (label_of (reads_before n s)) ≡ is_label label (label_of s)
 read_labels label n (syms.File op file into) = refl
@@ -54,6 +56,7 @@ read_labels label n (syms.Goto target) = refl
 read_labels label n (syms.Label other) = refl
 read_labels label n (syms.SelectBank bit on) = refl
 read_labels label n (syms.SelectPage bit target) = refl
+read_labels label n (syms.Table table root) = refl
 
 test_labels : (label : Label) (flag : FlagName) (turned : Bool) (s : Sym) → is_label label (label_of (tests_flag flag turned s)) ≡ is_label label (label_of s)
 test_labels label flag turned (syms.File op file into) = refl
@@ -67,6 +70,7 @@ test_labels label flag turned (syms.Goto target) = refl
 test_labels label flag turned (syms.Label other) = refl
 test_labels label flag turned (syms.SelectBank bit on) = refl
 test_labels label flag turned (syms.SelectPage bit target) = refl
+test_labels label flag turned (syms.Table table root) = refl
 
 rows_keep : (label : Label) (rows : List Row) → has_label label (olds rows) ≡ true → has_label label (puts rows) ≡ true
 rows_keep label [] e = e
@@ -100,6 +104,7 @@ module _ (target : Target → Option ℕ) where
   narrowed_has (syms.Label label) h = h
   narrowed_has (syms.SelectBank bit on) h = h
   narrowed_has (syms.SelectPage bit to) h = h
+  narrowed_has (syms.Table table root) h = h
 
   cleared_has : (s : Sym) → HasTarget target s → HasTarget target (cleared s)
   cleared_has (syms.File op file into) h = h
@@ -113,6 +118,7 @@ module _ (target : Target → Option ℕ) where
   cleared_has (syms.Label label) h = h
   cleared_has (syms.SelectBank bit on) h = h
   cleared_has (syms.SelectPage bit to) h = h
+  cleared_has (syms.Table table root) h = h
 
   read_has : (n : ℕ) (s : Sym) → HasTarget target s → HasTarget target (reads_before n s)
   read_has n (syms.File op file into) h = h
@@ -126,6 +132,7 @@ module _ (target : Target → Option ℕ) where
   read_has n (syms.Label label) h = h
   read_has n (syms.SelectBank bit on) h = h
   read_has n (syms.SelectPage bit to) h = h
+  read_has n (syms.Table table root) h = h
 
   test_has : (flag : FlagName) (turned : Bool) (s : Sym) → HasTarget target s → HasTarget target (tests_flag flag turned s)
   test_has flag turned (syms.File op file into) h = h
@@ -139,6 +146,7 @@ module _ (target : Target → Option ℕ) where
   test_has flag turned (syms.Label label) h = h
   test_has flag turned (syms.SelectBank bit on) h = h
   test_has flag turned (syms.SelectPage bit to) h = h
+  test_has flag turned (syms.Table table root) h = h
 
   rows_have : (rows : List Row) → HaveTargets target (olds rows) → HaveTargets target (puts rows)
   rows_have [] h = h

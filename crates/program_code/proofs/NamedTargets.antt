@@ -72,6 +72,7 @@ module _ (target : Target → Option ℕ) where
   found_one (syms.Label label) h = h label (label_itself label)
   found_one (syms.SelectBank bit on) h = tt
   found_one (syms.SelectPage bit to) h = tt
+  found_one (syms.Table table root) h = tt
   found_one (syms.File op file into) h = tt
   found_one (syms.Movwf file) h = tt
   found_one (syms.Clrf file) h = tt
@@ -95,6 +96,7 @@ module _ (target : Target → Option ℕ) where
     named_one (syms.Call (targets.Label label)) h = absurd (cc)
     named_one (syms.Goto to) h = absurd (cc)
     named_one (syms.SelectPage bit to) h = absurd (cc)
+    named_one (syms.Table table root) h = absurd (cc)
     named_one (syms.Label label) h = tt
     named_one (syms.SelectBank bit on) h = tt
     named_one (syms.File op file into) h = tt

@@ -116,6 +116,7 @@ module _ (p : Program) (copies : List FnCopy) (placed : Placed) (is : IsPlacing 
   sym_near (syms.Label label) h = tt
   sym_near (syms.SelectBank bit on) h = tt
   sym_near (syms.SelectPage bit to) h = tt
+  sym_near (syms.Table table root) h = tt
   sym_near (syms.File op file into) h = operand_low file h
   sym_near (syms.Movwf file) h = operand_low file h
   sym_near (syms.Clrf file) h = operand_low file h

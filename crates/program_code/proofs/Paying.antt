@@ -153,6 +153,7 @@ module _ (c : ℕ) where
   one_most (syms.Label label) has = omega arith
   one_most (syms.SelectBank bit on) has = omega arith
   one_most (syms.SelectPage bit target) has = omega arith
+  one_most (syms.Table table root) has = omega arith
 
   -- whether the last of some instructions is a skip
   abbrev pub skips_last : Bool → List Sym → Bool

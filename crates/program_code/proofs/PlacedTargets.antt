@@ -79,6 +79,7 @@ one_there : (placed : Placed) (target : Target → Option ℕ) (s : Sym) → Has
 one_there placed target (syms.Label label) t o = tt
 one_there placed target (syms.SelectBank bit on) t o = tt
 one_there placed target (syms.SelectPage bit to) t o = t
+one_there placed target (syms.Table table root) t o = t
 one_there placed target (syms.File op file into) t o = o
 one_there placed target (syms.Movwf file) t o = o
 one_there placed target (syms.Clrf file) t o = o

@@ -28,6 +28,7 @@ stays whole (syms.Goto (targets.Label (labels.Inner number))) = has_mark number 
 stays whole (syms.Goto to) = false
 stays whole (syms.Call to) = false
 stays whole (syms.SelectPage bit to) = false
+stays whole (syms.Table table root) = false
 stays whole _ = true
 
 abbrev all_stay : List Sym → List Sym → Bool
@@ -44,6 +45,7 @@ module _ (target : Target → Option ℕ) where
   mark_found number (syms.Label labels.Restore) h e = absurd (cc)
   mark_found number (syms.SelectBank bit on) h e = absurd (cc)
   mark_found number (syms.SelectPage bit to) h e = absurd (cc)
+  mark_found number (syms.Table table root) h e = absurd (cc)
   mark_found number (syms.File op file into) h e = absurd (cc)
   mark_found number (syms.Movwf file) h e = absurd (cc)
   mark_found number (syms.Clrf file) h e = absurd (cc)
@@ -67,6 +69,7 @@ module _ (target : Target → Option ℕ) where
   stays_has whole (syms.Goto (targets.Block name)) h e = absurd (cc)
   stays_has whole (syms.Call to) h e = absurd (cc)
   stays_has whole (syms.SelectPage bit to) h e = absurd (cc)
+  stays_has whole (syms.Table table root) h e = absurd (cc)
   stays_has whole (syms.Label label) h e = tt
   stays_has whole (syms.SelectBank bit on) h e = tt
   stays_has whole (syms.File op file into) h e = tt

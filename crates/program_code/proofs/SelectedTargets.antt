@@ -38,6 +38,7 @@ module _ (target : Target → Option ℕ) where
   own_target (syms.Label label) h = tt
   own_target (syms.SelectBank bit on) h = tt
   own_target (syms.SelectPage bit to) h = tt
+  own_target (syms.Table table root) h = absurd h
   own_target (syms.File op file into) h = tt
   own_target (syms.Movwf file) h = tt
   own_target (syms.Clrf file) h = tt
@@ -127,6 +128,7 @@ no_select : (label : Label) (s : Sym) → placing.is_label label (placing.label_
 no_select label (syms.Label other) e = refl
 no_select label (syms.SelectBank bit on) e = absurd (cc)
 no_select label (syms.SelectPage bit to) e = absurd (cc)
+no_select label (syms.Table table root) e = absurd (cc)
 no_select label (syms.File op file into) e = absurd (cc)
 no_select label (syms.Movwf file) e = absurd (cc)
 no_select label (syms.Clrf file) e = absurd (cc)
@@ -141,6 +143,7 @@ not_known f own None label s e = no_select label s e
 not_known f own (Some known) label (syms.Label other) e = refl
 not_known f own (Some known) label (syms.SelectBank bit on) e = absurd (cc)
 not_known f own (Some known) label (syms.SelectPage bit to) e = absurd (cc)
+not_known f own (Some known) label (syms.Table table root) e = absurd (cc)
 not_known f own (Some known) label (syms.File op file into) e = absurd (cc)
 not_known f own (Some known) label (syms.Movwf file) e = absurd (cc)
 not_known f own (Some known) label (syms.Clrf file) e = absurd (cc)

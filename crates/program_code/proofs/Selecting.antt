@@ -66,6 +66,7 @@ one_word (syms.Call target) = omega arith
 one_word (syms.Goto target) = omega arith
 one_word (syms.SelectBank bit on) = omega arith
 one_word (syms.SelectPage bit target) = omega arith
+one_word (syms.Table table root) = omega arith
 
 unknown_words : (s : Sym) (already : Bool) → words_in (if already then [] else s ∷ []) ≤ 1
 unknown_words s true = omega arith
@@ -133,6 +134,7 @@ label_lost (syms.Call target) e = never e
 label_lost (syms.Goto target) e = never e
 label_lost (syms.SelectBank bit on) e = never e
 label_lost (syms.SelectPage bit target) e = never e
+label_lost (syms.Table table root) e = never e
 
 -- ---- a whole list
 module _ (placed : Placed) (own : BlockName) (c bank : ℕ) where

@@ -56,6 +56,7 @@ module _ (c size : ℕ) (memory : Memory) (own : memory.frames c ≡ Some size) 
   sym_within (syms.Label label) offset h e = absurd (none-some (bytes.Frame c offset) e)
   sym_within (syms.SelectBank bit on) offset h e = absurd (none-some (bytes.Frame c offset) e)
   sym_within (syms.SelectPage bit to) offset h e = absurd (none-some (bytes.Frame c offset) e)
+  sym_within (syms.Table table root) offset h e = absurd (none-some (bytes.Frame c offset) e)
   sym_within (syms.File op file into) offset h e = operand_within file offset h e
   sym_within (syms.Movwf file) offset h e = operand_within file offset h e
   sym_within (syms.Clrf file) offset h e = operand_within file offset h e
@@ -166,6 +167,7 @@ module _ (p : Program) (copies : List FnCopy) (placed : Placed) (is : IsPlacing 
   sym_placed (syms.Label label) h = tt
   sym_placed (syms.SelectBank bit on) h = tt
   sym_placed (syms.SelectPage bit to) h = tt
+  sym_placed (syms.Table table root) h = tt
   sym_placed (syms.File op file into) h = operand_placed file h
   sym_placed (syms.Movwf file) h = operand_placed file h
   sym_placed (syms.Clrf file) h = operand_placed file h
@@ -221,6 +223,7 @@ module _ (p : Program) (copies : List FnCopy) (placed : Placed) (is : IsPlacing 
   sym_inside (syms.Label label) h byte e = absurd (none-some byte e)
   sym_inside (syms.SelectBank bit on) h byte e = absurd (none-some byte e)
   sym_inside (syms.SelectPage bit to) h byte e = absurd (none-some byte e)
+  sym_inside (syms.Table table root) h byte e = absurd (none-some byte e)
   sym_inside (syms.File op file into) h byte e = operand_inside file byte h e
   sym_inside (syms.Movwf file) h byte e = operand_inside file byte h e
   sym_inside (syms.Clrf file) h byte e = operand_inside file byte h e

@@ -26,6 +26,7 @@ names_below limit (syms.Call (targets.Block (names.Copy copy))) = nat_lt copy li
 names_below limit (syms.Call to) = false
 names_below limit (syms.Goto to) = false
 names_below limit (syms.SelectPage bit to) = false
+names_below limit (syms.Table table root) = false
 names_below limit _ = true
 
 abbrev pub all_names_below : ℕ → List Sym → Bool

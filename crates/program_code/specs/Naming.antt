@@ -111,6 +111,7 @@ abbrev pub SymLies : Memory → Sym → Type 0
 SymLies memory (syms.Label label) = Unit {0}
 SymLies memory (syms.SelectBank bit on) = Unit {0}
 SymLies memory (syms.SelectPage bit to) = Unit {0}
+SymLies memory (syms.Table table root) = Unit {0}
 SymLies memory (syms.File op file into) = OperandLies memory file
 SymLies memory (syms.Movwf file) = OperandLies memory file
 SymLies memory (syms.Clrf file) = OperandLies memory file

@@ -17,11 +17,12 @@ use Rattle.program_code.specs.Translated.{HasCalls}
 use Rattle.program_code.specs.There.{HaveOperands}
 
 -- ---- targets
--- the target that an instruction names has an address
+-- the target that an instruction names has an address; a table has none
 abbrev pub HasTarget : (Target → Option ℕ) → Sym → Type 0
 HasTarget target (syms.SelectPage bit to) = IsSome (target to)
 HasTarget target (syms.Call to) = IsSome (target to)
 HasTarget target (syms.Goto to) = IsSome (target to)
+HasTarget target (syms.Table table root) = ⊥
 HasTarget target _ = Unit {0}
 
 abbrev pub HaveTargets : (Target → Option ℕ) → List Sym → Type 0

@@ -52,6 +52,7 @@ abbrev pub HasOperand : Placed → Sym → Type 0
 HasOperand placed (syms.Label label) = Unit {0}
 HasOperand placed (syms.SelectBank bit on) = Unit {0}
 HasOperand placed (syms.SelectPage bit to) = Unit {0}
+HasOperand placed (syms.Table table root) = Unit {0}
 HasOperand placed (syms.File op file into) = IsSome (file_address placed file)
 HasOperand placed (syms.Movwf file) = IsSome (file_address placed file)
 HasOperand placed (syms.Clrf file) = IsSome (file_address placed file)

@@ -3,13 +3,13 @@ use Rattle.std.proofs.Common.{◌≡◌, ℕ, suc, ◌+◌, ◌≤◌, Bool, tru
 use Rattle.std.specs.Prelude.{not, ◌&&◌, ◌||◌}
 use Rattle.std.proofs.lemmas.List.{length-append}
 use Rattle.core_code.specs.declared.code.Byte.{Byte}
-use Rattle.sym_code.specs.Programs.{is_word}
+use Rattle.pic_world.specs.declared.Root.{Root}
 use Rattle.sym_code.specs.declared.code.Label.{Label}
 use Rattle.sym_code.specs.declared.code.Sym.{Sym}
 use Rattle.sym_code.specs.declared.code.Sym.TheVariants as sym
-use Rattle.math_helpers.specs.Shape.{accesses_frame, jumps, select_words, words_from, most_words, is_skip, is_straight, sum_from, ArePriced}
+use Rattle.math_helpers.specs.Shape.{accesses_frame, jumps, select_words, words_from, most_words, is_skip, breaks, is_straight, sum_from, ArePriced}
 use Rattle.select_trace.specs.Positions.{dues}
-use Rattle.select_trace.specs.Silent.{plain, plain_code}
+use Rattle.select_trace.specs.Silent.{plain, plain_code, IsStraight}
 use Rattle.select_trace.proofs.QuietSteps.{head_of}
 use Rattle.select_trace.proofs.Straight as straights
 use Rattle.select_trace.proofs.Walked.{Kind, Named, Jumps, Turns, Straight, kind, AreSilent, due_word}
@@ -20,19 +20,22 @@ paid_from price i [] = 0
 paid_from price i (sym.Label label ∷ rest) = paid_from price (i + 1) rest
 paid_from price i (x ∷ rest) = price i + paid_from price (i + 1) rest
 
--- before each label, and at the end, stands no skip; so too before the code
+-- before each label, and at the end, stands no skip; so too before the code; and no table is read
 abbrev pub fit : Bool → List Sym → Bool
 fit skip [] = not skip
 fit skip (sym.Label label ∷ rest) = not skip && fit false rest
+fit skip (sym.Table table root ∷ rest) = false
 fit skip (x ∷ rest) = fit (is_skip x) rest
 
--- a label or a word
+-- a label, a read of a table, or another word
 pub data Sort (x : Sym) : Type 0 where
   Marks : (l : Label) → x ≡ sym.Label l → Sort x
-  Word : is_word (Some x) ≡ true → Sort x
+  Reads : (table : ℕ) (root : Root) → x ≡ sym.Table table root → Sort x
+  Word : breaks x ≡ false → Sort x
 
 sort : (x : Sym) → Sort x
 sort (sym.Label l) = Marks l refl
+sort (sym.Table table root) = Reads table root refl
 sort (sym.File op file into) = Word refl
 sort (sym.Movwf file) = Word refl
 sort (sym.Clrf file) = Word refl
@@ -52,8 +55,9 @@ record OfWord (x : Sym) : Type 0 where
   more : (y : Sym) (ys : List Sym) → is_straight (x ∷ y ∷ ys) ≡ is_straight (y ∷ ys)
   words : (bank page : Bool) (rest : List Sym) → words_from bank page (x ∷ rest) ≡ 1 + select_words bank (accesses_frame x) + select_words page (jumps x) + words_from (bank || accesses_frame x) (page || jumps x) rest
 
-of_word : (x : Sym) → is_word (Some x) ≡ true → OfWord x
+of_word : (x : Sym) → breaks x ≡ false → OfWord x
 of_word (sym.Label l) h = absurd (cc)
+of_word (sym.Table table root) h = absurd (cc)
 of_word (sym.File op file into) h = record { paid = λ price i rest. refl; fits = λ skip rest. refl; last = refl; more = λ y ys. refl; words = λ bank page rest. refl }
 of_word (sym.Movwf file) h = record { paid = λ price i rest. refl; fits = λ skip rest. refl; last = refl; more = λ y ys. refl; words = λ bank page rest. refl }
 of_word (sym.Clrf file) h = record { paid = λ price i rest. refl; fits = λ skip rest. refl; last = refl; more = λ y ys. refl; words = λ bank page rest. refl }
@@ -72,6 +76,9 @@ words_split bank page (x ∷ xs) l rest = by (λ b p. words_split b p xs l rest)
   where
     by : ((b p : Bool) → words_from b p (xs ++ (sym.Label l ∷ rest)) ≡ words_from b p xs + words_from false false rest) → Sort x → words_from bank page (x ∷ (xs ++ (sym.Label l ∷ rest))) ≡ words_from bank page (x ∷ xs) + words_from false false rest
     by more (Marks k e) = subst (λ (y : Sym). words_from bank page (y ∷ (xs ++ (sym.Label l ∷ rest))) ≡ words_from bank page (y ∷ xs) + words_from false false rest) (sym e) (more false false)
+    by more (Reads table root e) =
+        subst (λ (y : Sym). words_from bank page (y ∷ (xs ++ (sym.Label l ∷ rest))) ≡ words_from bank page (y ∷ xs) + words_from false false rest) (sym e)
+        (let h = more (bank || false) (page || false) in omega arith)
     by more (Word h) =
         let w = of_word x h in
         put _ _ _ _ _ _ (w.words bank page (xs ++ (sym.Label l ∷ rest))) (w.words bank page xs) (more (bank || accesses_frame x) (page || jumps x))
@@ -81,7 +88,7 @@ words_split bank page (x ∷ xs) l rest = by (λ b p. words_split b p xs l rest)
 
 abbrev has_no_labels : List Sym → Bool
 has_no_labels [] = true
-has_no_labels (x ∷ xs) = is_word (Some x) && has_no_labels xs
+has_no_labels (x ∷ xs) = not (breaks x) && has_no_labels xs
 
 both : (a b : Bool) → (a && b) ≡ true → (a ≡ true) × (b ≡ true)
 both true b e = (refl, e)
@@ -90,14 +97,20 @@ both false b e = absurd (cc)
 and_true : (a b : Bool) → a ≡ true → b ≡ true → (a && b) ≡ true
 and_true a b e f = ap (λ c. c && b) e ∙ f
 
-no_labels_more : (xs : List Sym) (x : Sym) → has_no_labels xs ≡ true → is_word (Some x) ≡ true → has_no_labels (xs ++ (x ∷ [])) ≡ true
-no_labels_more [] x h w = and_true (is_word (Some x)) true w refl
-no_labels_more (y ∷ ys) x h w = let k = both (is_word (Some y)) (has_no_labels ys) h in and_true (is_word (Some y)) (has_no_labels (ys ++ (x ∷ []))) k.0 (no_labels_more ys x k.1 w)
+no_skip : (skip : Bool) → not skip ≡ true → skip ≡ false
+no_skip true e = absurd (cc)
+no_skip false e = refl
 
-straight_end : (xs : List Sym) (x : Sym) → has_no_labels xs ≡ true → is_word (Some x) ≡ true → is_skip x ≡ false → is_straight (xs ++ (x ∷ [])) ≡ true
+no_labels_more : (xs : List Sym) (x : Sym) → has_no_labels xs ≡ true → breaks x ≡ false → has_no_labels (xs ++ (x ∷ [])) ≡ true
+no_labels_more [] x h w = and_true (not (breaks x)) true (ap not w) refl
+no_labels_more (y ∷ ys) x h w = let k = both (not (breaks y)) (has_no_labels ys) h in and_true (not (breaks y)) (has_no_labels (ys ++ (x ∷ []))) k.0 (no_labels_more ys x k.1 w)
+
+straight_end : (xs : List Sym) (x : Sym) → has_no_labels xs ≡ true → breaks x ≡ false → is_skip x ≡ false → is_straight (xs ++ (x ∷ [])) ≡ true
 straight_end [] x h w s = (of_word x w).last ∙ ap not s
-straight_end (y ∷ []) x h w s = let k = both (is_word (Some y)) true h in (of_word y k.0).more x [] ∙ straight_end [] x refl w s
-straight_end (y ∷ z ∷ zs) x h w s = let k = both (is_word (Some y)) (has_no_labels (z ∷ zs)) h in (of_word y k.0).more z (zs ++ (x ∷ [])) ∙ straight_end (z ∷ zs) x k.1 w s
+straight_end (y ∷ []) x h w s = let k = both (not (breaks y)) true h in (of_word y (no_skip (breaks y) k.0)).more x [] ∙ straight_end [] x refl w s
+straight_end (y ∷ z ∷ zs) x h w s =
+    let k = both (not (breaks y)) (has_no_labels (z ∷ zs)) h in
+    (of_word y (no_skip (breaks y) k.0)).more z (zs ++ (x ∷ [])) ∙ straight_end (z ∷ zs) x k.1 w s
 
 sum_more : (price : ℕ → ℕ) (j : ℕ) (xs : List Sym) (x : Sym) → sum_from price j (xs ++ (x ∷ [])) ≡ sum_from price j xs + price (j + length xs)
 sum_more price j [] x = ap (λ k. price k + 0) (let f : j ≡ j + 0 = omega arith in f) ∙ (omega arith)
@@ -112,10 +125,6 @@ sum_more price j (y ∷ ys) x =
 take_front : (xs ys : List Sym) → take (length xs) (xs ++ ys) ≡ xs
 take_front [] ys = refl
 take_front (x ∷ xs) ys = ap (λ (zs : List Sym). x ∷ zs) (take_front xs ys)
-
-no_skip : (skip : Bool) → not skip ≡ true → skip ≡ false
-no_skip true e = absurd (cc)
-no_skip false e = refl
 
 -- Behind instructions that stand in front of the code, without a label among them.
 record Front (price : ℕ → ℕ) (code post : List Sym) (j : ℕ) (seg xs : List Sym) (skip : Bool) : Type 0 where
@@ -156,6 +165,7 @@ bounded price code post priced (x ∷ xs) seg j skip f fits = by (λ s i b. boun
           where
             put : (a b c d e f : ℕ) → a ≤ b → 0 + c ≤ d → c ≡ e → f ≡ b + d → a + e ≤ f
             put a b c d e f p q r s = omega arith
+    by rest (Reads table root e) = let z : false ≡ true = ap (λ (y : Sym). fit skip (y ∷ xs)) (sym e) ∙ fits in absurd (cc)
     by rest (Word w) =
         let o = of_word x w in
         let moved : (seg ++ (x ∷ [])) ++ (xs ++ post) ≡ seg ++ (x ∷ (xs ++ post)) = append_assoc seg (x ∷ []) (xs ++ post) in
@@ -181,6 +191,12 @@ part_bounded price code xs post i priced there fits =
     let n : paid_from price (i + 0) xs ≡ paid_from price i xs = ap (λ k. paid_from price k xs) (let g : i + 0 ≡ i = omega arith in g) in
     omega arith
 
+-- instructions that go on read no table
+unbroken : (P : Byte → Type 0) (x : Sym) → IsStraight P x → breaks x ≡ false
+unbroken P (sym.Label l) h = absurd h
+unbroken P (sym.Table table root) h = absurd h
+unbroken P x h = refl
+
 -- the same over bytes by number
 pub dues_paid : (P : Byte → Type 0) (at : Byte → ℕ) (price : ℕ → ℕ) (i : ℕ) (xs : List Sym) → AreSilent P xs → dues price i (plain_code at xs) ≡ paid_from price i xs
 dues_paid P at price i [] all = refl
@@ -191,4 +207,4 @@ dues_paid P at price i (x ∷ xs) all = by (dues_paid P at price (i + 1) xs all.
     by h (Jumps l e) = subst (λ (y : Sym). dues price i (plain at y ∷ plain_code at xs) ≡ paid_from price i (y ∷ xs)) (sym e) (ap (λ n. price i + n) h)
     by h (Turns e) = subst (λ (y : Sym). dues price i (plain at y ∷ plain_code at xs) ≡ paid_from price i (y ∷ xs)) (sym e) (ap (λ n. price i + n) h)
     by h (Straight k) =
-        ap (λ n. n + dues price (i + 1) (plain_code at xs)) (due_word price i (plain at x) (straights.passed P at x k)) ∙ ap (λ n. price i + n) h ∙ sym ((of_word x (straights.word_of P x k)).paid price i xs)
+        ap (λ n. n + dues price (i + 1) (plain_code at xs)) (due_word price i (plain at x) (straights.passed P at x k)) ∙ ap (λ n. price i + n) h ∙ sym ((of_word x (unbroken P x k)).paid price i xs)

@@ -7,6 +7,7 @@ use Rattle.sym_code.specs.declared.code.Label.TheVariants.{Inner, Halt, Restore}
 use Rattle.sym_code.specs.declared.code.Sym.{Sym}
 use Rattle.sym_code.specs.declared.code.Sym.TheVariants as syms
 use Rattle.select_trace.proofs.Standing.{Has, has_join, has_less, none_get}
+use Rattle.math_helpers.specs.Shape.{breaks}
 
 -- of a label m that stands at n: low ≤ m, m ≤ 2 n + 1
 abbrev pub InBounds : ℕ → ℕ → Sym → Type 0
@@ -31,6 +32,7 @@ in_lower low low' n (syms.Call a) le b = tt
 in_lower low low' n (syms.Goto a) le b = tt
 in_lower low low' n (syms.SelectBank a c) le b = tt
 in_lower low low' n (syms.SelectPage a c) le b = tt
+in_lower low low' n (syms.Table a c) le b = tt
 
 pub lower : (low low' n : ℕ) (x : List Sym) → low' ≤ low → Bounds low n x → Bounds low' n x
 lower low low' n [] le b = tt
@@ -44,16 +46,12 @@ bounds_append low n m (a ∷ x) y e b c = (b.0, bounds_append low (suc n) m x y 
 pub bounds_then : (n : ℕ) (low : ℕ) (x y : List Sym) → low ≤ n → Bounds (2 * low) n x → Bounds (2 * (n + length x)) (n + length x) y → Bounds (2 * low) n (x ++ y)
 bounds_then n low x y le b c = bounds_append (2 * low) n (n + length x) x y refl b (lower (2 * (n + length x)) (2 * low) (n + length x) y (omega arith) c)
 
--- ---- code without labels
-abbrev pub is_label : Sym → Bool
-is_label (syms.Label l) = true
-is_label _ = false
-
+-- ---- code without labels, in which no table is read
 abbrev pub unlabelled : List Sym → Bool
 unlabelled [] = true
-unlabelled (x ∷ xs) = cond (is_label x) false (unlabelled xs)
+unlabelled (x ∷ xs) = cond (breaks x) false (unlabelled xs)
 
-in_free : (low n : ℕ) (x : Sym) → is_label x ≡ false → InBounds low n x
+in_free : (low n : ℕ) (x : Sym) → breaks x ≡ false → InBounds low n x
 in_free low n (syms.Label l) f = absurd (cc)
 in_free low n (syms.File a c d) b = tt
 in_free low n (syms.Movwf a) b = tt
@@ -65,6 +63,7 @@ in_free low n (syms.Call a) b = tt
 in_free low n (syms.Goto a) b = tt
 in_free low n (syms.SelectBank a c) b = tt
 in_free low n (syms.SelectPage a c) b = tt
+in_free low n (syms.Table a c) b = tt
 
 free_head : (b c : Bool) → cond b false c ≡ true → (b ≡ false) × (c ≡ true)
 free_head true c e = absurd (cc)
@@ -72,7 +71,7 @@ free_head false c e = (refl, e)
 
 pub free_bounds : (low n : ℕ) (x : List Sym) → unlabelled x ≡ true → Bounds low n x
 free_bounds low n [] e = tt
-free_bounds low n (a ∷ x) e = let h = free_head (is_label a) (unlabelled x) e in (in_free low n a h.0, free_bounds low (suc n) x h.1)
+free_bounds low n (a ∷ x) e = let h = free_head (breaks a) (unlabelled x) e in (in_free low n a h.0, free_bounds low (suc n) x h.1)
 
 free_join : (b c d : Bool) → cond b false c ≡ true → (c ≡ true → d ≡ true) → cond b false d ≡ true
 free_join true c d e f = absurd (cc)
@@ -80,7 +79,7 @@ free_join false c d e f = f e
 
 pub free_append : (x y : List Sym) → unlabelled x ≡ true → unlabelled y ≡ true → unlabelled (x ++ y) ≡ true
 free_append [] y e f = f
-free_append (a ∷ x) y e f = free_join (is_label a) (unlabelled x) (unlabelled (x ++ y)) e (λ h. free_append x y h f)
+free_append (a ∷ x) y e f = free_join (breaks a) (unlabelled x) (unlabelled (x ++ y)) e (λ h. free_append x y h f)
 
 pub free_cond : (b : Bool) (x y : List Sym) → unlabelled x ≡ true → unlabelled y ≡ true → unlabelled (cond b x y) ≡ true
 free_cond true x y e f = e
@@ -99,7 +98,7 @@ pub absent_append : (m : ℕ) (x y : List Sym) → Absent m x → Absent m y →
 absent_append m [] y a b = b
 absent_append m (z ∷ x) y a b = (a.0, absent_append m x y a.1 b)
 
-free_named : (m : ℕ) (x : Sym) → is_label x ≡ false → is_named m x ≡ false
+free_named : (m : ℕ) (x : Sym) → breaks x ≡ false → is_named m x ≡ false
 free_named m (syms.Label l) f = absurd (cc)
 free_named m (syms.File a c d) b = refl
 free_named m (syms.Movwf a) b = refl
@@ -111,10 +110,11 @@ free_named m (syms.Call a) b = refl
 free_named m (syms.Goto a) b = refl
 free_named m (syms.SelectBank a c) b = refl
 free_named m (syms.SelectPage a c) b = refl
+free_named m (syms.Table a c) b = refl
 
 pub free_absent : (m : ℕ) (x : List Sym) → unlabelled x ≡ true → Absent m x
 free_absent m [] e = tt
-free_absent m (a ∷ x) e = let h = free_head (is_label a) (unlabelled x) e in (free_named m a h.0, free_absent m x h.1)
+free_absent m (a ∷ x) e = let h = free_head (breaks a) (unlabelled x) e in (free_named m a h.0, free_absent m x h.1)
 
 pub differs : (k m : ℕ) → k ≢ m → nat_eq k m ≡ false
 differs k m e = grind (arith, common_steps)
@@ -133,6 +133,7 @@ under_in low n m (syms.Call a) lt b = refl
 under_in low n m (syms.Goto a) lt b = refl
 under_in low n m (syms.SelectBank a c) lt b = refl
 under_in low n m (syms.SelectPage a c) lt b = refl
+under_in low n m (syms.Table a c) lt b = refl
 
 -- labels behind have greater numbers
 pub absent_under : (low n m : ℕ) (x : List Sym) → m < low → Bounds low n x → Absent m x
@@ -153,6 +154,7 @@ over_in low n m (syms.Call a) lt b = refl
 over_in low n m (syms.Goto a) lt b = refl
 over_in low n m (syms.SelectBank a c) lt b = refl
 over_in low n m (syms.SelectPage a c) lt b = refl
+over_in low n m (syms.Table a c) lt b = refl
 
 -- ---- labels that are found
 pub is_same : (m : ℕ) → nat_eq m m ≡ true
@@ -170,6 +172,7 @@ from_next (syms.Call a) b m j = refl
 from_next (syms.Goto a) b m j = refl
 from_next (syms.SelectBank a c) b m j = refl
 from_next (syms.SelectPage a c) b m j = refl
+from_next (syms.Table a c) b m j = refl
 
 from_other : (x : Sym) (b : List Sym) (m j : ℕ) → is_named m x ≡ false → label_from (x ∷ b) (Inner m) j ≡ label_from b (Inner m) (suc j)
 from_other x b m j e = from_next x b m j ∙ ap (λ t. if t then Some j else label_from b (Inner m) (j + 1)) e ∙ ap (label_from b (Inner m)) (omega arith)

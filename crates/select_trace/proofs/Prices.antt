@@ -2,17 +2,17 @@
 use Rattle.std.proofs.Common.{◌≡◌, ℕ, zero, suc, ◌+◌, ◌*◌, ◌≤◌, Bool, true, false, cond, if◌then◌else◌, List, [], ◌∷◌, ◌++◌, length, refl, ap, ◌∙◌, arith}
 use Rattle.std.proofs.lemmas.List.Sums.{sum_by-cons}
 use Rattle.core_code.specs.declared.code.Byte.{Byte}
-use Rattle.math_helpers.specs.Shape.{is_straight}
+use Rattle.math_helpers.specs.Shape.{breaks, is_straight}
 use Rattle.sym_code.specs.Words.{is_common, most_of_operand, most_of_one, most_words}
 use Rattle.sym_code.specs.declared.code.Operand.{Operand}
 use Rattle.sym_code.specs.declared.code.Operand.TheVariants as operands
 use Rattle.sym_code.specs.declared.code.Sym.{Sym}
 use Rattle.sym_code.specs.declared.code.Sym.TheVariants as syms
 use Rattle.select_code.specs.Pieces.{test_code, ors_code}
-use Rattle.select_trace.proofs.Labels.{is_label, unlabelled, len_append}
+use Rattle.select_trace.proofs.Labels.{unlabelled, len_append}
 
 -- an instruction in front of straight code
-pub straight_more : (a b : Sym) (x : List Sym) → is_label a ≡ false → is_straight (b ∷ x) ≡ true → is_straight (a ∷ b ∷ x) ≡ true
+pub straight_more : (a b : Sym) (x : List Sym) → breaks a ≡ false → is_straight (b ∷ x) ≡ true → is_straight (a ∷ b ∷ x) ≡ true
 straight_more (syms.Label l) b x e h = absurd (cc)
 straight_more (syms.File a c d) b x e h = h
 straight_more (syms.Movwf a) b x e h = h
@@ -24,9 +24,10 @@ straight_more (syms.Call a) b x e h = h
 straight_more (syms.Goto a) b x e h = h
 straight_more (syms.SelectBank a c) b x e h = h
 straight_more (syms.SelectPage a c) b x e h = h
+straight_more (syms.Table a c) b x e h = absurd (cc)
 
-head_free : (a : Sym) (x : List Sym) → unlabelled (a ∷ x) ≡ true → (is_label a ≡ false) × (unlabelled x ≡ true)
-head_free a x e = by (is_label a) e
+head_free : (a : Sym) (x : List Sym) → unlabelled (a ∷ x) ≡ true → (breaks a ≡ false) × (unlabelled x ≡ true)
+head_free a x e = by (breaks a) e
   where
     by : (b : Bool) → cond b false (unlabelled x) ≡ true → (b ≡ false) × (unlabelled x ≡ true)
     by true e = absurd (cc)
@@ -69,6 +70,7 @@ one_three (syms.Goto a) = omega arith
 one_three (syms.Label l) = omega arith
 one_three (syms.SelectBank a c) = omega arith
 one_three (syms.SelectPage a c) = omega arith
+one_three (syms.Table a c) = omega arith
 
 pub dear_three : (x : List Sym) → dear_words x ≤ 3 * length x
 dear_three [] = omega arith

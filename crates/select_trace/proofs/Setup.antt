@@ -95,6 +95,7 @@ no_leaver P (syms.Goto target) h = absurd h
 no_leaver P (syms.Label l) h = absurd h
 no_leaver P (syms.SelectBank which to) h = absurd h
 no_leaver P (syms.SelectPage which target) h = absurd h
+no_leaver P (syms.Table table root) h = absurd h
 
 -- an instruction stands behind code that jumps nowhere
 pub behind_lands : (s : Site) (f : ℕ) → IsUser s f → (P : Byte → Type 0) (x : List Sym) (n : ℕ) → 0 < length x → AreStraight P x → Has (block s f) n x → lands s.g.program (stand s.g.program (position (Copy f) (n + length x))) ≡ true

@@ -47,6 +47,7 @@ straight_one P (syms.Call target) h = (refl, λ y rest. refl)
 straight_one P (syms.Goto target) h = (refl, λ y rest. refl)
 straight_one P (syms.SelectBank which to) h = (refl, λ y rest. refl)
 straight_one P (syms.SelectPage which target) h = (refl, λ y rest. refl)
+straight_one P (syms.Table table root) h = absurd h
 
 pub straight_of : (P : Byte → Type 0) (xs : List Sym) → AreStraight P xs → ends_well xs ≡ true → is_straight xs ≡ true
 straight_of P [] all e = refl

@@ -56,6 +56,7 @@ front_word (syms.Call a ∷ b) x e w = refl
 front_word (syms.Goto a ∷ b) x e w = refl
 front_word (syms.SelectBank a c ∷ b) x e w = refl
 front_word (syms.SelectPage a c ∷ b) x e w = refl
+front_word (syms.Table a c ∷ b) x e w = refl
 
 pub ahead_word : (b : List Sym) (n : ℕ) (x : Sym) → slice_get b n ≡ Some x → is_word (Some x) ≡ true → labels_in_front (drop n b) ≡ 0
 ahead_word b zero x e w = front_word b x e w
@@ -93,6 +94,7 @@ front_lands (syms.Call a ∷ b) x w = refl
 front_lands (syms.Goto a ∷ b) x w = refl
 front_lands (syms.SelectBank a c ∷ b) x w = refl
 front_lands (syms.SelectPage a c ∷ b) x w = refl
+front_lands (syms.Table a c ∷ b) x w = refl
 
 list_lands : (xs : List Sym) (last : Sym) (n : ℕ) → is_word (Some last) ≡ true → n ≤ length xs → is_word (slice_get (xs ++ last ∷ []) (n + labels_in_front (drop n (xs ++ last ∷ [])))) ≡ true
 list_lands xs last zero w le = ap (λ k. is_word (slice_get (xs ++ last ∷ []) k)) (let q : 0 + labels_in_front (xs ++ last ∷ []) ≡ labels_in_front (xs ++ last ∷ []) = omega arith in q) ∙ front_lands xs last w

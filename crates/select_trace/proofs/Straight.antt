@@ -67,6 +67,7 @@ front_of P (sym.Call target) rest h = refl
 front_of P (sym.Goto target) rest h = refl
 front_of P (sym.SelectBank which to) rest h = refl
 front_of P (sym.SelectPage which target) rest h = refl
+front_of P (sym.Table table root) rest h = refl
 
 pub word_of : (P : Byte → Type 0) (x : Sym) → IsStraight P x → is_word (Some x) ≡ true
 word_of P (sym.Label label) h = absurd h
@@ -80,6 +81,7 @@ word_of P (sym.Call target) h = refl
 word_of P (sym.Goto target) h = refl
 word_of P (sym.SelectBank which to) h = refl
 word_of P (sym.SelectPage which target) h = refl
+word_of P (sym.Table table root) h = refl
 
 -- it doesn't go through FSR
 pub direct_of : (P : Byte → Type 0) (x : Sym) → IsStraight P x → is_indirect (Some x) ≡ false

@@ -56,6 +56,7 @@ kind P (sym.Literal op value) h = Straight h
 kind P (sym.Call target) h = absurd h
 kind P (sym.SelectBank which to) h = absurd h
 kind P (sym.SelectPage which target) h = absurd h
+kind P (sym.Table table root) h = absurd h
 
 abbrev pub AreSilent : (Byte → Type 0) → List Sym → Type 0
 AreSilent P [] = Unit {0}
@@ -82,6 +83,7 @@ real_word P (sym.Call target) xs l n h = refl
 real_word P (sym.Goto target) xs l n h = refl
 real_word P (sym.SelectBank which to) xs l n h = refl
 real_word P (sym.SelectPage which target) xs l n h = refl
+real_word P (sym.Table table root) xs l n h = refl
 
 plain_word : (z : run.Sym) (zs : List run.Sym) (l n : ℕ) → run.skipped z ≡ Going → label_from (z ∷ zs) l n ≡ label_from zs l (n + 1)
 plain_word (run.Label m) zs l n f = absurd (cc)

@@ -1,12 +1,13 @@
 -- Runs of small blocks, computed.
-use Rattle.std.proofs.Common.{◌≡◌, true, false, ℕ, zero, suc, nat_eq, if◌then◌else◌, List, [], ◌∷◌, Some, refl}
+use Rattle.std.proofs.Common.{◌≡◌, true, false, ℕ, zero, suc, nat_eq, if◌then◌else◌, List, [], ◌∷◌, ◌++◌, replicate, Option, Some, None, refl}
 use Rattle.pic_world.specs.Control as control
 use Rattle.pic_world.specs.Control.{stored, with_stored, raised_by}
 use Rattle.pic_world.specs.World.{Outside, ReadOf, WriteOf, Ended, arrived, is_due, entered, left, device_value, after_device_read, after_device_write, sets_gie}
 use Rattle.pic_world.specs.declared.Cell.TheVariants as cells
+use Rattle.pic_world.specs.declared.Root.{Root}
 use Rattle.pic_world.specs.declared.Root.TheVariants.{Main, Isr}
 use Rattle.core_code.specs.declared.code.Byte.TheVariants as bytes
-use Rattle.sym_code.specs.Cost.{step_cost, cost_by}
+use Rattle.sym_code.specs.Cost.{step_cost, cost_by, times_in}
 use Rattle.sym_code.specs.Effect.{Setting, access_of, effect_of, effect}
 use Rattle.sym_code.specs.Layout.{DataLayout, address_of, general_at, owner, all_near, is_covered}
 use Rattle.sym_code.specs.Machine.{Machine, Entry, Stops, Still, acted, sym_step, sym_run, sym_start}
@@ -26,7 +27,7 @@ use Rattle.sym_code.specs.declared.code.Operand.{Operand}
 use Rattle.sym_code.specs.declared.code.Operand.TheVariants as operands
 use Rattle.sym_code.specs.declared.code.Register.TheVariants as register
 use Rattle.sym_code.specs.declared.code.Sym.{Sym}
-use Rattle.sym_code.specs.declared.code.Sym.TheVariants.{File, Movwf, Bit, Literal, Goto, Label, SelectBank}
+use Rattle.sym_code.specs.declared.code.Sym.TheVariants.{File, Movwf, Bit, Literal, Goto, Label, SelectBank, Table}
 use Rattle.sym_code.specs.declared.code.Target.TheVariants as targets
 
 -- Static object 0 has two bytes from 20h on, object 1 two from 110h on. The frame of main has four bytes from 30h on, that
@@ -42,13 +43,19 @@ blocks main handler Start = []
 blocks main handler (Copy zero) = main
 blocks main handler (Copy (suc n)) = handler
 
+-- Table 0 has 258 bytes, of which the last one is 9.
+abbrev tables : ℕ → Option (List ℕ)
+tables zero = Some (replicate 257 5 ++ 9 ∷ [])
+tables (suc n) = None
+
 -- code without selects
 abbrev setting : List Sym → List Sym → Setting
 setting main handler = record {
-  program = record { block = blocks main handler; handler = Some 1; layout = layout };
+  program = record { block = blocks main handler; handler = Some 1; layout = layout; tables = tables };
   banked = false;
   page_of = λ block. 0;
   limit = λ inside. 3;
+  leaves = λ table k. record { z = true; dc = false; c = true; page_low = true; page_high = false };
 }
 
 -- the same code, where selects count
@@ -186,3 +193,26 @@ between = refl
 between_most : sym_most interrupting (λ block index. 1) entry (external_at 2) (begun interrupting) 10 ≡ 208
 unfolding cost_by step_cost sym_run sym_step acted effect effect_of access_of stand result_with flags_with skips_with after_row raised_by control.is_due control.entered control.left stored with_stored arrived is_due entered left device_value after_device_read after_device_write sets_gie
 between_most = refl
+
+-- Byte 257 of table 0 is written to PORTB. Z is set behind the read, so the write to PORTC is skipped.
+abbrev looking : ℕ → Root → List Sym
+looking table root =
+    Literal Movlw (literals.Number 1) ∷ Movwf (operands.Byte (bytes.Result Main 0)) ∷ Movwf (operands.Byte (bytes.Result Main 1)) ∷ Table table root
+    ∷ Movwf (device 6) ∷ Bit Btfss (operands.Register register.Status) 2 ∷ Movwf (device 7) ∷ to_halt ∷ []
+
+looked : (run (setting (looking 0 Main) []) 9 7).world.trace ≡ WriteOf (cells.Device 6) 9 ∷ Ended ∷ []
+unfolding sym_run sym_step acted effect effect_of access_of address_of general_at owner stand after_row raised_by control.is_due stored with_stored arrived is_due device_value after_device_read after_device_write sets_gie
+looked = refl
+
+looked_most : sym_most (setting (looking 0 Main) []) (times_in (blocks (looking 0 Main) [])) entry (external_at 9) (begun (setting (looking 0 Main) [])) 7 ≡ 18
+unfolding cost_by step_cost sym_run sym_step acted effect effect_of access_of address_of general_at owner stand after_row raised_by control.is_due stored with_stored arrived is_due device_value after_device_read after_device_write sets_gie
+looked_most = refl
+
+-- The read is stuck where there is no such table, and where the results are the handler's.
+no_table : sym_step (setting (looking 1 Main) []) entry (external_at 9) (run (setting (looking 1 Main) []) 9 3) ≡ Stops
+unfolding sym_run sym_step acted effect effect_of access_of address_of general_at owner stand after_row raised_by control.is_due stored with_stored arrived is_due device_value after_device_read after_device_write sets_gie
+no_table = refl
+
+no_results : sym_step (setting (looking 0 Isr) []) entry (external_at 9) (run (setting (looking 0 Isr) []) 9 3) ≡ Stops
+unfolding sym_run sym_step acted effect effect_of access_of address_of general_at owner stand after_row raised_by control.is_due stored with_stored arrived is_due device_value after_device_read after_device_write sets_gie
+no_results = refl

@@ -1,12 +1,27 @@
 -- How many instructions of the chip the steps of symbolic code take, by the prices of its instructions and of what saves
 -- and restores main's context.
-use Rattle.std.specs.Prelude.{ℕ, zero, suc, ◌+◌, Bool, if◌then◌else◌, Option, Some, None}
+use Rattle.std.specs.Prelude.{ℕ, zero, suc, ◌+◌, Bool, if◌then◌else◌, List, Option, Some, None, slice_get}
 use Rattle.pic_world.specs.World.{Outside, is_due}
 use Rattle.core_code.specs.Cost.{context_cost}
 use Rattle.sym_code.specs.Effect.{Setting, Thread, Memory, Rest, Effect, Leaves, effect}
 use Rattle.sym_code.specs.Machine.{Machine, Entry, running, settled, sym_run}
 use Rattle.sym_code.specs.Programs.{Position}
 use Rattle.sym_code.specs.declared.code.BlockName.{BlockName}
+use Rattle.sym_code.specs.declared.code.Sym.{Sym}
+use Rattle.sym_code.specs.declared.code.Sym.TheVariants.{Table}
+
+-- Of one instruction: a read of a table is the call of the words that read it, and at most eleven of these.
+abbrev pub time_of : Sym → ℕ
+time_of (Table table root) = 12
+time_of _ = 1
+
+abbrev pub time_at : Option Sym → ℕ
+time_at None = 1
+time_at (Some s) = time_of s
+
+-- of the instruction of a number in a block of such code
+abbrev pub times_in : (BlockName → List Sym) → BlockName → ℕ → ℕ
+times_in block name n = time_at (slice_get (block name) n)
 
 pub record Prices : Type 0 where
   -- of the instruction of this number in a block

@@ -4,7 +4,7 @@
 -- through INDF where no object and no frame stands, and in a layout that ends below 100h what sets RP1 or IRP: from a run that
 -- isn't stuck it can then be shown that a program placed there touches only what its text names, in banks 0 and 1.
 -- g is the setting, q the program, inside whether the handler runs, p where the instruction stands, th the thread, m memory.
-use Rattle.std.specs.Prelude.{ℕ, ◌/◌, ◌%◌, Bool, true, false, not, ◌&&◌, ◌||◌, nat_eq, nat_lt, if◌then◌else◌, List, [], ◌∷◌, length, Option, Some, None}
+use Rattle.std.specs.Prelude.{ℕ, ◌+◌, ◌*◌, ◌/◌, ◌%◌, Bool, true, false, not, ◌&&◌, ◌||◌, nat_eq, nat_lt, if◌then◌else◌, List, [], ◌∷◌, length, Option, Some, None, slice_get}
 use Rattle.pic_isa.specs.declared.Ins.TheVariants as ins
 use Rattle.pic_chip.specs.Address.{in_every_bank}
 use Rattle.pic_world.specs.Bits.{bit, set_bit, clear_bit, truth}
@@ -14,8 +14,8 @@ use Rattle.pic_world.specs.declared.Root.{Root}
 use Rattle.pic_world.specs.declared.Root.TheVariants.{Main, Isr}
 use Rattle.core_code.specs.declared.code.Byte.TheVariants as bytes
 use Rattle.sym_code.specs.Layout.{DataLayout, address_of, address_byte, general_at, Owner, Watched, Constant, Of, Nobody, owner, all_near, is_covered}
-use Rattle.sym_code.specs.Programs.{Program, Position, block_of, fetched, behind, onward, place_of}
-use Rattle.sym_code.specs.Registers.{Registers, bank, page, pointer, with_bank_bit, with_page_bit, result_with, flags_with, skips_with, literal_row, after_row, status_bit, with_status_bit}
+use Rattle.sym_code.specs.Programs.{Program, Position, block_of, own_place, fetched, behind, onward, place_of}
+use Rattle.sym_code.specs.Registers.{Registers, Spoiled, spoiled, bank, page, pointer, with_bank_bit, with_page_bit, result_with, flags_with, skips_with, literal_row, after_row, status_bit, with_status_bit}
 use Rattle.sym_code.specs.declared.code.BankBit.{BankBit}
 use Rattle.sym_code.specs.declared.code.BankBit.TheVariants.{Rp0, Rp1, Irp}
 use Rattle.sym_code.specs.declared.code.BitOperation.{BitOperation}
@@ -49,6 +49,8 @@ pub record Setting : Type 0 where
   pub page_of : BlockName → ℕ
   -- how many calls of main, and of the handler, may wait at the same time
   pub limit : Bool → ℕ
+  -- what a read of this byte of a table leaves
+  pub leaves : ℕ → ℕ → Spoiled
 
 -- ---- threads and memory
 -- a byte each access of which is an event: a device register by its lowest address, or a byte of a static object by its
@@ -299,6 +301,40 @@ abbrev pub page_bit : PageBit → ℕ → ℕ
 page_bit Low page = page % 2
 page_bit High page = page / 2 % 2
 
+-- ---- tables in program memory
+-- the byte of an access without an event
+abbrev pub silent_byte : Memory → Access → Option ℕ
+silent_byte m (Silent k) = Some (m k)
+silent_byte m access = None
+
+abbrev pub result_byte : Setting → Bool → Registers → Memory → Root → ℕ → Option ℕ
+result_byte g inside r m root k = silent_byte m (access_of g inside false r (operands.Byte (bytes.Result root k)))
+
+-- two bytes as an unsigned number
+abbrev pub number_of : Option ℕ → Option ℕ → Option ℕ
+number_of (Some low) (Some high) = Some (low + 256 * high)
+number_of low high = None
+
+abbrev pub table_byte : Option (List ℕ) → ℕ → Option ℕ
+table_byte None k = None
+table_byte (Some list) k = slice_get list k
+
+-- the words that read byte k have brought this byte, of which a word has room for 8 bits
+abbrev pub brought : Setting → Position → Thread → Spoiled → Option ℕ → Effect
+brought g p th left None = Stuck
+brought g p th left (Some v) = quiet (goes th (behind g.program p) (record (spoiled left th.registers) { w = v % 256 }))
+
+abbrev pub looked_up : Setting → Position → Thread → ℕ → Option ℕ → Effect
+looked_up g p th table None = Stuck
+looked_up g p th table (Some k) = brought g p th (g.leaves table k) (table_byte (g.program.tables table) k)
+
+-- they are called, so there must be room on the return stack
+abbrev pub look_up : Setting → Bool → Position → Thread → Memory → ℕ → Root → Effect
+look_up g inside p th m table root =
+    if nat_lt (length th.stack) (g.limit inside)
+    then looked_up g p th table (number_of (result_byte g inside th.registers m root 0) (result_byte g inside th.registers m root 1))
+    else Stuck
+
 -- ---- one instruction
 unfoldable pub effect_of : Setting → Bool → Position → Thread → Memory → Sym → Effect
 effect_of g inside p th m (sym.File op operand dest) = file g inside p th m op operand dest
@@ -313,6 +349,7 @@ effect_of g inside p th m (sym.Label label) = Stuck
 effect_of g inside p th m (sym.SelectBank which to) = select g.program p th which to
 effect_of g inside p th m (sym.SelectPage which target) =
     quiet (goes th (behind g.program p) (with_page_bit th.registers which (page_bit which (g.page_of (block_of p.block target)))))
+effect_of g inside p th m (sym.Table table root) = if is_in_page g p th.registers own_place then look_up g inside p th m table root else Stuck
 
 abbrev pub effect_if : Setting → Bool → Position → Thread → Memory → Option Sym → Effect
 effect_if g inside p th m None = Stuck

@@ -52,4 +52,5 @@ is_marked variables (syms.Bit op operand n) = is_marked_bit variables op operand
 is_marked variables (syms.Goto target) = is_marked_target target
 is_marked variables (syms.Call target) = true
 is_marked variables (syms.Plain op) = is_marked_plain op
+is_marked variables (syms.Table table root) = true
 is_marked variables s = false

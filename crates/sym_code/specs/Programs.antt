@@ -31,12 +31,21 @@ block_of own (targets.Label (Inner n)) = own
 block_of own (targets.Label Halt) = Start
 block_of own (targets.Label Restore) = Start
 
+-- A target that lies in the block itself, as each inner label does: the words that read a table are in the page of its block.
+abbrev pub own_place : Target
+own_place = targets.Label (Inner 0)
+
 -- ---- programs
 pub record Program : Type 0 where
   pub block : BlockName → List Sym
   -- the handler's copy; main's is copy 0
   pub handler : Option ℕ
   pub layout : DataLayout
+  -- the bytes of each table in program memory
+  pub tables : ℕ → Option (List ℕ)
+
+abbrev pub no_tables : ℕ → Option (List ℕ)
+no_tables table = None
 
 -- the code of the block of a name
 abbrev pub block_in : List SymBlock → BlockName → List Sym
@@ -45,7 +54,7 @@ block_in (b ∷ bs) name = if same_name b.name name then b.list.items else block
 
 -- the program that blocks make
 abbrev pub code_of : List SymBlock → Option ℕ → DataLayout → Program
-code_of blocks handler layout = record { block = block_in blocks; handler = handler; layout = layout }
+code_of blocks handler layout = record { block = block_in blocks; handler = handler; layout = layout; tables = no_tables }
 
 -- ---- positions
 -- an instruction of a block, by its number there

@@ -1,6 +1,6 @@
 -- W, FSR, STATUS in its parts and the page bits of PCLATH, and what instructions make of them. Results and flags are
 -- those of the chip's table of instructions.
-use Rattle.std.specs.Prelude.{ℕ, ◌+◌, ◌*◌, ◌<◌, Bool, nat_eq, if◌then◌else◌, List, [], ◌∷◌, map, Option, Some, None}
+use Rattle.std.specs.Prelude.{ℕ, ◌+◌, ◌*◌, ◌<◌, Bool, false, nat_eq, if◌then◌else◌, List, [], ◌∷◌, map, Option, Some, None}
 use Rattle.pic_isa.specs.declared.Ins.{Ins}
 use Rattle.pic_isa.specs.declared.Ins.TheVariants as ins
 use Rattle.pic_chip.specs.Act.{Derived, Write, Act, Ask, Do}
@@ -9,6 +9,7 @@ use Rattle.pic_chip.specs.Operations.{result_of, flags_of, next_of}
 use Rattle.pic_chip.specs.State.{Part, AtW, AtZ, AtDc, AtC, AtFsr}
 use Rattle.pic_chip.specs.declared.operation.Operation.{Operation}
 use Rattle.pic_chip.specs.declared.operation.Operation.TheVariants as does
+use Rattle.pic_world.specs.Bits.{truth}
 use Rattle.sym_code.specs.declared.code.BankBit.{BankBit}
 use Rattle.sym_code.specs.declared.code.BankBit.TheVariants.{Rp0, Rp1, Irp}
 use Rattle.sym_code.specs.declared.code.FileOperation.{FileOperation}
@@ -59,6 +60,22 @@ with_bank_bit r Irp v = record r { irp = v }
 abbrev pub with_page_bit : Registers → PageBit → ℕ → Registers
 with_page_bit r Low v = record r { page_low = v }
 with_page_bit r High v = record r { page_high = v }
+
+-- ---- what a read of a table leaves
+-- The flags and the bits of the page behind it: that is up to the words that read the table.
+pub record Spoiled : Type 0 where
+  pub z : Bool
+  pub dc : Bool
+  pub c : Bool
+  pub page_low : Bool
+  pub page_high : Bool
+
+abbrev pub spoiled : Spoiled → Registers → Registers
+spoiled left r = record r { z = truth left.z; dc = truth left.dc; c = truth left.c; page_low = truth left.page_low; page_high = truth left.page_high }
+
+-- where there are no tables
+abbrev pub no_leaves : ℕ → ℕ → Spoiled
+no_leaves table k = record { z = false; dc = false; c = false; page_low = false; page_high = false }
 
 -- ---- parts by the names of the table
 

@@ -17,7 +17,7 @@ is_bit_write Bcf = true
 is_bit_write Bsf = true
 is_bit_write _ = false
 
--- the operand that an instruction names; a select names none
+-- the operand that an instruction names; a select and a read of a table name none
 abbrev pub touches : Sym → Option (Operand × Bool)
 touches (sym.File op file dest) = Some (file, is_file dest)
 touches (sym.Movwf file) = Some (file, true)

@@ -5,7 +5,7 @@ use Rattle.std.specs.List.{sum_by}
 use Rattle.core_code.specs.declared.code.Byte.{Byte}
 use Rattle.core_code.specs.declared.code.Byte.TheVariants as bytes
 use Rattle.sym_code.specs.declared.code.Sym.{Sym}
-use Rattle.sym_code.specs.declared.code.Sym.TheVariants.{Label, SelectBank, SelectPage, File, Movwf, Clrf, Bit, Literal, Plain, Call, Goto}
+use Rattle.sym_code.specs.declared.code.Sym.TheVariants.{Label, SelectBank, SelectPage, File, Movwf, Clrf, Bit, Literal, Plain, Call, Goto, Table}
 use Rattle.sym_code.specs.declared.code.Operand.{Operand}
 use Rattle.sym_code.specs.declared.code.Operand.TheVariants as operands
 
@@ -29,8 +29,8 @@ most_of_operand (operands.Byte byte) = if is_common byte then 1 else 3
 most_of_operand (operands.Register register) = 1
 most_of_operand (operands.Saved saved) = 1
 
--- How many words an instruction may become with the selects that it may need: a jump or a call may
--- need the two selects of its page.
+-- How many words an instruction may become with the selects that it may need: a jump, a call or a
+-- read of a table may need the two selects of its page.
 abbrev pub most_of_one : Sym → ℕ
 most_of_one (Label label) = 0
 most_of_one (SelectBank bit on) = 1
@@ -43,6 +43,7 @@ most_of_one (Literal op value) = 1
 most_of_one (Plain op) = 1
 most_of_one (Call target) = 3
 most_of_one (Goto target) = 3
+most_of_one (Table table root) = 3
 
 abbrev pub most_words : List Sym → ℕ
 most_words list = sum_by most_of_one list

@@ -4,6 +4,7 @@ ghost use Rattle.std.specs.Prelude.{◌≡◌, ◌∷◌, [], ◌++◌, true, On
 ghost use Rattle.sym_code.specs.WellFormed.{is_well_formed, are_well_formed};
 
 use core_code::Byte;
+use pic_world::Root;
 use std::alloc::{AllocError, Global};
 
 /// A register of the chip's core (Microchip data sheet DS39582, special function registers). Each stands in every bank.
@@ -137,8 +138,8 @@ pub enum PageBit {
     High,
 }
 
-/// A symbolic instruction: one of the chip, whose operands have names; a label, which is no instruction; or a select of
-/// one bit, which is a BCF or BSF.
+/// A symbolic instruction: one of the chip, whose operands have names; a label, which is no instruction; a select of
+/// one bit, which is a BCF or BSF; or a read of a table, which is a call of the words that read it.
 #[derive(Clone, Copy, PartialEq, Eq)]
 pub enum Sym {
     File {
@@ -165,6 +166,12 @@ pub enum Sym {
     SelectBank(BankBit, bool),
     /// A bit of PCLATH becomes that of the page of the block that a target lies in.
     SelectPage(PageBit, Target),
+    /// W becomes a byte of the table of this number in program memory: the one whose number stands in the first two
+    /// result bytes of this root. The words that read it lie in the page of the instruction's own block.
+    Table {
+        table: u16,
+        root: Root,
+    },
 }
 
 /// The instructions of a block in order.

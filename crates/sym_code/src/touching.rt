@@ -27,7 +27,7 @@ pub fn is_bit_write(op: BitOperation) -> bool
     }
 }
 
-/// The file operand that an instruction names, and whether the instruction writes it. A select names none.
+/// The file operand that an instruction names, and whether the instruction writes it. A select and a read of a table name none.
 pub fn touches(sym: Sym) -> Option<(Operand, bool)>
     ensures { result ≡ stated.touches sym }
 {
@@ -43,5 +43,6 @@ pub fn touches(sym: Sym) -> Option<(Operand, bool)>
         Sym::Label(_) => None,
         Sym::SelectBank(_, _) => None,
         Sym::SelectPage(_, _) => None,
+        Sym::Table { .. } => None,
     }
 }
