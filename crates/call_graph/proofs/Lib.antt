@@ -2,6 +2,7 @@ pub mod Additions
 pub mod Appends
 pub mod CallLists
 pub mod Callers
+pub mod Deeper
 pub mod Marking
 pub mod Pigeons
 pub mod Reaching

@@ -16,14 +16,15 @@ use Rattle.c_typed.specs.declared.calls.Helper.{Helper}
 use Rattle.c_typed.specs.declared.calls.Helper.TheVariants.{Mul2, Mul4, Divu2, Divs2, Remu2, Rems2, Divu4, Divs4, Remu4, Rems4, Shl2, Shru2, Shrs2, Shl4, Shru4, Shrs4}
 use Rattle.c_typed.specs.declared.program.Function.{Function}
 use Rattle.c_typed.specs.declared.program.Typed.{Typed}
-use Rattle.call_graph.specs.Adding.{Adds, UnderRoot, UnderHandler, UnderRoots, Measures, MeasuresHandler}
-use Rattle.call_graph.specs.Copies.{IsOne, IsCopy, AreCopies, IsDepth, name_at, root_of}
-use Rattle.call_graph.specs.Levels.{HasLevel, IsFirstRecursive, IsLongest}
+use Rattle.call_graph.specs.Adding.{Adds, UnderRoot, UnderHandler, UnderRoots, Measures, MeasuresHandler, longest_by}
+use Rattle.call_graph.specs.Copies.{IsOne, IsCopy, AreCopies, IsDepthBy, HasDepthBy, name_at, root_of}
+use Rattle.call_graph.specs.Levels.{HasLevel, IsFirstRecursive, IsLongestBy}
 use Rattle.call_graph.specs.Rows.{rows_of}
 use Rattle.call_graph.specs.declared.levels.Levels.{Levels}
 use Rattle.call_graph.specs.declared.types.FnCopy.{FnCopy}
 use Rattle.call_graph.proofs.Additions.{numbered}
 use Rattle.call_graph.proofs.Callers.{none_calls}
+use Rattle.call_graph.proofs.Deeper.{longest_is, no_shorter}
 use Rattle.call_graph.proofs.Marking.{in_none}
 use Rattle.pic_world.specs.declared.Root.{Root}
 use Rattle.pic_world.specs.declared.Root.TheVariants as root
@@ -159,22 +160,32 @@ handler_measured graph None (Some l) found m is = absurd m
 handler_measured graph (Some number) None found m is = absurd m
 handler_measured graph (Some number) (Some l) found m is = let same : l ≡ found = cc in (number, subst (λ (x : Levels). Measures graph number x) same m)
 
-abbrev pub AddsUp : ℕ → ℕ → Option Levels → Type 0
-AddsUp main depth handler = MatchOption handler (depth ≡ main) (λ found. depth ≡ main + 1 + found.longest)
+abbrev pub AddsUp : List ℕ → Levels → ℕ → Option Levels → Type 0
+AddsUp deeper main depth handler = MatchOption handler (depth ≡ longest_by deeper main) (λ found. depth ≡ longest_by deeper main + 1 + longest_by deeper found)
 
-pub main_shallow : (main depth : ℕ) (handler : Option Levels) → AddsUp main depth handler → main ≤ depth
-main_shallow main depth None is = omega (arith, is)
-main_shallow main depth (Some found) is = omega (arith, is)
+pub main_shallow : (deeper : List ℕ) (main : Levels) (depth : ℕ) (handler : Option Levels) → AddsUp deeper main depth handler → main.longest ≤ depth
+main_shallow deeper main depth None is = let le = no_shorter deeper main in omega (arith, is, le)
+main_shallow deeper main depth (Some found) is = let le = no_shorter deeper main in omega (arith, is, le)
 
-pub handler_shallow : (main depth : ℕ) (handler : Option Levels) (found : Levels) → AddsUp main depth handler → handler ≡ Some found → found.longest ≤ depth
-handler_shallow main depth None found is same = absurd cc
-handler_shallow main depth (Some l) found is same = let also : l.longest ≡ found.longest = ap (λ (o : Levels). o.longest) (let e : l ≡ found = cc in e) in omega (arith, is, also)
+pub handler_shallow : (deeper : List ℕ) (main : Levels) (depth : ℕ) (handler : Option Levels) (found : Levels) → AddsUp deeper main depth handler → handler ≡ Some found → found.longest ≤ depth
+handler_shallow deeper main depth None found is same = absurd cc
+handler_shallow deeper main depth (Some l) found is same =
+    let also : l.longest ≡ found.longest = ap (λ (o : Levels). o.longest) (let e : l ≡ found = cc in e) in
+    let le = no_shorter deeper l in
+    omega (arith, is, also, le)
 
-pub is_depth : (graph : List (List ℕ)) (number : ℕ) (entry : Option ℕ) (main : Levels) (handler : Option Levels) (depth : ℕ) → Measures graph number main → MeasuresHandler graph entry handler → AddsUp main.longest depth handler → IsDepth graph (Some number) entry depth
-is_depth graph number None main None depth m h is = subst (λ (d : ℕ). IsLongest graph number d) (sym is) m.longest
-is_depth graph number None main (Some found) depth m h is = absurd h
-is_depth graph number (Some e) main None depth m h is = absurd h
-is_depth graph number (Some e) main (Some found) depth m h is = (main.longest, found.longest, m.longest, h.longest, is)
+pub is_depth : (deeper : List ℕ) (graph : List (List ℕ)) (number : ℕ) (entry : Option ℕ) (main : Levels) (handler : Option Levels) (depth : ℕ) → Measures graph number main → MeasuresHandler graph entry handler → AddsUp deeper main depth handler → IsDepthBy deeper graph (Some number) entry depth
+is_depth deeper graph number None main None depth m h is = subst (λ (d : ℕ). IsLongestBy deeper graph number d) (sym is) (longest_is deeper graph number main m)
+is_depth deeper graph number None main (Some found) depth m h is = absurd h
+is_depth deeper graph number (Some e) main None depth m h is = absurd h
+is_depth deeper graph number (Some e) main (Some found) depth m h is =
+    (longest_by deeper main, longest_by deeper found, longest_is deeper graph number main m, longest_is deeper graph e found h, is)
+
+pub has_depth : (p : Program) (deeper : List ℕ) (graph : List (List ℕ)) (number : ℕ) (entry : Option ℕ) (main : Levels) (handler : Option Levels) (depth : ℕ) → graph ≡ graph_of p → root_of p root.Main ≡ Some number → root_of p root.Isr ≡ entry → Measures graph number main → MeasuresHandler graph entry handler → AddsUp deeper main depth handler → HasDepthBy p deeper depth
+has_depth p deeper graph number entry main handler depth is by_main by_handler m h adds =
+    let d : IsDepthBy deeper graph (Some number) entry depth = is_depth deeper graph number entry main handler depth m h adds in
+    subst (λ (g : List (List ℕ)). IsDepthBy deeper g (root_of p root.Main) (root_of p root.Isr) depth) is
+    (subst (λ (o : Option ℕ). IsDepthBy deeper graph o (root_of p root.Isr) depth) (sym by_main) (subst (λ (o : Option ℕ). IsDepthBy deeper graph (Some number) o depth) (sym by_handler) d))
 
 -- The same over the numbers that the code has.
 pub finished : (p : Program) (graph : List (List ℕ)) (functions number : ℕ) (entry : Option ℕ) (main : Levels) (handler : Option Levels) (list : List FnCopy) → graph ≡ graph_of p → functions ≡ length p.functions → root_of p root.Main ≡ Some number → root_of p root.Isr ≡ entry → Measures graph number main → MeasuresHandler graph entry handler → Adds functions (UnderRoots functions main handler) [] list → AreCopies p list

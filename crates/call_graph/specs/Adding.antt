@@ -1,5 +1,5 @@
 -- Lists of copies, as they are made: what is put behind a list, under a root and a level.
-use Rattle.std.specs.Prelude.{◌≡◌, ℕ, ◌≤◌, ◌⊎◌, ◌↔◌, List, Option, Some, None, length, get_or}
+use Rattle.std.specs.Prelude.{◌≡◌, ℕ, ◌+◌, ◌≤◌, ◌⊎◌, ◌↔◌, Bool, false, ◌||◌, nat_eq, if◌then◌else◌, List, [], ◌∷◌, Option, Some, None, length, get_or}
 use Rattle.std.specs.List.{Contains, AllPairs}
 use Rattle.c_typed.specs.Chains.{number_of}
 use Rattle.call_graph.specs.Copies.{IsOne, StandsBefore}
@@ -43,3 +43,16 @@ MeasuresHandler graph None None = Unit {0}
 MeasuresHandler graph None (Some found) = ⊥
 MeasuresHandler graph (Some entry) None = ⊥
 MeasuresHandler graph (Some entry) (Some found) = Measures graph entry found
+
+-- one of these functions has that level
+abbrev pub has_level : Option ℕ → ℕ → Bool
+has_level None level = false
+has_level (Some found) level = nat_eq found level
+
+abbrev pub is_at_level : List ℕ → List (Option ℕ) → ℕ → Bool
+is_at_level [] levels level = false
+is_at_level (f ∷ fs) levels level = has_level (get_or levels f None) level || is_at_level fs levels level
+
+-- the calls of the longest chain, where each of these functions calls one more leaf
+abbrev pub longest_by : List ℕ → Levels → ℕ
+longest_by deeper found = if is_at_level deeper found.levels.items found.longest then found.longest + 1 else found.longest

@@ -1,9 +1,9 @@
 -- What the answers of `copies` say of a program. Want of memory is free.
-use Rattle.std.specs.Prelude.{◌≡◌, ℕ, ◌<◌, ◌≤◌, Option, Some, None, Result, Ok, Err, length}
+use Rattle.std.specs.Prelude.{◌≡◌, ℕ, ◌<◌, ◌≤◌, List, Option, Some, None, Result, Ok, Err, length}
 use Rattle.c_typed.specs.Chains.{graph_of}
 use Rattle.c_typed.specs.Trees.{Program}
 use Rattle.c_typed.specs.declared.program.RootKind.{RootKind}
-use Rattle.call_graph.specs.Copies.{HasDepth, name_at}
+use Rattle.call_graph.specs.Copies.{HasDepth, HasDepthBy, name_at}
 use Rattle.call_graph.specs.Levels.{IsAcyclic, IsFirstRecursive}
 use Rattle.call_graph.specs.declared.types.Copies.{Copies}
 use Rattle.call_graph.specs.declared.types.GraphError.{GraphError}
@@ -34,3 +34,11 @@ TellsDepth p (Err NoMemory) = Unit {0}
 TellsDepth p (Err (Roots kind)) = Unit {0}
 TellsDepth p (Err (Recursion function)) = Unit {0}
 TellsDepth p (Err (Depth depth)) = HasDepth p depth × (8 < depth)
+
+-- the same where each of these functions calls one more leaf
+abbrev pub TellsDepthBy : Program → List ℕ → Result Copies GraphError → Type 0
+TellsDepthBy p deeper (Ok copies) = HasDepthBy p deeper copies.depth × (copies.depth ≤ 8)
+TellsDepthBy p deeper (Err NoMemory) = Unit {0}
+TellsDepthBy p deeper (Err (Roots kind)) = Unit {0}
+TellsDepthBy p deeper (Err (Recursion function)) = Unit {0}
+TellsDepthBy p deeper (Err (Depth depth)) = HasDepthBy p deeper depth × (8 < depth)

@@ -1,14 +1,14 @@
 -- The copies of a program's functions and helpers, and how many words of the return stack its calls take. The roots are
 -- main and the interrupt handler (HI-TECH PICC manual, interrupt functions); the return stack is that of the data sheet
 -- DS39582.
-use Rattle.std.specs.Prelude.{◌≡◌, ℕ, ◌+◌, ◌<◌, ◌⊎◌, ◌↔◌, Bool, if◌then◌else◌, List, [], ◌∷◌, Option, Some, None, length, map, get_or}
+use Rattle.std.specs.Prelude.{◌≡◌, ℕ, ◌+◌, ◌<◌, ◌⊎◌, ◌↔◌, List, [], Option, Some, None, length, map, get_or}
 use Rattle.std.specs.List.{Contains, AllPairs}
 use Rattle.c_typed.specs.Chains.{graph_of, number_of, IsLevel}
 use Rattle.c_typed.specs.Roots.{is_main, is_handler, first_from}
-use Rattle.c_typed.specs.Trees.{FunctionTree, Program}
+use Rattle.c_typed.specs.Trees.{Program}
 use Rattle.c_typed.specs.declared.calls.FnId.{FnId}
 use Rattle.c_typed.specs.declared.calls.FnId.TheVariants as callee
-use Rattle.call_graph.specs.Levels.{IsLongest}
+use Rattle.call_graph.specs.Levels.{IsLongest, IsLongestBy}
 use Rattle.call_graph.specs.declared.types.FnCopy.{FnCopy}
 use Rattle.pic_world.specs.declared.Root.{Root}
 use Rattle.pic_world.specs.declared.Root.TheVariants as root
@@ -57,3 +57,13 @@ IsDepth graph (Some main) (Some handler) depth = (m : ℕ) × (n : ℕ) × IsLon
 -- how many words of the return stack the calls of a program take
 abbrev pub HasDepth : Program → ℕ → Type 0
 HasDepth p depth = IsDepth (graph_of p) (root_of p root.Main) (root_of p root.Isr) depth
+
+-- the same where each of these functions calls one more leaf
+abbrev pub IsDepthBy : List ℕ → List (List ℕ) → Option ℕ → Option ℕ → ℕ → Type 0
+IsDepthBy deeper graph None handler depth = ⊥
+IsDepthBy deeper graph (Some main) None depth = IsLongestBy deeper graph main depth
+IsDepthBy deeper graph (Some main) (Some handler) depth = (m : ℕ) × (n : ℕ) × IsLongestBy deeper graph main m × IsLongestBy deeper graph handler n × (depth ≡ m + 1 + n)
+
+-- How many words the calls of a program take where each of these functions calls one more leaf.
+abbrev pub HasDepthBy : Program → List ℕ → ℕ → Type 0
+HasDepthBy p deeper depth = IsDepthBy deeper (graph_of p) (root_of p root.Main) (root_of p root.Isr) depth

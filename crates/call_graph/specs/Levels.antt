@@ -1,5 +1,5 @@
 -- Recursion, and how deep chains of calls go, over a call graph by numbers.
-use Rattle.std.specs.Prelude.{◌≡◌, ℕ, ◌<◌, ◌≤◌, List, Option, Some, None, length, get_or}
+use Rattle.std.specs.Prelude.{◌≡◌, ℕ, ◌+◌, ◌<◌, ◌≤◌, nat_eq, if◌then◌else◌, List, [], ◌∷◌, Option, Some, None, length, get_or}
 use Rattle.c_typed.specs.Chains.{IsChain, Reaches, ReachesItself, IsLevel}
 
 -- no chain of one call or more leads back to where it began
@@ -23,3 +23,13 @@ AreLevels graph root levels = (g : ℕ) → g < length graph → HasLevel graph 
 pub record IsLongest (graph : List (List ℕ)) (root count : ℕ) : Type 0 where
   pub some : (g : ℕ) × (hs : List ℕ) × (g < length graph) × IsChain graph root hs g × (length hs ≡ count)
   pub most : (g : ℕ) (hs : List ℕ) → g < length graph → IsChain graph root hs g → length hs ≤ count
+
+-- The calls that a chain to g goes on by, where each of these functions calls one more leaf. The leaf is none of the graph's.
+abbrev pub leaf_calls : List ℕ → ℕ → ℕ
+leaf_calls [] g = 0
+leaf_calls (f ∷ fs) g = if nat_eq f g then 1 else leaf_calls fs g
+
+-- The longest chains from a root have so many calls, where each of these functions calls one more leaf.
+pub record IsLongestBy (deeper : List ℕ) (graph : List (List ℕ)) (root count : ℕ) : Type 0 where
+  pub some : (g : ℕ) × (hs : List ℕ) × (g < length graph) × IsChain graph root hs g × (length hs + leaf_calls deeper g ≡ count)
+  pub most : (g : ℕ) (hs : List ℕ) → g < length graph → IsChain graph root hs g → length hs + leaf_calls deeper g ≤ count

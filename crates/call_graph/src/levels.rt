@@ -1,7 +1,8 @@
 //! Recursion, and how deep the calls of a root go: over a graph by numbers.
 
-ghost use Rattle.std.specs.Prelude.{◌≡◌, ◌+◌, ◌<◌, ◌≤◌, ◌^◌, ◌∷◌, [], None, Some, set, replicate, length, IfOk, MatchOption, MatchBool};
-ghost use Rattle.call_graph.specs.Adding.{Measures};
+ghost use Rattle.std.specs.Prelude.{◌≡◌, ◌+◌, ◌<◌, ◌≤◌, ◌^◌, ◌∷◌, [], None, Some, set, replicate, length, get_or, IfOk, MatchOption, MatchBool};
+ghost use Rattle.call_graph.specs.Adding as stated;
+ghost use Rattle.call_graph.specs.Adding.{Measures, has_level};
 ghost use Rattle.call_graph.specs.Levels.{IsAcyclic, IsFirstRecursive};
 ghost use Rattle.call_graph.specs.Rows.{rows_of};
 ghost use Rattle.call_graph.specs.Waves.{AreAtLevel, Raised, callees};
@@ -40,11 +41,45 @@ fn no_levels(alloc: Global, count: usize) -> Result<Vec<Option<u32>>, AllocError
 
 /// Whether a level was found, and is this one.
 pub fn is_level(found: Option<u32>, level: u32) -> bool
-    ensures { MatchBool result (found ≡ Some level) (found ≡ Some level → ⊥) }
+    ensures value { result ≡ has_level found level }
+    ensures told { MatchBool result (found ≡ Some level) (found ≡ Some level → ⊥) }
 {
     match found {
         Some(found) => found == level,
         None => false,
+    }
+}
+
+fn level_at(levels: &[Option<u32>], number: u32) -> Option<u32>
+    ensures { result ≡ get_or levels.now number None }
+{
+    match levels.get(number as usize) {
+        Some(found) => *found,
+        None => None,
+    }
+}
+
+// Whether one of some functions has that level.
+fn is_at_level(functions: &[u32], levels: &[Option<u32>], level: u32) -> bool
+    ensures { result ≡ stated.is_at_level functions.now levels.now level }
+{
+    for function in functions {
+        if is_level(level_at(levels, *function), level) {
+            return true;
+        }
+    }
+    false
+}
+
+/// The calls of the longest chain, where each of the functions `deeper` calls one more leaf.
+pub fn longest_by(found: &Levels, deeper: &[u32]) -> u32
+    requires { found.now.longest < 2 ^ 30 }
+    ensures { result ≡ stated.longest_by deeper.now found.now }
+{
+    if is_at_level(deeper, &found.levels, found.longest) {
+        found.longest + 1
+    } else {
+        found.longest
     }
 }
 

@@ -14,7 +14,7 @@ mod roots;
 mod types;
 
 pub use c_typed::{FnId, Helper};
-pub use finding::copies;
+pub use finding::{copies, copies_deeper};
 pub use graph::{graph_of, number_of};
 pub use reach::{reached, reversed};
 pub use types::{Copies, FnCopy, GraphError};

@@ -2,12 +2,13 @@
 
 ghost use Rattle.std.specs.Prelude.{◌≡◌, ℕ, ◌+◌, ◌<◌, ◌≤◌, ◌^◌, [], Some, None, length, get_or, IfOk, OnOk, MatchOption};
 ghost use Rattle.std.specs.Option.{ForSome};
+ghost use Rattle.call_graph.specs.Adding as stated;
 ghost use Rattle.call_graph.specs.Adding.{Adds, AtLevel, UnderRoot, UnderHandler, UnderRoots, MeasuresHandler};
 ghost use Rattle.call_graph.specs.Levels.{IsAcyclic};
 ghost use Rattle.call_graph.specs.Rows.{rows_of};
 
 use crate::graph::id_of;
-use crate::levels::{Levels, is_level, levels_from};
+use crate::levels::{Levels, is_level, levels_from, longest_by};
 use crate::types::FnCopy;
 use pic_world::Root;
 use std::alloc::{AllocError, Global};
@@ -114,14 +115,17 @@ pub fn handler_levels(
     }
 }
 
-/// The longest chain of calls from main, and where there is a handler, 1 and the longest chain from it.
-pub fn depth_of(main: &Levels, handler: &Option<Levels>) -> u32
-    requires main { main.now.longest < 2 ^ 30 }
-    requires handler { ForSome handler.now (λ found. found.longest < 2 ^ 30) }
-    ensures { MatchOption handler.now (result ≡ main.now.longest) (λ found. result ≡ main.now.longest + 1 + found.longest) }
+/// The longest chain of calls from main, and where there is a handler, 1 and the longest chain from it. Each of the
+/// functions `deeper` calls one more leaf.
+pub fn depth_by(main: &Levels, handler: &Option<Levels>, deeper: &[u32]) -> u32
+    requires main { main.now.longest + 1 < 2 ^ 30 }
+    requires handler { ForSome handler.now (λ found. found.longest + 1 < 2 ^ 30) }
+    ensures { MatchOption handler.now (result ≡ stated.longest_by deeper.now main.now)
+        (λ found. result ≡ stated.longest_by deeper.now main.now + 1 + stated.longest_by deeper.now found) }
 {
+    let outer = longest_by(main, deeper);
     match handler {
-        Some(found) => call_depth::depth_of(main.longest, Some(found.longest)),
-        None => call_depth::depth_of(main.longest, None),
+        Some(found) => call_depth::depth_of(outer, Some(longest_by(found, deeper))),
+        None => call_depth::depth_of(outer, None),
     }
 }

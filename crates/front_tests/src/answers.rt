@@ -4,7 +4,7 @@ use crate::notation::written;
 use crate::printed::{
     beginnings, count_left, functions, nodes, static_sizes, tokens_cut, words_left,
 };
-use crate::sizes::{depth, known, paged, places, row, sizes};
+use crate::sizes::{depth, depth_of_readers, known, paged, places, row, sizes};
 use crate::stages::{broken_rule, tree};
 use std::alloc::Global;
 use std::process::Abort;
@@ -35,6 +35,8 @@ pub enum Question {
     Sizes,
     /// The depth of its calls, or `over` and the depth.
     Depth,
+    /// The same, where each function whose name begins with `r` calls one more leaf.
+    DepthOfReaders,
     /// The bytes of the frame and the words of the block of this function, behind the names that all rows share.
     Row,
     /// Where its blocks stand, or why they don't fit.
@@ -58,6 +60,7 @@ fn answer(alloc: Global, question: Question, text: &[u8]) -> Result<String, Fail
         Question::Functions => functions(alloc, text),
         Question::Sizes => sizes(alloc, text),
         Question::Depth => depth(alloc, text),
+        Question::DepthOfReaders => depth_of_readers(alloc, text),
         Question::Row => row(alloc, text),
         Question::Pages => paged(alloc, text),
         Question::Places => places(alloc, text),

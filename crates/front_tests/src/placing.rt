@@ -175,3 +175,26 @@ fn a_program_has_its_addresses_sizes_and_depth(rt: HostRuntime) -> Result<(), Fa
     assert_eq!(rt; checked(&rt, rt.alloc(), Question::Known, KNOWN)?, 1);
     Ok(())
 }
+
+const READERS: &str =
+    r#"// Each function whose name begins with `r` calls one more leaf; one that nobody calls counts nothing.
+0 => void main(void){}
+0 => unsigned char r(void){return 1;}void main(void){}
+2 => unsigned char r(void){return 1;}void main(void){PORTB=r();}
+// A chain that is longer goes past it, and one as long doesn't count twice.
+2 => void g(void){}void f(void){g();}unsigned char r(void){return 1;}void main(void){f();PORTB=r();}
+2 => void g(void){}void f(void){g();}unsigned char r(void){g();return 1;}void main(void){f();PORTB=r();}
+// It is reached from both roots: 2 from main, 1 of the interrupt, and 2 from the handler.
+5 => unsigned char r(void){return 1;}void interrupt h(void){PORTC=r();INTF=0;}void main(void){INTCON=0x90;PORTB=r();}
+// Eight calls have room, and the leaf behind them has none.
+over 9 => unsigned char r(void){return 1;}void f(void){PORTB=r();}void e(void){f();}void d(void){e();}void c(void){d();}void b(void){c();}void a(void){b();}void s(void){a();}void main(void){s();}
+recursion: r => unsigned char r(void){return r();}void main(void){}"#;
+
+#[test]
+fn functions_that_call_a_leaf_count_one_call_more(rt: HostRuntime) -> Result<(), Fail> {
+    assert_eq!(rt;
+        checked(&rt, rt.alloc(), Question::DepthOfReaders, READERS)?,
+        8
+    );
+    Ok(())
+}

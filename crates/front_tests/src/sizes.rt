@@ -4,7 +4,7 @@ ghost use Rattle.std.specs.Prelude.{◌≤◌, ◌^◌, length};
 
 use crate::stages::typed;
 use c_check::{RootKind, Typed};
-use call_graph::{Copies, FnCopy, FnId, GraphError, copies};
+use call_graph::{Copies, FnCopy, FnId, GraphError, copies, copies_deeper};
 use code_place::pages;
 use pic_map::Placed;
 use pic_world::Root;
@@ -96,6 +96,31 @@ pub fn depth(alloc: Global, text: &[u8]) -> Result<String, Fail> {
             Ok(format!(in alloc; "{depth}")?)
         }
         Err(error) => without_address(alloc, &error),
+    }
+}
+
+fn readers(alloc: Global, p: &Typed) -> Result<Vec<u32>, AllocError> {
+    let mut numbers = Vec::new(alloc);
+    let mut number: u32 = 0;
+    for function in &p.functions {
+        if function.name.first() == Some(&b'r') {
+            numbers.push(number)?;
+        }
+        number = number.saturating_add(1);
+    }
+    Ok(numbers)
+}
+
+/// The depth of the calls of a text, where each function whose name begins with `r` calls one more leaf.
+pub fn depth_of_readers(alloc: Global, text: &[u8]) -> Result<String, Fail> {
+    let p = typed(alloc, text)?;
+    let deeper = readers(alloc, &p)?;
+    match copies_deeper(alloc, &p, &deeper) {
+        Ok(copies) => {
+            let depth = copies.depth;
+            Ok(format!(in alloc; "{depth}")?)
+        }
+        Err(error) => refused(alloc, &error),
     }
 }
 

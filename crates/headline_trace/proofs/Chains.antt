@@ -30,13 +30,13 @@ through {E} {F} {G} f g a b c n P first on =
     let second = on (first.0.at n) first.0.goes first.2 in
     (joined f g a b c n first.0 second.0, slow_composes E F G f g a b c n first.0 second.0 first.1 second.1)
 
-module _ {E F G : Type 0} (f : E → F) (g : F → G) (a : Run E) (b : Run F) (c : Run G) (steps : ℕ → ℕ) (nodes : ℕ) (free : b.least 0 ≡ 0) (led : IsLed f a steps nodes b)
-    (on : (n : ℕ) (d : Goes a n) → (link : Follows g b c ((led.followed n d).at n)) × IsSlow g b c ((led.followed n d).at n) link) where
+module _ {E F G : Type 0} (f : E → F) (g : F → G) (a : Run E) (b : Run F) (c : Run G) (steps : ℕ → ℕ) (nodes : ℕ) (led : IsLed f a steps nodes b)
+    (on : (n : ℕ) (d : Goes a n) → (link : Follows g b c ((led.followed n d).at n)) × (b.least ((led.followed n d).at n) ≤ c.least (link.at ((led.followed n d).at n)))) where
   module _ (n : ℕ) (d : Goes a n) where
     abbrev first : Follows f a b n
     first = led.followed n d
 
-    pub second : (link : Follows g b c (first.at n)) × IsSlow g b c (first.at n) link
+    pub second : (link : Follows g b c (first.at n)) × (b.least (first.at n) ≤ c.least (link.at (first.at n)))
     second = on n d
 
     abbrev follow : Follows (λ e. g (f e)) a c n
@@ -45,5 +45,5 @@ module _ {E F G : Type 0} (f : E → F) (g : F → G) (a : Run E) (b : Run F) (c
   abbrev pub led_on : IsLed (λ e. g (f e)) a steps nodes c
   led_on = record {
     followed = follow;
-    lag = λ n d. lag_composes F G g b c nodes (steps n) ((first n d).at n) free (led.lag n d) (second n d).0 (second n d).1;
+    lag = λ n d. lag_composes F G g b c nodes (steps n) ((first n d).at n) (led.lag n d) (second n d).0 (second n d).1;
   }

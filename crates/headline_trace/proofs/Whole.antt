@@ -16,6 +16,7 @@ use Rattle.pic_world.specs.World.{Outside, Happening, event_as}
 use Rattle.pic_world.specs.declared.Arrival.{Arrival}
 use Rattle.run_links.specs.Runs as runs
 use Rattle.run_links.specs.Runs.{Run, Goes, IsSlow}
+use Rattle.run_links.proofs.Links.{slow_from_start}
 use Rattle.core_code.specs.Bytes.{Held}
 use Rattle.core_code.specs.Machine as core
 use Rattle.core_code.specs.Runs as core_runs
@@ -161,8 +162,10 @@ module _ (p : Program) (copies : List FnCopy) (bodies : List Body) (statics : Li
     -- with operators on low bytes
     led_narrow : IsLed (event_as (held_as p copies)) (above o) (steps_by (sources.setting_of p o)) (nodes_of p) narrow_run
     led_narrow =
-        led_on (event_as (held_as p copies)) (λ event. event) (above o) byte_run narrow_run (steps_by (sources.setting_of p o)) (nodes_of p) byte_free led_byte
-        (λ n d. linked.narrowed o ((led_byte.followed n d).at n) (led_byte.followed n d).goes)
+        led_on (event_as (held_as p copies)) (λ event. event) (above o) byte_run narrow_run (steps_by (sources.setting_of p o)) (nodes_of p) led_byte
+        (λ n d.
+        let k = (led_byte.followed n d).at n in
+        slow_from_start (λ event. event) byte_run narrow_run k byte_free (linked.narrowed o k (led_byte.followed n d).goes))
 
     -- symbolic code, by that of selection, leaner, and with its selects
     opens : (k : ℕ) → Goes narrow_run k
@@ -175,13 +178,18 @@ module _ (p : Program) (copies : List FnCopy) (bodies : List Body) (statics : Li
 
     led_bare : IsLed show (above o) (steps_by (sources.setting_of p o)) (nodes_of p) bare_run
     led_bare =
-        led_on (event_as (held_as p copies)) (event_as (shown l)) (above o) narrow_run bare_run (steps_by (sources.setting_of p o)) (nodes_of p) narrow_free led_narrow
-        (λ n d. leaner ((led_narrow.followed n d).at n) (led_narrow.followed n d).goes)
+        led_on (event_as (held_as p copies)) (event_as (shown l)) (above o) narrow_run bare_run (steps_by (sources.setting_of p o)) (nodes_of p) led_narrow
+        (λ n d.
+        let k = (led_narrow.followed n d).at n in
+        slow_from_start (event_as (shown l)) narrow_run bare_run k narrow_free (leaner k (led_narrow.followed n d).goes))
 
     led : IsLed show (above o) (steps_by (sources.setting_of p o)) (nodes_of p) full_run
     led =
-        led_on show (λ event. event) (above o) bare_run full_run (steps_by (sources.setting_of p o)) (nodes_of p) bare_free led_bare
-        (λ n d. flows_keep lean made handler placed at linked.facts bare full linked.selects o e begins m entries arrived.1 ((led_bare.followed n d).at n) (led_bare.followed n d).goes)
+        led_on show (λ event. event) (above o) bare_run full_run (steps_by (sources.setting_of p o)) (nodes_of p) led_bare
+        (λ n d.
+        let k = (led_bare.followed n d).at n in
+        slow_from_start (λ event. event) bare_run full_run k bare_free
+        (flows_keep lean made handler placed at linked.facts bare full linked.selects o e begins m entries arrived.1 k (led_bare.followed n d).goes))
 
   pub headline : Follows source content c
   headline = record {

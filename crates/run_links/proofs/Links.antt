@@ -3,7 +3,7 @@ use Rattle.std.proofs.Common.{◌≡◌, ℕ, zero, suc, ◌+◌, ◌-◌, ◌*�
 use Rattle.std.proofs.lemmas.Bool.{cases_lt}
 use Rattle.std.proofs.lemmas.List.{length-map}
 use Rattle.std.proofs.Math.Nat.{add-mul}
-use Rattle.run_links.specs.Runs.{Run, IsFrontOf, Goes}
+use Rattle.run_links.specs.Runs.{Run, IsFrontOf, Goes, Follows, IsSlow}
 use Rattle.run_links.specs.Laws.{Composes, SlowComposes, LagComposes, HasPace, Counts, IsNotStuck}
 
 map_map : {E F G : Type 0} (f : E → F) (g : F → G) (xs : List E) → map g (map f xs) ≡ map (λ e. g (f e)) xs
@@ -34,15 +34,17 @@ times_mono : (x y k : ℕ) → x ≤ y → x * k ≤ y * k
 times_mono x y k le = let q : y ≡ x + (y - x) = omega arith in let p = ap (λ z. z * k) q ∙ add-mul x (y - x) k in omega arith
 
 pub lag_composes : (F G : Type 0) → LagComposes F G
-lag_composes F G g b c nodes steps m zero_least within second slow =
+lag_composes F G g b c nodes steps m within second le =
     ⊎_elim
     (λ lt.
-    let s = slow 0 m (omega arith) (omega arith) in
-    let le : b.least m ≤ c.least (second.at m) = omega arith in
     let p = times_mono (b.least m + 1) (c.least (second.at m) + 1) nodes (omega arith) in
     inl (omega arith))
     (λ r. inr (second.rests r))
     within
+
+-- what costs no less between any two moments costs no less from the start
+pub slow_from_start : {F G : Type 0} (g : F → G) (b : Run F) (c : Run G) (m : ℕ) → b.least 0 ≡ 0 → (link : Follows g b c m) × IsSlow g b c m link → (link : Follows g b c m) × (b.least m ≤ c.least (link.at m))
+slow_from_start g b c m free linked = (linked.0, let s = linked.1 0 m (omega arith) (omega arith) in omega arith)
 
 pub pace : (E F : Type 0) → HasPace E F
 pace E F f a b n i j k run link l m behind =

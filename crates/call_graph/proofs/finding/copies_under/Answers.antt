@@ -4,7 +4,7 @@ use Rattle.c_typed.specs.Roots.{is_main, is_handler}
 use Rattle.c_typed.specs.Views.{function_of, program_of}
 use Rattle.call_graph.specs.Levels.{IsAcyclic}
 use Rattle.call_graph.specs.Rows.{rows_of}
-use Rattle.call_graph.proofs.Results.{finished, rows_size}
+use Rattle.call_graph.proofs.Results.{finished, has_depth, rows_size}
 use Rattle.call_graph.proofs.Searches.{first_within}
 use Rattle.call_graph.proofs.finding.copies_under.Goals as goal
 
@@ -26,6 +26,19 @@ returns-then-depth-gt-DEEPEST-clause-recursion c = subst (λ (g : List (List ℕ
 
 pub returns-clause-recursion : goal.returns-clause-recursion
 returns-clause-recursion c = subst (λ (g : List (List ℕ)). IsAcyclic g) c.requires.graph c.requires.acyclic
+
+pub returns-then-depth-gt-DEEPEST-clause-depth :
+    goal.returns-then-depth-gt-DEEPEST-clause-depth
+returns-then-depth-gt-DEEPEST-clause-depth c = (
+  has_depth (program_of c.args.p.now) c.args.deeper.now (rows_of c.args.rows.now) c.args.roots.main c.args.roots.handler c.in_ok-main.main c.in_ok-handler.handler c.depth_by-depth.result c.requires.graph c.requires.main c.requires.handler c.in_ok-main.ensures c.in_ok-handler.ensures c.depth_by-depth.ensures,
+  omega arith,
+)
+
+pub returns-clause-depth : goal.returns-clause-depth
+returns-clause-depth c = (
+  has_depth (program_of c.args.p.now) c.args.deeper.now (rows_of c.args.rows.now) c.args.roots.main c.args.roots.handler c.in_ok-main.main c.in_ok-handler.handler c.depth_by-depth.result c.requires.graph c.requires.main c.requires.handler c.in_ok-main.ensures c.in_ok-handler.ensures c.depth_by-depth.ensures,
+  omega arith,
+)
 
 pub returns-clause-list : goal.returns-clause-list
 returns-clause-list c =

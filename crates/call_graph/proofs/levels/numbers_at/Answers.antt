@@ -7,8 +7,8 @@ use Rattle.call_graph.proofs.levels.numbers_at.Goals.{then-is_level+in_ok-push, 
 
 pub loop-number-preserved : goal.loop-number-preserved
 loop-number-preserved c = elim c.if-is_level.branch [
-  | then-is_level+in_ok-push w ↦ below_push c.args.levels.now c.args.level c.loop-number.number c.loop-number.numbers.items c.if-is_level.numbers.items c.loop-number.invariant (ap (λ (v : Vec ℕ Global). v.items) w.numbers-is ∙ w.in_ok-push.ensures.items) w.if-is_level.ensures
-  | else-is_level w ↦ below_skip c.args.levels.now c.args.level c.loop-number.number c.loop-number.numbers.items c.if-is_level.numbers.items c.loop-number.invariant (ap (λ (v : Vec ℕ Global). v.items) w.numbers-is) w.if-is_level.ensures
+  | then-is_level+in_ok-push w ↦ below_push c.args.levels.now c.args.level c.loop-number.number c.loop-number.numbers.items c.if-is_level.numbers.items c.loop-number.invariant (ap (λ (v : Vec ℕ Global). v.items) w.numbers-is ∙ w.in_ok-push.ensures.items) w.if-is_level.ensures.told
+  | else-is_level w ↦ below_skip c.args.levels.now c.args.level c.loop-number.number c.loop-number.numbers.items c.if-is_level.numbers.items c.loop-number.invariant (ap (λ (v : Vec ℕ Global). v.items) w.numbers-is) w.if-is_level.ensures.told
 ]
 
 pub returns : goal.returns

@@ -11,8 +11,8 @@ loop-number-init c = level_none c.args.functions c.args.root c.args.levels.now c
 
 pub loop-number-preserved : goal.loop-number-preserved
 loop-number-preserved c = elim c.if-is_level.branch [
-  | then-is_level+in_ok-push w ↦ level_push c.args.functions c.args.root c.args.levels.now c.args.level c.loop-number.number c.args.list.now.items c.loop-number.list.items c.if-is_level.list.items w.id_of.result c.loop-number.invariant w.if-is_level.ensures w.id_of.ensures.one (w.id_of.ensures.number (omega arith)) (ap (λ (v : Vec FnCopy Global). v.items) w.list-is ∙ w.in_ok-push.ensures.items)
-  | else-is_level w ↦ level_skip c.args.functions c.args.root c.args.levels.now c.args.level c.loop-number.number c.args.list.now.items c.loop-number.list.items c.if-is_level.list.items c.loop-number.invariant w.if-is_level.ensures (ap (λ (v : Vec FnCopy Global). v.items) w.list-is)
+  | then-is_level+in_ok-push w ↦ level_push c.args.functions c.args.root c.args.levels.now c.args.level c.loop-number.number c.args.list.now.items c.loop-number.list.items c.if-is_level.list.items w.id_of.result c.loop-number.invariant w.if-is_level.ensures.told w.id_of.ensures.one (w.id_of.ensures.number (omega arith)) (ap (λ (v : Vec FnCopy Global). v.items) w.list-is ∙ w.in_ok-push.ensures.items)
+  | else-is_level w ↦ level_skip c.args.functions c.args.root c.args.levels.now c.args.level c.loop-number.number c.args.list.now.items c.loop-number.list.items c.if-is_level.list.items c.loop-number.invariant w.if-is_level.ensures.told (ap (λ (v : Vec FnCopy Global). v.items) w.list-is)
 ]
 
 pub returns : goal.returns
