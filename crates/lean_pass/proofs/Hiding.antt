@@ -1,10 +1,11 @@
 -- No byte is hidden of objects and of frames that are lent, one after the other.
-use Rattle.std.proofs.Common.{◌≡◌, ℕ, zero, suc, ◌+◌, ◌<◌, ◌≤◌, Bool, true, false, List, [], ◌∷◌, refl, sym, subst, true≢false, arith}
+use Rattle.std.proofs.Common.{◌≡◌, ℕ, zero, suc, ◌+◌, ◌<◌, ◌≤◌, Bool, true, false, List, [], ◌∷◌, length, map, drop, refl, sym, subst, true≢false, arith}
 use Rattle.std.specs.Prelude.{nat_eq, get_or}
 use Rattle.std.proofs.lemmas.Bool.{eqb-true}
-use Rattle.pic_chip.specs.Run.{Range}
-use Rattle.sym_code.specs.Layout.{DataLayout, FrameRange, general_at}
-use Rattle.lean_code.specs.Clear.{IsClearRange, AreClearObjects, AreClearFrames, IsClear}
+use Rattle.pic_map.specs.declared.ObjLine.{ObjLine}
+use Rattle.sym_code.specs.Layout.{FrameRange, general_at}
+use Rattle.code_place.specs.Layouts.{range_of}
+use Rattle.lean_code.specs.Clear.{IsClearRange, AreClearObjects, AreClearFrames}
 use Rattle.lean_code.specs.Links.{is_clear}
 use Rattle.lean_pass.specs.Views.{lent_by}
 
@@ -26,12 +27,15 @@ pub range_all : (hidden : ℕ → Bool) (address k size : ℕ) → size ≤ k �
 range_all hidden address k size past before offset l = before offset (omega arith)
 
 -- ---- objects and frames
-pub objects_none : (hidden : ℕ → Bool) → AreClearObjects hidden (λ n. true) []
-objects_none hidden n is offset l = absurd (omega arith)
+pub objects_end : (hidden : ℕ → Bool) (lines : List ObjLine) → length lines < 1 → AreClearObjects hidden (λ n. true) (map range_of lines)
+objects_end hidden [] below n is offset l = absurd (omega arith)
+objects_end hidden (line ∷ lines) below n is offset l = absurd (omega (arith, below))
 
-pub objects_more : (hidden : ℕ → Bool) (r : Range) (rs : List Range) → IsClearRange hidden r.address r.size → AreClearObjects hidden (λ n. true) rs → AreClearObjects hidden (λ n. true) (r ∷ rs)
-objects_more hidden r rs here rest zero is = here
-objects_more hidden r rs here rest (suc n) = rest n
+pub objects_on : (hidden : ℕ → Bool) (lines : List ObjLine) (line other : ObjLine) → 1 ≤ length lines → line ≡ get_or lines 0 other → IsClearRange hidden line.address line.size → AreClearObjects hidden (λ n. true) (map range_of (drop 1 lines))
+    → AreClearObjects hidden (λ n. true) (map range_of lines)
+objects_on hidden [] line other some is here rest n each = absurd (omega (arith, some))
+objects_on hidden (x ∷ lines) line other some is here rest zero each = subst (λ (y : ObjLine). IsClearRange hidden y.address y.size) is here
+objects_on hidden (x ∷ lines) line other some is here rest (suc n) each = rest n each
 
 pub frames_none : (hidden : ℕ → Bool) (lent : ℕ → Bool) → AreClearFrames hidden lent []
 frames_none hidden lent c is offset l = absurd (omega arith)

@@ -36,7 +36,6 @@ fn is_clear_range(hidden: &ByteSet, address: u16, size: u16) -> bool
 }
 
 // All of them count as lent.
-#[tactic(auto, using(crate::proofs::Hiding::objects_none, crate::proofs::Hiding::objects_more))]
 fn are_clear_objects(hidden: &ByteSet, lines: &[ObjLine]) -> bool
     ensures { result ≡ true → AreClearObjects (hidden_by hidden.now) (λ n. true) (map range_of lines.now) }
 {
