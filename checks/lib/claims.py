@@ -22,7 +22,7 @@ SERVES = {
     'c_parse::parse': 'c_nodes parse_expr c_parse::over',
     'c_pre::tokens': 'c_pre::word_of',
     'c_token::raw': 'c_token::longest_token',
-    'c_tree::spell': 'c_tree::word c_token::Keyword c_token::Punct',
+    'c_tree::spell': 'c_token::Keyword c_token::Punct',
     'call_graph::copies': 'call_depth call_graph::graph call_graph::reach',
     'code_place::assemble': 'code_place::address_of code_place::real_words',
     'bank_page::selects_plain': 'bank_page::kinds bank_page::known bank_page::put_made',

@@ -120,10 +120,13 @@ def calls_of(crate, module, lines, traits):
 
 
 def exports(lines):
-    """What the top file of a crate makes public: names, and whole modules."""
+    """What the top file of a crate makes public of its own: names, and whole modules. What is another crate's is public there."""
     text = '\n'.join(line for line in lines if not line.lstrip().startswith('//'))
+    own = set(re.findall(r'^(?:pub )?mod (\w+);', text, re.MULTILINE))
     names = set()
     for path in re.findall(r'^pub use (?:crate::)?([^;]*);', text, re.MULTILINE):
+        if path.split('::')[0] not in own:
+            continue
         names.update(re.findall(r'(\w+)(?=[,}\s]|$)', path.split('::')[-1] if '{' not in path else path.split('{')[1]))
     return names, set(re.findall(r'^pub mod (\w+);', text, re.MULTILINE))
 

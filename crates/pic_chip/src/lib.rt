@@ -26,6 +26,11 @@ pub use pic_world::{
 pub use processor::Processor;
 pub use profile::Profile;
 
+// What a caller of the chip names of the world that it runs in: its registers, what arrives, and what it makes.
+pub use pic_world::{
+    Arrival, Cell, Event, Flag, Root, Script, Trace, bit, register, register_name,
+};
+
 /// What is unknown after power-on. `flags` is below 8 and has Z, DC and C as bits 2, 1 and 0.
 /// The bytes of `ram` are the 368 general bytes in order of address.
 #[derive(Clone, Copy)]

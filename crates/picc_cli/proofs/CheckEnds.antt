@@ -2,6 +2,7 @@
 use Rattle.std.proofs.Common.{◌≡◌, ◌≤◌, ◌<◌, ℕ, ◌⊎◌, inl, inr, ⊎_elim, true, false, IsTrue, Option, Some, None, IfSome, List, ◌++◌, length, Ok, Err, refl, sym, ap, ◌∙◌, subst, arith, option_map}
 use Rattle.depth_check.proofs.Sure.{fact, stands_at}
 use Rattle.depth_check.proofs.Threads.{handler, main_row, small_total}
+use Rattle.depth_check.proofs.Totals.{one_total}
 use Rattle.depth_check.proofs.Whole.{stays_within}
 use Rattle.depth_check.specs.Certificate.{Certificate}
 use Rattle.depth_check.specs.Depth.{StaysWithin}
@@ -44,6 +45,7 @@ bounded image c depth valid is =
       certificate = c;
       valid = valid;
       total = is;
+      one = λ other known. is ∙ one_total image c other valid known;
       few = subst (λ k. k ≤ 8) (sym is) (small_total image c valid);
       runs = subst (StaysWithin image) (sym is) (stays_within image c valid);
     }

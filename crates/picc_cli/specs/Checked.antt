@@ -15,13 +15,14 @@ use Rattle.host_lines.specs.Said.{Prints}
 use Rattle.picc_cli.specs.ScriptInput.{IsFile}
 
 -- ---- the image
--- A certificate with this total is valid for the image. So in every run of it, from reset, whatever is unknown then, whatever bytes are
--- read and whatever flags arrive, the return stack holds at most so many words at each moment: of its eight none is lost, and
--- nothing is popped that wasn't pushed.
+-- A certificate with this total is valid for the image, and each one that is has this total. So in every run of it, from reset, whatever is
+-- unknown then, whatever bytes are read and whatever flags arrive, the return stack holds at most so many words at each moment: of its eight
+-- none is lost, and nothing is popped that wasn't pushed.
 pub record IsBounded (image : List ℕ) (depth : ℕ) : Type 0 where
   pub certificate : Certificate
   pub valid : is_valid image certificate ≡ true
   pub total : depth ≡ total_of certificate
+  pub one : (c : Certificate) → is_valid image c ≡ true → depth ≡ total_of c
   pub few : depth ≤ 8
   pub runs : StaysWithin image depth
 
@@ -103,8 +104,8 @@ Adds line before after = after ≡ option_map (λ text. text ++ line) before
 abbrev pub TellsFile : List ℕ → Contents → Option (List ℕ) → Option (List ℕ) → Type 0
 TellsFile name old before after = (end : FileEnd) × HasNoHex old name end × (inputs.status_of end ≡ 5) × Adds (inputs.line_of name end) before after
 
--- 0: the printed depth is that of a certificate that is valid for the image of the file, so no run goes deeper. 7: no certificate is
--- valid for that image. 5: the name has a content that is no HEX file, or is too long, and its fault is told.
+-- 0: some certificate is valid for the image of the file, and the printed depth is that of each that is, so no run goes deeper. 7: no
+-- certificate is valid for that image. 5: the name has a content that is no HEX file, or is too long, and its fault is told.
 pub record CheckTells (name : List ℕ) (old : Contents) (before after : Option (List ℕ)) (result : ℕ) : Type 0 where
   pub bounded : result ≡ 0 → (depth : ℕ) × HasImage old name (λ image. IsBounded image depth) × Adds (depth_line depth) before after
   pub uncertified : result ≡ 7 → HasImage old name HasNoCertificate × Adds no_certificate before after
