@@ -1,5 +1,5 @@
 -- Runs of small programs, computed.
-use Rattle.std.proofs.Common.{◌≡◌, ℕ, zero, suc, Bool, true, false, nat_eq, List, [], ◌∷◌, Some, refl}
+use Rattle.std.proofs.Common.{◌≡◌, ℕ, zero, suc, Bool, true, false, nat_eq, List, [], ◌∷◌, Option, Some, None, refl}
 use Rattle.pic_world.specs.Control.{raised_by, is_due as is_due_by, entered as entered_by, left as left_by, stored, with_stored}
 use Rattle.pic_world.specs.World.{ReadOf, WriteOf, Ended, outside_of, arrived, is_due, entered, left, device_value, after_device_read, after_device_write, sets_gie}
 use Rattle.pic_world.specs.declared.Cell.TheVariants as cells
@@ -9,10 +9,10 @@ use Rattle.pic_world.specs.declared.Root.TheVariants.{Main, Isr}
 use Rattle.c_ints.specs.declared.operators.BinOp.TheVariants.{Add, Sub, Mul, Lt}
 use Rattle.c_ints.specs.declared.types.IntTy.TheVariants.{SChar, UChar, Int, UInt}
 use Rattle.core_code.specs.Bytes.{Number, Part, Fixed}
-use Rattle.core_code.specs.Cost.{cost_of, step_most}
+use Rattle.core_code.specs.Cost.{cost_of, step_most, step_least}
 use Rattle.core_code.specs.Machine.{Program, Setting, Next, Still, Stuck, extent, is_own, is_valid, is_reached, held_at, after_read, after_write, memory_with, put, operate, act, core_step, core_run, core_moment}
 use Rattle.core_code.specs.Operands.{fits_together}
-use Rattle.core_code.specs.Runs.{trace_at, most_by}
+use Rattle.core_code.specs.Runs.{trace_at, most_by, least_by}
 use Rattle.core_code.specs.Tree.{Tree, Set, Address, Copy, Load, Store, Binary, Convert, BitWrite, Call, Leave, If, Loop, Exit, many}
 use Rattle.core_code.specs.Values.{pointer_in, value_in, truth_in, converted, binary_value}
 use Rattle.core_code.specs.declared.code.Byte.TheVariants.{Static, Frame, Result, Device}
@@ -37,6 +37,7 @@ abbrev program : List Tree → List Tree → List Tree → Program
 program main first handler = record {
   body = bodies main first handler;
   root = roots;
+  reads = λ copy. None;
   calls = main_calls;
   helped = λ copy op ty. true;
   handler = Some 2;
@@ -172,3 +173,27 @@ interrupted = refl
 interrupted_still : core_step interrupting (core_moment interrupting 20) ≡ Still
 unfolding core_run core_step act operate put is_own is_valid held_at after_read after_write memory_with arrived is_due entered left device_value after_device_read after_device_write sets_gie raised_by is_due_by entered_by left_by stored with_stored extent value_in pointer_in binary_value fits_together
 interrupted_still = refl
+
+-- Copy 1 reads a table of three bytes. PORTB gets the byte at index 2; at index 3 there is none, and the reading is stuck.
+abbrev read_by_first : ℕ → Option (List ℕ)
+read_by_first zero = None
+read_by_first (suc zero) = Some (7 ∷ 9 ∷ 250 ∷ [])
+read_by_first (suc (suc n)) = None
+
+abbrev looking : ℕ → Setting
+looking index = record {
+  program = record (program (Set (Frame 1 0) index ∷ Set (Frame 1 1) 0 ∷ Call 1 ∷ Copy (Device 6) (Result Main 0) ∷ Leave ∷ []) [] []) { reads = read_by_first };
+  outside = outside_of [] [];
+}
+
+looked : trace_at (looking 2) 7 ≡ WriteOf (cells.Device 6) (Number 250) ∷ Ended ∷ []
+unfolding core_run core_step act operate put is_own is_valid held_at after_read after_write memory_with arrived is_due entered left device_value after_device_read after_device_write sets_gie raised_by is_due_by entered_by left_by stored with_stored
+looked = refl
+
+looked_least : least_by (looking 2) 7 ≡ 8
+unfolding core_run core_step act operate put is_own is_valid held_at after_read after_write memory_with arrived is_due entered left device_value after_device_read after_device_write sets_gie raised_by is_due_by entered_by left_by stored with_stored least_by step_least
+looked_least = refl
+
+looked_behind : core_step (looking 3) (core_moment (looking 3) 3) ≡ Stuck
+unfolding core_run core_step act operate put is_own is_valid held_at after_read after_write memory_with arrived is_due entered left device_value after_device_read after_device_write sets_gie raised_by is_due_by entered_by left_by stored with_stored
+looked_behind = refl

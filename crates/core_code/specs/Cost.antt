@@ -9,7 +9,7 @@ use Rattle.c_ints.specs.declared.operators.UnOp.{UnOp}
 use Rattle.c_ints.specs.declared.operators.UnOp.TheVariants as unary
 use Rattle.pic_world.specs.World.{arrived, is_due}
 use Rattle.core_code.specs.Bytes.{Object, Fixed, FrameOf, is_private}
-use Rattle.core_code.specs.Machine.{Program, Setting, Machine, Task, Do, Put, PutBit, PutBack, Join, LoadFrom, StoreTo, Over, Waiting, InLoop, InCall, InHandler}
+use Rattle.core_code.specs.Machine.{Program, Setting, Machine, Task, Do, Put, PutBit, PutBack, Join, LoadFrom, StoreTo, Reading, Over, Waiting, InLoop, InCall, InHandler}
 use Rattle.core_code.specs.Operands.{number_left}
 use Rattle.core_code.specs.Tree as tree
 use Rattle.core_code.specs.Tree.{Tree}
@@ -33,6 +33,13 @@ half_cost = 3
 
 abbrev pub move_cost : ℕ
 move_cost = 6
+
+-- A call, with the selects of its page; of a copy that reads a table its index is copied, too. And the read of a table's byte.
+abbrev pub call_cost : ℕ
+call_cost = 12
+
+abbrev pub reading_cost : ℕ
+reading_cost = 16
 
 -- ---- at most
 -- by the bytes of the operand
@@ -86,7 +93,7 @@ cost_of before (tree.Binary op ty to left right) = binary_cost op (number_left b
 cost_of before (tree.Convert from to at) = widening_cost (bytes_of to - bytes_of from)
 cost_of before (tree.BitRead to register bit) = 6
 cost_of before (tree.BitWrite register bit from) = 13
-cost_of before (tree.Call copy) = 6
+cost_of before (tree.Call copy) = call_cost
 cost_of before tree.Leave = 4
 cost_of before (tree.Many ts) = 0
 cost_of before (tree.If test size first second) = 4 * size + 16
@@ -105,9 +112,10 @@ abbrev pub leaving : Tree → List Waiting → ℕ
 leaving tree.Leave s = restoring s
 leaving _ s = 0
 
--- The read of a byte through a pointer may be an event, and then the write is a task of its own.
+-- The read of a byte through a pointer may be an event, and then the write is a task of its own. One from a static object may become
+-- the read of a table's byte.
 abbrev pub load_cost : Object → ℕ
-load_cost (Fixed n) = half_cost
+load_cost (Fixed n) = reading_cost
 load_cost (FrameOf c) = move_cost
 
 -- A repeat of a loop is a jump, and so may be the end of what a choice led to.
@@ -120,6 +128,7 @@ task_most (PutBack register value ∷ c) s = half_cost
 task_most (Join ∷ c) s = jump_cost
 task_most (LoadFrom to object offset n ∷ c) s = load_cost object
 task_most (StoreTo object offset from n ∷ c) s = move_cost
+task_most (Reading bytes ∷ c) s = reading_cost
 task_most (Over ∷ c) s = 0
 
 unfoldable pub step_most : Setting → Machine → ℕ
@@ -146,12 +155,17 @@ least_leave (InLoop body c ∷ s) = least_leave s
 least_leave (InCall p c ∷ s) = 1
 least_leave (InHandler p a c ∷ s) = 1
 
+-- a call of a copy that reads a table copies its index, too
+abbrev pub least_call : Option (List ℕ) → ℕ
+least_call None = 1
+least_call (Some bytes) = 3
+
 abbrev pub least_of : Program → Tree → List Waiting → ℕ
 least_of q (tree.Set to value) s = one_if (is_kept q.variable_bytes to)
 least_of q (tree.Copy to from) s = one_if (is_kept q.variable_bytes to || is_kept q.variable_bytes from)
 least_of q (tree.BitRead to register bit) s = 1
 least_of q (tree.BitWrite register bit from) s = 1
-least_of q (tree.Call copy) s = 1
+least_of q (tree.Call copy) s = least_call (q.reads copy)
 least_of q tree.Leave s = least_leave s
 least_of q (tree.If test size first second) s = 1
 least_of q (tree.Again loops) s = 1
@@ -168,6 +182,7 @@ least_task q (PutBack register value ∷ c) s = 0
 least_task q (Join ∷ c) s = 0
 least_task q (LoadFrom to object offset n ∷ c) s = one_if (nat_lt 0 n)
 least_task q (StoreTo object offset from n ∷ c) s = one_if (nat_lt 0 n)
+least_task q (Reading bytes ∷ c) s = 1
 least_task q (Over ∷ c) s = 0
 
 unfoldable pub step_least : Setting → Machine → ℕ

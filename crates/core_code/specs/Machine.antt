@@ -20,7 +20,7 @@ use Rattle.core_code.specs.Bytes.{Object, Fixed, FrameOf, Held, Place, Memory, U
 use Rattle.core_code.specs.Operands.{number_left, is_helped, fits_unary, fits_together}
 use Rattle.core_code.specs.Tree as tree
 use Rattle.core_code.specs.Tree.{Tree, list_of}
-use Rattle.core_code.specs.Values.{Value, Pointer, Extent, byte_count, byte_of, pointer_in, value_in, truth_in, converted, unary_value, binary_value, right_type}
+use Rattle.core_code.specs.Values.{Value, Pointer, Extent, byte_count, byte_of, number_in, pointer_in, value_in, truth_in, converted, unary_value, binary_value, right_type}
 use Rattle.core_code.specs.declared.code.Byte.{Byte}
 use Rattle.core_code.specs.declared.code.Byte.TheVariants.{Static, Frame, Result, Device}
 
@@ -29,6 +29,8 @@ pub record Program : Type 0 where
   -- the body of each copy, and the root that it runs under; copy 0 is main
   pub body : ℕ → List Tree
   pub root : ℕ → Root
+  -- the bytes of the table that a copy reads, in the place of a body
+  pub reads : ℕ → Option (List ℕ)
   -- the body of the first copy may call the second one
   pub calls : ℕ → ℕ → Bool
   -- the body of a copy may use the helper of this operator: there is a copy of it
@@ -68,6 +70,8 @@ pub data Task : Type 0 where
   -- so many bytes from this place on are read to these bytes, or written with them
   LoadFrom : Byte → Object → ℕ → ℕ → Task
   StoreTo : Object → ℕ → Byte → ℕ → Task
+  -- the result becomes the byte of this table at the index that the result bytes hold
+  Reading : List ℕ → Task
   -- main has ended
   Over : Task
 
@@ -342,8 +346,26 @@ bit_write g register number _ c p a s m w = Stuck
 abbrev pub begins : Program → ℕ → List Waiting → Memory → World Held → Next
 begins q callee s m w = goes (tasks [] (q.body callee) []) callee None s m w
 
+-- The two parameter bytes of a copy that reads a table become its root's result bytes.
+abbrev pub with_index : Program → ℕ → Memory → Memory
+with_index q callee m = with_byte (with_byte m (Result (q.root callee) 0) (m (Frame callee 0))) (Result (q.root callee) 1) (m (Frame callee 1))
+
+-- a copy with a body, or one that reads a table
+abbrev pub called : Program → Option (List ℕ) → ℕ → List Waiting → Memory → World Held → Next
+called q None callee s m w = begins q callee s m w
+called q (Some bytes) callee s m w = goes (Reading bytes ∷ Do [] tree.Leave ∷ []) callee None s (with_index q callee m) w
+
 abbrev pub call : Program → ℕ → List Task → ℕ → Option ℕ → List Waiting → Memory → World Held → Next
-call q callee c p a s m w = when (may_call q p a callee) (begins q callee (InCall p c ∷ s) (opened a callee m) w)
+call q callee c p a s m w = when (may_call q p a callee) (called q (q.reads callee) callee (InCall p c ∷ s) (opened a callee m) w)
+
+-- a table's byte at an index that is a number below its length
+abbrev pub looked_up : List ℕ → Option ℕ → Option ℕ
+looked_up bytes None = None
+looked_up bytes (Some k) = slice_get bytes k
+
+abbrev pub has_read : Program → Option ℕ → List Task → ℕ → Option ℕ → List Waiting → Memory → World Held → Next
+has_read q None c p a s m w = Stuck
+has_read q (Some byte) c p a s m w = goes c p a s (with_byte m (Result (q.root p) 0) (Number byte)) w
 
 -- ---- control
 abbrev pub chosen : Option Bool → Tree → Tree → List Task → ℕ → Option ℕ → List Waiting → Memory → World Held → Next
@@ -403,6 +425,7 @@ act g (PutBack register value ∷ c) p a s m w = put g.program (Device register)
 act g (Join ∷ c) p a s m w = goes c p a s m w
 act g (LoadFrom to object offset n ∷ c) p a s m w = load_from g to object offset n c p a s m w
 act g (StoreTo object offset from n ∷ c) p a s m w = store_to g object offset from n c p a s m w
+act g (Reading bytes ∷ c) p a s m w = has_read g.program (looked_up bytes (number_in m (Result (g.program.root p) 0) 2)) c p a s m w
 act g (Over ∷ c) p a s m w = Still
 
 -- ---- steps and runs

@@ -49,6 +49,11 @@ pub handler_is : (p : Program) (copies : List FnCopy) → (core_of p copies).han
 unfolding core_of
 handler_is p copies = refl
 
+-- no copy reads a table
+pub reads_none : (p : Program) (copies : List FnCopy) (c : ℕ) → (core_of p copies).reads c ≡ None
+unfolding core_of
+reads_none p copies c = refl
+
 -- ---- calls
 no_function : (h : Helper) (calls : List FnId) → list_any (is_function (callees.Helper h)) calls ≡ false
 no_function h [] = refl

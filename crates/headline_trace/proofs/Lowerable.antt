@@ -7,7 +7,8 @@ use Rattle.std.proofs.lemmas.List.{get_or-map, length-map}
 use Rattle.std.proofs.lemmas.List.Sorted.{Contains-permutation}
 use Rattle.std.proofs.lemmas.Option.{slice_get_within, get_or_from_slice_get}
 use Rattle.c_typed.specs.Nodes.{capped}
-use Rattle.c_typed.specs.Trees.{Program}
+use Rattle.c_typed.specs.Trees.{StaticTree, Program}
+use Rattle.c_typed.specs.Types.{type_bytes}
 use Rattle.c_typed.specs.Words.{start_size}
 use Rattle.call_graph.specs.declared.types.FnCopy.{FnCopy}
 use Rattle.core_code.specs.declared.code.CoreProgram.{CoreProgram}
@@ -51,6 +52,10 @@ module _ (p : Program) (copies : List FnCopy) (at : List ℕ) (paged : IsPaged p
       let within : words ≤ 2048 = paged.pages 0 (omega arith) in
       ap (λ (l : List ℕ). slice_get l 0) paged.stand ∙ ap (λ b. Some (if b then 2048 else 0)) (le-ltb 2048 words within)
 
+-- what fits a region of memory is small
+small_static : (p : Program) (s : StaticTree) → type_bytes p.sizes s.ty.ty ≤ 96 → IsSmallStatic p s
+small_static p s few = let within : type_bytes p.sizes s.ty.ty ≤ 32767 = omega (arith, few) in within
+
 pub lowerable : (p : Program) (copies : List FnCopy) (core : CoreProgram) (given made : List SymBlock) (placed : Placed) (at image : List ℕ) (content : MapContent)
     → IsTranslation p copies core given made placed at image content → IsLowerable p copies
 lowerable p copies core given made placed at image content t = record {
@@ -67,7 +72,7 @@ lowerable p copies core given made placed at image content t = record {
   few_statics = t.few;
   small_statics = λ k d lt.
       let s = is_there p.statics k lt in
-      subst (IsSmallStatic p) (sym (get_or_from_slice_get p.statics k s.0 d s.1)) (object_few p copies placed t.spread.placing k s.0 s.1);
+      subst (IsSmallStatic p) (sym (get_or_from_slice_get p.statics k s.0 d s.1)) (small_static p s.0 (object_few p copies placed t.spread.placing k s.0 s.1));
   small_copies = λ k d lt.
       let copy = is_there copies k lt in
       subst (IsSmallCopy p) (sym (get_or_from_slice_get copies k copy.0 d copy.1))

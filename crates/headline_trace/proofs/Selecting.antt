@@ -3,7 +3,7 @@ use Rattle.std.proofs.Common.{refl, sym}
 use Rattle.src_rules.proofs.Starts.{sound_runs}
 use Rattle.headline_trace.specs.Selection.{SelectionIsHad, reaches_in, level_in}
 use Rattle.headline_trace.proofs.Apart.{laid_out}
-use Rattle.headline_trace.proofs.Chosen.{block_there, routine_block, root_is, handler_is, called_is, routine_is}
+use Rattle.headline_trace.proofs.Chosen.{block_there, routine_block, root_is, handler_is, reads_none, called_is, routine_is}
 use Rattle.headline_trace.proofs.Depths.{reach_had, reach_sound, levels_had}
 use Rattle.headline_trace.proofs.Entered.{main_first, handler_user}
 use Rattle.headline_trace.proofs.Had.{bodies_had}
@@ -25,6 +25,7 @@ selection_had p copies core given made placed at passed has spread link =
       routine_there = routine_is p copies;
       handler_there = handler_user p copies has.known has.acyclic runs;
       handler = handler_is p copies;
+      no_tables = reads_none p copies;
       same_handler = sym (handler_is p copies);
       no_selects = refl;
       first = first_there p copies passed.blocks.sound passed.blocks.numbers;

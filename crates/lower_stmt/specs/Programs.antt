@@ -81,6 +81,7 @@ unfoldable pub core_of : typed.Program → List FnCopy → Program
 core_of p copies = record {
   body = λ c. body_in p copies c (slice_get copies c);
   root = λ c. root_in (slice_get copies c);
+  reads = λ c. None;
   calls = λ c d. may_call p (slice_get copies c) (slice_get copies d);
   helped = λ c op ty. may_use p copies (slice_get copies c) (int_helper op false ty);
   handler = handler_at copies;

@@ -12,6 +12,7 @@ use Rattle.lower_expr.specs.Lowering.{arguments_width}
 use Rattle.core_puts.specs.Puts.{copies, copies_if}
 use Rattle.lower_expr.specs.Rows.{called_row}
 use Rattle.lower_stmt.specs.Jumps.{outside}
+use Rattle.lower_stmt.specs.Programs.{core_of}
 use Rattle.lower_stmt.specs.Statements.{stmts_code}
 use Rattle.pic_world.specs.declared.Root.TheVariants.{Main}
 use Rattle.pic_world.specs.World.{World, arrived, is_due, world_as}
@@ -86,13 +87,18 @@ opened_far z laws c live l m k h r a (objects.Variable d n) at there alive lt =
     (bytes_clear (without_frame (number z c) m) (number z c) 0 k h (core_byte z (objects.Variable d n) at) (inl (apart_of (number z d) (number z c) far))) before)
     (bool_cases (same_copy d c))
 
+-- no copy of a program reads a table in the place of a body
+has_body : (z : Scene) (n : ℕ) → (core_in z).program.reads n ≡ None
+unfolding core_of
+has_body z n = refl
+
 -- ---- the call
 call_case : (z : Scene) (laws : SceneLaws z) (f : ℕ) (arguments : Expressions) (ty : Ty) (line : ℕ) (values : List Datum) (k : List Pending) (cp : CopyOf) (l : source.Memory) (w : World value.Byte) (c : Machine) (count : ℕ) → IsReached z.program cp → IsReached z.program (copy_of cp.root f) → (number z cp ≡ number z (copy_of cp.root f) → ⊥) → Apart z (number z (copy_of cp.root f)) k → MainsWait k
     → lowered_copy (ground_in z cp).layout f ≡ number z (copy_of cp.root f) → allowed (core_in z).program (number z cp) (number z (copy_of cp.root f)) ≡ true → arguments_width (ground_in z cp).layout 0 arguments ≡ count
     → count ≤ (core_in z).program.parameter_bytes (number z (copy_of cp.root f)) → count ≤ (core_in z).program.frame_bytes (number z (copy_of cp.root f)) → base (ground_in z cp) k + count ≤ (core_in z).program.frame_bytes (number z cp)
     → HasParameters z (copy_of cp.root f) 0 values (with_bytes (without_frame (number z (copy_of cp.root f)) c.memory) (Frame (number z (copy_of cp.root f)) 0) count (λ i. c.memory (Frame (number z cp) (base (ground_in z cp) k + i))))
     → is_due (arrived z.outside w) ≡ false → Mirrors z (state cp Calls (In (tree.Call f arguments ty line) (Passed values) ∷ k) l w) c
-    → Comes (core_in z) (Mirrors z (state (copy_of cp.root f) Past (body_of z.program f (Returns cp ∷ In (tree.Call f arguments ty line) Called ∷ k)) (with_values (fresh l (copy_of cp.root f)) (copy_of cp.root f) 0 values) (arrived z.outside w))) (6 * count + 6) 1 c
+    → Comes (core_in z) (Mirrors z (state (copy_of cp.root f) Past (body_of z.program f (Returns cp ∷ In (tree.Call f arguments ty line) Called ∷ k)) (with_values (fresh l (copy_of cp.root f)) (copy_of cp.root f) 0 values) (arrived z.outside w))) (6 * count + 12) 1 c
 unfolding active
 call_case z laws f arguments ty line values k cp l w c count reached there far apart mains lowered may wide params frame room bound due h =
     let cc' = copy_of cp.root f in
@@ -118,10 +124,10 @@ call_case z laws f arguments ty line values k cp l w c count reached there far a
     ∙ ap (λ i. todo (copies (Frame q 0) (Frame i b) count) (Todo [] (code.Call q) ∷ r)) (own_copy z cp) in
     let no = due_below z (arrived z.outside w) due in
     let ag = again_below z w in
-    comes_within (core_in z) T (6 * count + (6 + 0)) (1 + 0) (6 * count + 6) 1 c
-    (passes_then (core_in z) T n q s W no ag may far small count b (Todo [] (code.Call q) ∷ r) c.memory c (6 + 0) (1 + 0) params frame (omega arith) room
+    comes_within (core_in z) T (6 * count + (12 + 0)) (1 + 0) (6 * count + 12) 1 c
+    (passes_then (core_in z) T n q s W no ag may far small count b (Todo [] (code.Call q) ∷ r) c.memory c (12 + 0) (1 + 0) params frame (omega arith) room
     (subst (λ x. Placed (core_in z) n None x s c.memory W c) now (placed_of z (state cp Calls (In e (Passed values) ∷ k) l w) c h))
-    (λ d pd. call_then (core_in z) T n q s W no ag may far small count b r c.memory d 0 0 pd
+    (λ d pd. call_then (core_in z) T n q s W no ag may far small count b r c.memory d 0 0 (has_body z q) pd
     (λ x px.
     arrive z cc' Past (Before body ∷ k') l' w m' x
     (subst (λ y. Placed (core_in z) q None y (InCall n r ∷ s) m' W x) (ap (λ y. todo y []) (laws.bodies cc' there) ∙ todo_join (stmts_code (ground_in z cc') outside body) (code.Leave ∷ []) []) px)
@@ -147,6 +153,6 @@ pub call_goes : (z : Scene) (laws : SceneLaws z) (f : ℕ) (arguments : Expressi
     → count ≤ (core_in z).program.parameter_bytes (number z (copy_of cp.root f)) → count ≤ (core_in z).program.frame_bytes (number z (copy_of cp.root f)) → base (ground_in z cp) k + count ≤ (core_in z).program.frame_bytes (number z cp)
     → HasParameters z (copy_of cp.root f) 0 values (with_bytes (without_frame (number z (copy_of cp.root f)) c.memory) (Frame (number z (copy_of cp.root f)) 0) count (λ i. c.memory (Frame (number z cp) (base (ground_in z cp) k + i))))
     → is_due (arrived z.outside w) ≡ false → Mirrors z (state cp Calls (In (tree.Call f arguments ty line) (Passed values) ∷ k) l w) c
-    → Follow z (6 * count + 6) 1 c (call z.program (In (tree.Call f arguments ty line) (Passed values) ∷ k) cp l (arrived z.outside w))
+    → Follow z (6 * count + 12) 1 c (call z.program (In (tree.Call f arguments ty line) (Passed values) ∷ k) cp l (arrived z.outside w))
 call_goes z laws f arguments ty line values k cp l w c count reached there far apart mains lowered may wide params frame room bound due h =
-    call_when z (has_missing values) f arguments ty line values k cp l (arrived z.outside w) c (6 * count + 6) 1 (call_case z laws f arguments ty line values k cp l w c count reached there far apart mains lowered may wide params frame room bound due h)
+    call_when z (has_missing values) f arguments ty line values k cp l (arrived z.outside w) c (6 * count + 12) 1 (call_case z laws f arguments ty line values k cp l w c count reached there far apart mains lowered may wide params frame room bound due h)

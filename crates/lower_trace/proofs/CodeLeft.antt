@@ -17,7 +17,7 @@ use Rattle.call_graph.specs.declared.types.FnCopy.{FnCopy}
 use Rattle.core_code.specs.Bytes.{Held, is_private}
 use Rattle.core_code.specs.Bytes as core_bytes
 use Rattle.core_code.specs.Machine as core
-use Rattle.core_code.specs.Machine.{Task, Do as Todo, Put, PutBit, PutBack, Join, LoadFrom, StoreTo, Over, Waiting, InLoop, InCall, InHandler, loading, storing, with_bit}
+use Rattle.core_code.specs.Machine.{Task, Do as Todo, Put, PutBit, PutBack, Join, LoadFrom, StoreTo, Reading, Over, Waiting, InLoop, InCall, InHandler, loading, storing, with_bit}
 use Rattle.core_code.specs.Tree as code
 use Rattle.core_code.specs.Tree.{Tree, many}
 use Rattle.core_code.specs.declared.code.Byte.{Byte}
@@ -89,6 +89,7 @@ plain (PutBack register value ∷ c) = PutBack register value ∷ plain c
 plain (Join ∷ c) = Join ∷ plain c
 plain (LoadFrom to object offset n ∷ c) = LoadFrom to object offset n ∷ plain c
 plain (StoreTo object offset from n ∷ c) = StoreTo object offset from n ∷ plain c
+plain (Reading bytes ∷ c) = Reading bytes ∷ plain c
 plain (Over ∷ c) = Over ∷ plain c
 
 abbrev pub plain_behind : List Waiting → List Waiting

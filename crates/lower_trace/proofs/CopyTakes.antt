@@ -163,7 +163,7 @@ module _ (z : Scene) (laws : SceneLaws z) (cp : CopyOf) (k : List Pending) (l : 
   variable_case : (fault : Option Undef) (d : CopyOf) (i f : ℕ) (to : spot.Spot) (left line : ℕ) (w : World value.Byte) (c : Machine) → suc left ≤ size → IsPlaced z.program to → IsPlaced z.program (spots.Memory (Into (objects.Variable d i) f)) → OwnIf z cp q (spots.Memory (Into (objects.Variable d i) f)) → is_due (arrived z.outside w) ≡ false
       → read_fault z.program (active cp (CopyRead to (spots.Memory (Into (objects.Variable d i) f)) (suc left)) k) cp.root is_any (objects.Variable d i) f (l (objects.Variable d i) f) ≡ fault
       → Mirrors z (state cp (CopyRead to (spots.Memory (Into (objects.Variable d i) f)) (suc left)) k l w) c
-      → Follow z 60 1 c (after_taking (taken_unless fault (l (objects.Variable d i) f) (arrived z.outside w) None) (λ byte. CopyWrite to (spots.Memory (Into (objects.Variable d i) f)) byte left) cp k l line)
+      → Follow z 70 1 c (after_taking (taken_unless fault (l (objects.Variable d i) f) (arrived z.outside w) None) (λ byte. CopyWrite to (spots.Memory (Into (objects.Variable d i) f)) byte left) cp k l line)
   unfolding active
   variable_case (Some kind) d i f to left line w c part target placed own due fault_is h = tt
   variable_case None d i f to left line w c part target placed own due fault_is h =
@@ -179,7 +179,7 @@ module _ (z : Scene) (laws : SceneLaws z) (cp : CopyOf) (k : List Pending) (l : 
       let free = isolated z (cp ∷ callers k) cp.root is_any o f byte fault_is in
       let T = Mirrors z (state cp (CopyWrite to from byte left) k l V) in
       let all : done + suc left ≡ size = omega arith in
-      comes_within (core_in z) T (40 + (20 + 0)) (1 + 0) 60 1 c
+      comes_within (core_in z) T (40 + (20 + 0)) (1 + 0) 70 1 c
       (ready_then z laws cp k l around resumables p q b size through node.based room done left to from (code_after g k) T W c.memory c (20 + 0) (1 + 0) all (due_below z V due) (again_below z w) target placed (node.has to from (suc left) c.memory h.value) h.agrees h.holds
       (subst (λ y. Placed (core_in z) n None y (stack_after z g k) c.memory W c) (node.code (suc left)) (placed_of z (state cp (CopyRead to from (suc left)) k l w) c h))
       (λ y m hp hq one agrees holds py.
@@ -213,14 +213,14 @@ module _ (z : Scene) (laws : SceneLaws z) (cp : CopyOf) (k : List Pending) (l : 
       → Trails z (number z cp) (b + pointer_bytes p) u (spots.Memory (Into (objects.Fixed i) f)) done 0 m
       → Placed (core_in z) (number z cp) None (Todo [] (taken (Frame (number z cp) way) (side_of u (Frame (number z cp) (b + pointer_bytes p))) done) ∷ r) (stack_after z (ground_in z cp) k) m w c
       → ((y : Machine) → Placed (core_in z) (number z cp) None (Put (Frame (number z cp) way) (held_at (core_in z) (Static i (0 + f)) m w) ∷ r) (stack_after z (ground_in z cp) k) m (arrived (core_in z).outside (after_read (core_in z) (Static i (0 + f)) m w)) y → U y)
-      → Comes (core_in z) U 17 1 c
+      → Comes (core_in z) U 30 1 c
   unfolding is_valid is_alive breaks_isolation
   take_static (Fixed Y) i f done r U w m c due now fits there inside h pl next =
       let n = number z cp in
       let s = stack_after z (ground_in z cp) k in
       let size_is = laws.statics i there in
       let source_is : behind Y done ≡ Static i (0 + f) = sym (byte_is_so (core_byte z (objects.Fixed i) f) (behind Y done) h) in
-      comes_within (core_in z) U 3 1 17 1 c
+      comes_within (core_in z) U 3 1 30 1 c
       (read_then (core_in z) U n None s w due now (Frame n way) (Static i (0 + f)) r m c refl (lt_true (0 + f) (static_bytes (core_in z).program i) (omega arith))
       (subst (λ y. Placed (core_in z) n None (Todo [] (code.Copy (Frame n way) y) ∷ r) s m w c) source_is pl) next)
       (omega arith) (omega arith)
@@ -229,8 +229,8 @@ module _ (z : Scene) (laws : SceneLaws z) (cp : CopyOf) (k : List Pending) (l : 
       let n = number z cp in
       let s = stack_after z (ground_in z cp) k in
       let o = objects.Fixed i in
-      comes_within (core_in z) U (14 + 3) 1 17 1 c
-      (load_then (core_in z) U n None s w due now (Frame n way) (Frame n (b + pointer_bytes p)) 1 (record { object = bytes.Fixed i; offset = 0 + f }) r m c 3 1 (own_frame (core_in z).program n (b + pointer_bytes p) 2 (omega arith))
+      comes_within (core_in z) U (14 + 16) 1 30 1 c
+      (load_then (core_in z) U n None s w due now (Frame n way) (Frame n (b + pointer_bytes p)) 1 (record { object = bytes.Fixed i; offset = 0 + f }) r m c 16 1 (own_frame (core_in z).program n (b + pointer_bytes p) 2 (omega arith))
       (pointer_back z n (b + pointer_bytes p) o f m (trails_pointer z n (b + pointer_bytes p) done (Into o f) m h)) pl
       (λ y py. load_static_then (core_in z) U n None s w due now (Frame n way) i (0 + f) 0 r m y (own_frame (core_in z).program n way 1 room) (λ s' is. reach o f s' refl refl there inside is) py next))
       (omega arith) (omega arith)
@@ -238,7 +238,7 @@ module _ (z : Scene) (laws : SceneLaws z) (cp : CopyOf) (k : List Pending) (l : 
   static_case : (fault : Option Undef) (i f : ℕ) (to : spot.Spot) (left line : ℕ) (w : World value.Byte) (c : Machine) → suc left ≤ size → IsPlaced z.program to → IsPlaced z.program (spots.Memory (Into (objects.Fixed i) f)) → is_due (arrived z.outside w) ≡ false
       → read_fault z.program (active cp (CopyRead to (spots.Memory (Into (objects.Fixed i) f)) (suc left)) k) cp.root is_any (objects.Fixed i) f (l (objects.Fixed i) f) ≡ fault
       → Mirrors z (state cp (CopyRead to (spots.Memory (Into (objects.Fixed i) f)) (suc left)) k l w) c
-      → Follow z 60 1 c (after_taking (taken_unless fault (l (objects.Fixed i) f) (arrived z.outside w) (event_at z.program ReadOf (objects.Fixed i) f (l (objects.Fixed i) f))) (λ byte. CopyWrite to (spots.Memory (Into (objects.Fixed i) f)) byte left) cp k l line)
+      → Follow z 70 1 c (after_taking (taken_unless fault (l (objects.Fixed i) f) (arrived z.outside w) (event_at z.program ReadOf (objects.Fixed i) f (l (objects.Fixed i) f))) (λ byte. CopyWrite to (spots.Memory (Into (objects.Fixed i) f)) byte left) cp k l line)
   unfolding active held_at after_read
   static_case (Some kind) i f to left line w c part target placed due fault_is h = tt
   static_case None i f to left line w c part target placed due fault_is h =
@@ -256,8 +256,8 @@ module _ (z : Scene) (laws : SceneLaws z) (cp : CopyOf) (k : List Pending) (l : 
       let T = Mirrors z (state cp (CopyWrite to from byte left) k l w') in
       let all : done + suc left ≡ size = omega arith in
       let is_watched_there = laws.watched i placed.0 in
-      comes_within (core_in z) T (40 + 17) 1 60 1 c
-      (ready_then z laws cp k l around resumables p q b size through node.based room done left to from (code_after g k) T W c.memory c 17 1 all (due_below z V due) (again_below z w) target placed (node.has to from (suc left) c.memory h.value) h.agrees h.holds
+      comes_within (core_in z) T (40 + 30) 1 70 1 c
+      (ready_then z laws cp k l around resumables p q b size through node.based room done left to from (code_after g k) T W c.memory c 30 1 all (due_below z V due) (again_below z w) target placed (node.has to from (suc left) c.memory h.value) h.agrees h.holds
       (subst (λ y. Placed (core_in z) n None y (stack_after z g k) c.memory W c) (node.code (suc left)) (placed_of z (state cp (CopyRead to from (suc left)) k l w) c h))
       (λ y m hp hq one agrees holds py.
       let there_is : m (Static i (0 + f)) ≡ held z byte = set_agrees z byte (m (core_byte z o f)) ok.set (agrees o f placed.0 ok.alive ok.inside) in
@@ -285,7 +285,7 @@ module _ (z : Scene) (laws : SceneLaws z) (cp : CopyOf) (k : List Pending) (l : 
 
   -- the byte that comes next is read
   pub through_copy_read : (to : spot.Spot) (x : Pointer) (left : ℕ) (w : World value.Byte) (c : Machine) → suc left ≤ size → IsPlaced z.program to → IsPlaced z.program (spots.Memory x) → OwnIf z cp q (spots.Memory x) → is_due (arrived z.outside w) ≡ false
-      → Mirrors z (state cp (CopyRead to (spots.Memory x) (suc left)) k l w) c → Follow z 60 1 c (copy_read (source_in z) to (spots.Memory x) (suc left) k cp l (arrived z.outside w))
+      → Mirrors z (state cp (CopyRead to (spots.Memory x) (suc left)) k l w) c → Follow z 70 1 c (copy_read (source_in z) to (spots.Memory x) (suc left) k cp l (arrived z.outside w))
   unfolding take_byte
   through_copy_read to Null left w c part target placed own due h = tt
   through_copy_read to (Into (objects.Fixed i) f) left w c part target placed own due h =

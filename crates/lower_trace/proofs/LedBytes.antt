@@ -109,7 +109,7 @@ module _ (z : Scene) (given : IsLowerable z.program z.copies) (input : All (λ b
   unfolding act
   reads_through p q to (spots.Memory x) left k through b size cp l w c site known due h =
       let t = state cp (CopyRead to (spots.Memory x) (suc left)) k l w in
-      led_by z _ _ 60 1 c _ (omega arith) (omega arith)
+      led_by z _ _ 70 1 c _ (omega arith) (omega arith)
       (through_copy_read z (scene_laws z given) cp k l (around z given input t known) (resumables z t known) p q b size through site.node site.room (reaches z given input t known) (own_low z given input cp known.stands.reached) to x left w c site.part site.to_placed site.from_placed site.own_from due h)
   reads_through p q to (spots.Device a) left k through b size cp l w c site known due h = absurd site.from_object
   reads_through p q to (spots.Bit r i) left k through b size cp l w c site known due h = absurd site.from_object

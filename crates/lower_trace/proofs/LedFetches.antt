@@ -53,7 +53,7 @@ use Rattle.lower_trace.proofs.LedValues.{around_in, scalar_update}
 use Rattle.lower_trace.proofs.Mirrors.{Mirrors}
 use Rattle.lower_trace.proofs.Operations.{beyond_is}
 use Rattle.lower_trace.proofs.Pointed.{pointed_read, pointed_step, pointed_update}
-use Rattle.lower_trace.proofs.PriceTests.{either_room, one_or_none, same_room}
+use Rattle.lower_trace.proofs.PriceTests.{either_fetch, one_or_none, same_fetch}
 use Rattle.lower_trace.proofs.Reading.{lt_of}
 use Rattle.lower_trace.proofs.Rooms.{pointer_is, read_parts, update_parts}
 use Rattle.lower_trace.proofs.Scenes.{frame_is, scene_laws}
@@ -155,7 +155,7 @@ module _ (z : Scene) (given : IsLowerable z.program z.copies) (input : All (λ b
       let f = frame_is z given cp s.reached in
       let fits = known.stack.0 in
       let q = (read_parts (place_room z.program.sizes sought) (form_of sought) n).1 in
-      led_by z _ _ (either (nat_lt (length read) n) 6 3) (one_if (nat_lt (length read) n)) c _ (either_room (nat_lt (length read) n) 6 3 27 (omega arith) (omega arith)) (one_or_none (nat_lt (length read) n))
+      led_by z _ _ (either (nat_lt (length read) n) 6 3) (one_if (nat_lt (length read) n)) c _ (either_fetch (nat_lt (length read) n) 6 3 27 (omega arith) (omega arith)) (one_or_none (nat_lt (length read) n))
       (read_fetch z (scene_laws z given) cp l sought ty line start from k read w c (record { spot = is; there = st.0.1; found = st.2; one = one }) (around z given input (read_of sought ty line start read k cp l w) known)
       (width_is z cp ty (omega arith)) (omega arith) (omega arith) le are due h)
 
@@ -174,7 +174,7 @@ module _ (z : Scene) (given : IsLowerable z.program z.copies) (input : All (λ b
       let p = pointer_is (ground_in z cp).layout (ground_in z cp).copy sought in
       let two = ap pointer_bytes is in
       let a = around z given input t known in
-      led_by z _ _ (either (nat_lt (length read) n) 20 27) (one_if (nat_lt (length read) n)) c _ (either_room (nat_lt (length read) n) 20 27 27 (omega arith) (omega arith)) (one_or_none (nat_lt (length read) n))
+      led_by z _ _ (either (nat_lt (length read) n) 30 27) (one_if (nat_lt (length read) n)) c _ (either_fetch (nat_lt (length read) n) 30 27 27 (omega arith) (omega arith)) (one_or_none (nat_lt (length read) n))
       (pointed_read z (scene_laws z given) cp l sought ty line x k read w c
       (record { spot = is; there = spot_there z.program cp sought (spots.Memory x) s.reached st.0.1 st.2; some = scalar_some z.program.sizes ty scalar; few = few }) a (around_in z cp (tree.Read sought ty line) (At (spots.Memory x)) k a) (reaches z given input t known)
       (width_is z cp ty (omega arith)) (omega arith) le are due h)
@@ -190,7 +190,7 @@ module _ (z : Scene) (given : IsLowerable z.program z.copies) (input : All (λ b
       let f = frame_is z given cp s.reached in
       let fits = known.stack.0 in
       let q = (read_parts (place_room z.program.sizes sought) (form_of sought) 1).1 in
-      led_by z _ _ 6 (one_if (nat_lt (length read) 1)) c _ (same_room (nat_lt (length read) 1) 6 27 (omega arith) (omega arith)) (one_or_none (nat_lt (length read) 1)) (bit_read z (scene_laws z given) cp l sought line r n k read w c bit (around z given input t known) (omega arith) (omega arith) le are due h)
+      led_by z _ _ 6 (one_if (nat_lt (length read) 1)) c _ (same_fetch (nat_lt (length read) 1) 6 27 (omega arith) (omega arith)) (one_or_none (nat_lt (length read) 1)) (bit_read z (scene_laws z given) cp l sought line r n k read w c bit (around z given input t known) (omega arith) (omega arith) le are due h)
   read_bit r n sought _ line read k cp l w c e bit known le are due h = absurd (cc)
 
   read_in_memory : (s : place.Spot) (x : Pointer) (sought : Place) (ty : Ty) (line : ℕ) (read : List Byte) (k : List Pending) (cp : CopyOf) (l : source.Memory) (w : World Byte) (c : Machine) → found_as z cp sought ≡ s → is_scalar ty ≡ true
@@ -245,7 +245,7 @@ module _ (z : Scene) (given : IsLowerable z.program z.copies) (input : All (λ b
       let a = pointer_at z cp less (base g k) sought (omega arith) in
       let v = value_at z cp less (behind_pointer g.layout g.copy (base g k) sought) right (omega arith) in
       let wide = width_is z cp (place_type sought).ty (omega arith) ∙ same in
-      led_by z _ _ (either (nat_lt (length read) n) 6 3) (one_if (nat_lt (length read) n)) c _ (either_room (nat_lt (length read) n) 6 3 27 (omega arith) (omega arith)) (one_or_none (nat_lt (length read) n))
+      led_by z _ _ (either (nat_lt (length read) n) 6 3) (one_if (nat_lt (length read) n)) c _ (either_fetch (nat_lt (length read) n) 6 3 27 (omega arith) (omega arith)) (one_or_none (nat_lt (length read) n))
       (update_fetch z (scene_laws z given) cp l op sought right operation size ty line start u from k read w c (record { spot = is; there = st.0.1; found = st.2.0; one = one }) (around z given input t known) wide (omega arith) le are due h)
 
   update_pointed : (x : Pointer) (op : BinOp) (right : Expression) (operation : Ty) (size : ℕ) (u : Datum) (sought : Place) (ty : Ty) (line : ℕ) (read : List Byte) (k : List Pending) (cp : CopyOf) (l : source.Memory) (w : World Byte) (c : Machine) → found_as z cp sought ≡ Computed → is_scalar ty ≡ true
@@ -269,7 +269,7 @@ module _ (z : Scene) (given : IsLowerable z.program z.copies) (input : All (λ b
       let v = value_at z cp less (behind_pointer g.layout g.copy (base g k) sought) right (omega arith) in
       let wide = width_is z cp (place_type sought).ty (omega arith) ∙ same in
       let two = ap pointer_bytes is in
-      led_by z _ _ (either (nat_lt (length read) n) 20 27) (one_if (nat_lt (length read) n)) c _ (either_room (nat_lt (length read) n) 20 27 27 (omega arith) (omega arith)) (one_or_none (nat_lt (length read) n))
+      led_by z _ _ (either (nat_lt (length read) n) 30 27) (one_if (nat_lt (length read) n)) c _ (either_fetch (nat_lt (length read) n) 30 27 27 (omega arith) (omega arith)) (one_or_none (nat_lt (length read) n))
       (pointed_update z (scene_laws z given) cp l op sought right operation size ty line x u k read w c
       (record { spot = is; there = spot_there z.program cp sought (spots.Memory x) s.reached st.0.1 st.2.0; some = scalar_some z.program.sizes ty scalar; few = few }) (around z given input t known) (reaches z given input t known) wide (omega arith) (omega arith) le are due h)
 
@@ -293,7 +293,7 @@ module _ (z : Scene) (given : IsLowerable z.program z.copies) (input : All (λ b
       let a = pointer_at z cp less (base g k) sought (omega arith) in
       let v = value_at z cp less (behind_pointer g.layout g.copy (base g k) sought) right (omega arith) in
       let wide = width_is z cp (place_type sought).ty (omega arith) ∙ same in
-      led_by z _ _ 6 (one_if (nat_lt (length read) 1)) c _ (same_room (nat_lt (length read) 1) 6 27 (omega arith) (omega arith)) (one_or_none (nat_lt (length read) 1)) (bit_update z (scene_laws z given) cp l op sought right operation size line r n u k read w c bit (around z given input t known) (omega arith) le are due h)
+      led_by z _ _ 6 (one_if (nat_lt (length read) 1)) c _ (same_fetch (nat_lt (length read) 1) 6 27 (omega arith) (omega arith)) (one_or_none (nat_lt (length read) 1)) (bit_update z (scene_laws z given) cp l op sought right operation size line r n u k read w c bit (around z given input t known) (omega arith) le are due h)
   update_bit r n op right operation size u sought _ line read k cp l w c e bit known le are due h = absurd (cc)
 
   update_in_memory : (s : place.Spot) (x : Pointer) (op : BinOp) (right : Expression) (operation : Ty) (size : ℕ) (u : Datum) (sought : Place) (ty : Ty) (line : ℕ) (read : List Byte) (k : List Pending) (cp : CopyOf) (l : source.Memory) (w : World Byte) (c : Machine) → found_as z cp sought ≡ s → is_scalar ty ≡ true
@@ -353,7 +353,7 @@ module _ (z : Scene) (given : IsLowerable z.program z.copies) (input : All (λ b
       let wo = width_is z cp operation (omega arith) in
       let v = beyond_is (behind_pointer g.layout g.copy (base g k) sought) (width g.layout operation) (omega arith) in
       let wide = width_is z cp (place_type sought).ty (omega arith) ∙ same in
-      led_by z _ _ (either (nat_lt (length read) n) 6 3) (one_if (nat_lt (length read) n)) c _ (either_room (nat_lt (length read) n) 6 3 27 (omega arith) (omega arith)) (one_or_none (nat_lt (length read) n))
+      led_by z _ _ (either (nat_lt (length read) n) 6 3) (one_if (nat_lt (length read) n)) c _ (either_fetch (nat_lt (length read) n) 6 3 27 (omega arith) (omega arith)) (one_or_none (nat_lt (length read) n))
       (step_fetch z (scene_laws z given) cp l op sought operation size ty line start from k read w c (record { spot = is; there = st.0.1; found = st.2; one = one }) (around z given input t known) wide (omega arith) le are due h)
 
   step_pointed : (x : Pointer) (op : StepOp) (operation : Ty) (size : ℕ) (sought : Place) (ty : Ty) (line : ℕ) (read : List Byte) (k : List Pending) (cp : CopyOf) (l : source.Memory) (w : World Byte) (c : Machine) → found_as z cp sought ≡ Computed → is_scalar ty ≡ true
@@ -380,7 +380,7 @@ module _ (z : Scene) (given : IsLowerable z.program z.copies) (input : All (λ b
       let v = beyond_is (behind_pointer g.layout g.copy (base g k) sought) (width g.layout operation) (omega arith) in
       let wide = width_is z cp (place_type sought).ty (omega arith) ∙ same in
       let two = ap pointer_bytes is in
-      led_by z _ _ (either (nat_lt (length read) n) 20 27) (one_if (nat_lt (length read) n)) c _ (either_room (nat_lt (length read) n) 20 27 27 (omega arith) (omega arith)) (one_or_none (nat_lt (length read) n))
+      led_by z _ _ (either (nat_lt (length read) n) 30 27) (one_if (nat_lt (length read) n)) c _ (either_fetch (nat_lt (length read) n) 30 27 27 (omega arith) (omega arith)) (one_or_none (nat_lt (length read) n))
       (pointed_step z (scene_laws z given) cp l op sought operation size ty line x k read w c
       (record { spot = is; there = spot_there z.program cp sought (spots.Memory x) s.reached st.0.1 st.2; some = scalar_some z.program.sizes ty scalar; few = few }) (around z given input t known) (reaches z given input t known) wide (omega arith) (omega arith) le are due h)
 
@@ -407,7 +407,7 @@ module _ (z : Scene) (given : IsLowerable z.program z.copies) (input : All (λ b
       let wo = width_is z cp operation (omega arith) in
       let v = beyond_is (behind_pointer g.layout g.copy (base g k) sought) (width g.layout operation) (omega arith) in
       let wide = width_is z cp (place_type sought).ty (omega arith) ∙ same in
-      led_by z _ _ 6 (one_if (nat_lt (length read) 1)) c _ (same_room (nat_lt (length read) 1) 6 27 (omega arith) (omega arith)) (one_or_none (nat_lt (length read) 1)) (bit_step z (scene_laws z given) cp l op sought operation size line r n k read w c bit (around z given input t known) (omega arith) le are due h)
+      led_by z _ _ 6 (one_if (nat_lt (length read) 1)) c _ (same_fetch (nat_lt (length read) 1) 6 27 (omega arith) (omega arith)) (one_or_none (nat_lt (length read) 1)) (bit_step z (scene_laws z given) cp l op sought operation size line r n k read w c bit (around z given input t known) (omega arith) le are due h)
   step_bit r n op operation size sought _ line read k cp l w c e bit known le are due h = absurd (cc)
 
   step_in_memory : (s : place.Spot) (x : Pointer) (op : StepOp) (operation : Ty) (size : ℕ) (sought : Place) (ty : Ty) (line : ℕ) (read : List Byte) (k : List Pending) (cp : CopyOf) (l : source.Memory) (w : World Byte) (c : Machine) → found_as z cp sought ≡ s → is_scalar ty ≡ true

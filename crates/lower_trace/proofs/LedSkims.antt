@@ -28,13 +28,14 @@ use Rattle.lower_trace.specs.Lowering.{IsLowerable}
 use Rattle.lower_trace.proofs.CodeLeft.{Scene, ground_in, number, source_in}
 use Rattle.lower_trace.proofs.CopyEnds.{struct_object}
 use Rattle.lower_trace.proofs.CopyNodes.{IsObject}
+use Rattle.lower_trace.proofs.Costs.{skimmed_cost}
 use Rattle.lower_trace.proofs.Fitting.{width_is}
 use Rattle.lower_trace.proofs.Known.{Known, around, front, reaches, small}
 use Rattle.lower_trace.proofs.Leads.{Led, Law, led_by}
 use Rattle.lower_trace.proofs.LedFetches.{memory_no_bit}
 use Rattle.lower_trace.proofs.LedValues.{around_in}
 use Rattle.lower_trace.proofs.Mirrors.{Mirrors}
-use Rattle.lower_trace.proofs.PriceTests.{skim_room}
+use Rattle.lower_trace.proofs.PriceTests.{pointed_room, skim_room}
 use Rattle.lower_trace.proofs.Prices.{some_left}
 use Rattle.lower_trace.proofs.Rooms.{pointer_is, read_parts, value_room}
 use Rattle.lower_trace.proofs.Scenes.{frame_is, scene_laws}
@@ -99,7 +100,7 @@ module _ (z : Scene) (given : IsLowerable z.program z.copies) (input : All (λ b
       let p = pointer_is (ground_in z cp).layout (ground_in z cp).copy sought in
       let two = ap pointer_bytes is in
       let a = around z given input t known in
-      led_by z _ _ (20 + 6 * n) (some_left left) c _ (skim_room sizes sought (types.Struct number) line (At (spots.Memory x)) k left (20 + 6 * n) some (omega arith) (omega arith)) (omega arith)
+      led_by z _ _ (skimmed_cost n left) (some_left left) c _ (pointed_room sizes sought (types.Struct number) line (At (spots.Memory x)) k left some) (omega arith)
       (skim_pointed z (scene_laws z given) cp l sought (types.Struct number) line (spots.Memory x) k (λ r i bit. memory_no_bit z cp sought x r i st.2 bit) x done left byte w c refl is
       (spot_there z.program cp sought (spots.Memory x) s.reached st.0.1 st.2) some a (around_in z cp e (At (spots.Memory x)) k a) (reaches z given input t known) (width_is z cp (types.Struct number) (omega arith)) (omega arith) all due h)
 

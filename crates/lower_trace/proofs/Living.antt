@@ -5,7 +5,7 @@ use Rattle.c_typed.specs.declared.statement.LoopForm.{LoopForm}
 use Rattle.c_typed.specs.declared.statement.LoopForm.TheVariants.{Do as DoLoop, For, While}
 use Rattle.c_typed.specs.declared.statement.TCase.{TCase}
 use Rattle.core_code.specs.Machine as core
-use Rattle.core_code.specs.Machine.{Do as Todo, InCall, InHandler, InLoop, Join, LoadFrom, Over as Ended, Put, PutBack, PutBit, StoreTo, Task, Waiting, is_over, loading, storing, waiting}
+use Rattle.core_code.specs.Machine.{Do as Todo, InCall, InHandler, InLoop, Join, LoadFrom, Over as Ended, Put, PutBack, PutBit, Reading, StoreTo, Task, Waiting, is_over, loading, storing, waiting}
 use Rattle.core_code.specs.Bytes as core_bytes
 use Rattle.core_code.specs.Bytes.{is_private}
 use Rattle.core_code.specs.Tree.{Tree}
@@ -216,6 +216,7 @@ plain_over (PutBack register v ∷ c) = refl
 plain_over (Join ∷ c) = refl
 plain_over (LoadFrom to o offset n ∷ c) = refl
 plain_over (StoreTo o offset from n ∷ c) = refl
+plain_over (Reading bytes ∷ c) = refl
 plain_over (Ended ∷ c) = refl
 
 waiting_plain : (s : List Waiting) → waiting (plain_behind s) ≡ waiting s

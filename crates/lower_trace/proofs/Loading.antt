@@ -136,7 +136,7 @@ module _ (z : Scene) (laws : SceneLaws z) (cp : CopyOf) (k : List Pending) (l : 
   variable_case : (fault : Option Undef) (d : CopyOf) (i f : ℕ) (fits : value.Byte → Bool) (read : List value.Byte) (line : ℕ) (w : World value.Byte) (c : Machine) → length read < count → IsThere z.program (objects.Variable d i) → (read ≡ [] → HasDatum z (ground_in z cp).copy at_pointer (datum.Pointer (Into (objects.Variable d i) f)) c.memory) → is_due (arrived z.outside w) ≡ false
       → read_fault z.program (active cp (Fetch (spots.Memory (Into (objects.Variable d i) f)) read) k) cp.root fits (objects.Variable d i) f (l (objects.Variable d i) f) ≡ fault
       → Mirrors z (state cp (Fetch (spots.Memory (Into (objects.Variable d i) f)) read) k l w) c
-      → Follow z 20 1 c (after_taking (taken_unless fault (l (objects.Variable d i) f) (arrived z.outside w) None) (λ byte. Fetch (spots.Memory (Into (objects.Variable d i) (f + 1))) (read ++ byte ∷ [])) cp k l line)
+      → Follow z 30 1 c (after_taking (taken_unless fault (l (objects.Variable d i) f) (arrived z.outside w) None) (λ byte. Fetch (spots.Memory (Into (objects.Variable d i) (f + 1))) (read ++ byte ∷ [])) cp k l line)
   unfolding active
   variable_case (Some kind) d i f fits read line w c lt there has due e h = tt
   variable_case None d i f fits [] line w c lt there has due e h =
@@ -151,7 +151,7 @@ module _ (z : Scene) (laws : SceneLaws z) (cp : CopyOf) (k : List Pending) (l : 
       let zero_to : to ≡ to + 0 = omega arith in
       let zero_count : count ≡ count - 0 = omega arith in
       let vo = variable_offset z.program d.function i + f in
-      comes_within (core_in z) T (14 + (6 + 0)) (1 + 0) 20 1 c
+      comes_within (core_in z) T (14 + (6 + 0)) (1 + 0) 30 1 c
       (load_then (core_in z) T n None (stack_after z (ground_in z cp) k) W (due_below z (arrived z.outside w) due) (again_below z w) (Frame n to) (Frame n at_pointer) count (record { object = bytes.FrameOf (number z d); offset = vo }) r c.memory c (6 + 0) (1 + 0)
       (own_frame (core_in z).program n at_pointer 2 (omega arith))
       (subst (λ y. pointer_in c.memory (Frame y at_pointer) ≡ Some (record { object = bytes.FrameOf (number z d); offset = vo })) (own_copy z cp) (pointer_back z (ground_in z cp).copy at_pointer o f c.memory (has refl)))
@@ -171,7 +171,7 @@ module _ (z : Scene) (laws : SceneLaws z) (cp : CopyOf) (k : List Pending) (l : 
       let T = Mirrors z (state cp (Fetch (spots.Memory (Into o (f + 1))) (read ++ byte ∷ [])) k l (arrived z.outside w)) in
       let W = world_as (held z) (arrived z.outside w) in
       let is = set_agrees z byte (c.memory (core_byte z o f)) ok.set (h.agrees o f there ok.alive ok.inside) in
-      comes_within (core_in z) T (6 + 0) (1 + 0) 20 1 c
+      comes_within (core_in z) T (6 + 0) (1 + 0) 30 1 c
       (variable_then T d i f (length read) w c.memory c 0 0 lt there ok.alive free ok.inside due
       (subst (λ y. Placed (core_in z) n None y (stack_after z (ground_in z cp) k) c.memory W c) (code_variable d i f read (length more) refl) (placed_of z (state cp (Fetch (spots.Memory (Into o f)) read) k l w) c h))
       (λ y py. variable_arrives d i f read byte w c.memory y is h.agrees h.holds (subst (λ t. HasRead z t to read (length read) c.memory) (own_copy z cp) (reads.has (spots.Memory (Into o f)) read c.memory h.value)) py))
@@ -183,7 +183,7 @@ module _ (z : Scene) (laws : SceneLaws z) (cp : CopyOf) (k : List Pending) (l : 
       → arrived z.outside (after_read (core_in z) (Static i (0 + f)) m (world_as (held z) (arrived z.outside w))) ≡ world_as (held z) (arrived z.outside w')
       → Agrees z (cp ∷ callers k) l m → Holds z (ground_in z cp) k m → HasRead z (number z cp) to read (length read) m
       → Placed (core_in z) (number z cp) None (loading (Frame (number z cp) (to + j)) (bytes.Fixed i) (0 + f) (count - j) r) (stack_after z (ground_in z cp) k) m (world_as (held z) (arrived z.outside w)) c
-      → Comes (core_in z) (Mirrors z (state cp (Fetch (spots.Memory (Into (objects.Fixed i) (f + 1))) (read ++ byte ∷ [])) k l w')) 3 1 c
+      → Comes (core_in z) (Mirrors z (state cp (Fetch (spots.Memory (Into (objects.Fixed i) (f + 1))) (read ++ byte ∷ [])) k l w')) 16 1 c
   unfolding active is_alive breaks_isolation
   static_last T i f j read byte w w' m c count_is lt there inside due is world agrees holds has p =
       let n = number z cp in
@@ -218,7 +218,7 @@ module _ (z : Scene) (laws : SceneLaws z) (cp : CopyOf) (k : List Pending) (l : 
   static_case : (fault : Option Undef) (i f : ℕ) (fits : value.Byte → Bool) (read : List value.Byte) (line : ℕ) (w : World value.Byte) (c : Machine) → length read < count → IsThere z.program (objects.Fixed i) → (read ≡ [] → HasDatum z (ground_in z cp).copy at_pointer (datum.Pointer (Into (objects.Fixed i) f)) c.memory) → is_due (arrived z.outside w) ≡ false
       → read_fault z.program (active cp (Fetch (spots.Memory (Into (objects.Fixed i) f)) read) k) cp.root fits (objects.Fixed i) f (l (objects.Fixed i) f) ≡ fault
       → Mirrors z (state cp (Fetch (spots.Memory (Into (objects.Fixed i) f)) read) k l w) c
-      → Follow z 20 1 c (after_taking (taken_unless fault (l (objects.Fixed i) f) (arrived z.outside w) (event_at z.program ReadOf (objects.Fixed i) f (l (objects.Fixed i) f))) (λ byte. Fetch (spots.Memory (Into (objects.Fixed i) (f + 1))) (read ++ byte ∷ [])) cp k l line)
+      → Follow z 30 1 c (after_taking (taken_unless fault (l (objects.Fixed i) f) (arrived z.outside w) (event_at z.program ReadOf (objects.Fixed i) f (l (objects.Fixed i) f))) (λ byte. Fetch (spots.Memory (Into (objects.Fixed i) (f + 1))) (read ++ byte ∷ [])) cp k l line)
   unfolding active held_at after_read
   static_case (Some kind) i f fits read line w c lt there has due e h = tt
   static_case None i f fits [] line w c lt there has due e h =
@@ -234,8 +234,8 @@ module _ (z : Scene) (laws : SceneLaws z) (cp : CopyOf) (k : List Pending) (l : 
       let zero_to : to ≡ to + 0 = omega arith in
       let zero_count : count ≡ count - 0 = omega arith in
       let zero_off : 0 + f ≡ f = omega arith in
-      comes_within (core_in z) T (14 + 3) 1 20 1 c
-      (load_then (core_in z) T n None (stack_after z (ground_in z cp) k) W (due_below z V due) (again_below z w) (Frame n to) (Frame n at_pointer) count (record { object = bytes.Fixed i; offset = 0 + f }) r c.memory c 3 1
+      comes_within (core_in z) T (14 + 16) 1 30 1 c
+      (load_then (core_in z) T n None (stack_after z (ground_in z cp) k) W (due_below z V due) (again_below z w) (Frame n to) (Frame n at_pointer) count (record { object = bytes.Fixed i; offset = 0 + f }) r c.memory c 16 1
       (own_frame (core_in z).program n at_pointer 2 (omega arith))
       (subst (λ y. pointer_in c.memory (Frame y at_pointer) ≡ Some (record { object = bytes.Fixed i; offset = 0 + f })) (own_copy z cp) (pointer_back z (ground_in z cp).copy at_pointer o f c.memory (has refl)))
       (subst (λ y. Placed (core_in z) n None y (stack_after z (ground_in z cp) k) c.memory W c) (code_first (spots.Memory (Into o f))) (placed_of z (state cp (Fetch (spots.Memory (Into o f)) []) k l w) c h))
@@ -263,8 +263,8 @@ module _ (z : Scene) (laws : SceneLaws z) (cp : CopyOf) (k : List Pending) (l : 
       let last = held z (slice_index_or read j values.Unset) in
       let m' = with_byte c.memory (Frame n (to + j)) last in
       let zero_off : 0 + f ≡ f = omega arith in
-      comes_within (core_in z) T (3 + 3) 1 20 1 c
-      (put_then (core_in z) T n None (stack_after z (ground_in z cp) k) W (due_below z V due) (again_below z w) (Frame n (to + j)) last (loading (Frame n (to + suc j)) (bytes.Fixed i) (0 + f) (count - suc j) r) c.memory c 3 1 (own_frame (core_in z).program n (to + j) 1 (omega arith))
+      comes_within (core_in z) T (3 + 16) 1 30 1 c
+      (put_then (core_in z) T n None (stack_after z (ground_in z cp) k) W (due_below z V due) (again_below z w) (Frame n (to + j)) last (loading (Frame n (to + suc j)) (bytes.Fixed i) (0 + f) (count - suc j) r) c.memory c 16 1 (own_frame (core_in z).program n (to + j) 1 (omega arith))
       (subst (λ y. Placed (core_in z) n None y (stack_after z (ground_in z cp) k) c.memory W c) (code_static i f read j refl) (placed_of z (state cp (Fetch (spots.Memory (Into o f)) read) k l w) c h))
       (λ x px. static_last T i f (suc j) read byte w w' m' x refl lt there ok.inside due is
       (ap (λ y. arrived z.outside (noting_if ((core_in z).program.is_watched i) (ReadOf (cells.Static i y) (c.memory (Static i (0 + f)))) W)) zero_off
@@ -279,7 +279,7 @@ module _ (z : Scene) (laws : SceneLaws z) (cp : CopyOf) (k : List Pending) (l : 
   -- the byte that comes next, where a pointer leads
   pub fetch_pointed : (o : object.Object) (f : ℕ) (fits : value.Byte → Bool) (read : List value.Byte) (line : ℕ) (w : World value.Byte) (c : Machine) → length read < count → IsThere z.program o → (read ≡ [] → HasDatum z (ground_in z cp).copy at_pointer (datum.Pointer (Into o f)) c.memory) → is_due (arrived z.outside w) ≡ false
       → Mirrors z (state cp (Fetch (spots.Memory (Into o f)) read) k l w) c
-      → Follow z 20 1 c (after_taking (take_byte (source_in z) (active cp (Fetch (spots.Memory (Into o f)) read) k) cp.root fits (spots.Memory (Into o f)) l (arrived z.outside w)) (λ byte. Fetch (next_byte (spots.Memory (Into o f))) (read ++ byte ∷ [])) cp k l line)
+      → Follow z 30 1 c (after_taking (take_byte (source_in z) (active cp (Fetch (spots.Memory (Into o f)) read) k) cp.root fits (spots.Memory (Into o f)) l (arrived z.outside w)) (λ byte. Fetch (next_byte (spots.Memory (Into o f))) (read ++ byte ∷ [])) cp k l line)
   unfolding take_byte
   fetch_pointed (objects.Fixed i) f fits read line w c lt there has due h =
       static_case (read_fault z.program (active cp (Fetch (spots.Memory (Into (objects.Fixed i) f)) read) k) cp.root fits (objects.Fixed i) f (l (objects.Fixed i) f)) i f fits read line w c lt there has due refl h

@@ -13,7 +13,7 @@ use Rattle.src_values.specs.Counting.{counted_line, found_counts_in, found_count
 use Rattle.src_values.specs.Data.{Datum}
 use Rattle.src_values.specs.Values.{written_bytes}
 use Rattle.src_values.specs.declared.objects.CopyOf.{CopyOf}
-use Rattle.lower_trace.proofs.Prices.{step_room, eval_most, given_most_in, given_most_to, given_most_for, given_most, found_most_in, found_most_to, found_most, begin_most, past_most_for, past_most, skimmed_most, skim_most, wrote_most, copied_most, copy_most, spell_most, counted_room, blank_most, handed_most, left_most, compared_most, most_at}
+use Rattle.lower_trace.proofs.Prices.{fetch_room, step_room, eval_most, given_most_in, given_most_to, given_most_for, given_most, found_most_in, found_most_to, found_most, begin_most, past_most_for, past_most, skimmed_most, skim_most, wrote_most, copied_most, copy_most, spell_most, counted_room, blank_most, handed_most, left_most, compared_most, most_at}
 use Rattle.lower_trace.proofs.Burdens.{if_any, bulk, burden, end_burden_for, end_burden, value_burden_in, value_burden, leave_burden, call_burden, found_burden_in, place_burden_at, fetched_burden, skimmed_burden, stored_burden, copy_burden, compared_burden, load}
 use Rattle.lower_trace.proofs.PaidAccesses.{joins_owed}
 
@@ -167,7 +167,7 @@ module _ (p : Program) where
   most_owed (control.Found spot) k c f u = found_owes k c u
   most_owed (control.Run t) k c f u = let a = begin_owes t u in omega arith
   most_owed control.Past k c f u = past_owes k c u
-  most_owed (control.Fetch spot read) k c f u = let e = ap (λ b. if b then step_room else 27) (unmet (nat_lt (length read) (type_bytes p.sizes (read_type k))) (line_at k) u) in let g = ap (λ b. if b then bulk p c k else fetched_burden p c k) (unmet (nat_lt (length read) (type_bytes p.sizes (read_type k))) (line_at k) u) in let a = fetch_owes k c in omega arith
+  most_owed (control.Fetch spot read) k c f u = let e = ap (λ b. if b then fetch_room else 27) (unmet (nat_lt (length read) (type_bytes p.sizes (read_type k))) (line_at k) u) in let g = ap (λ b. if b then bulk p c k else fetched_burden p c k) (unmet (nat_lt (length read) (type_bytes p.sizes (read_type k))) (line_at k) u) in let a = fetch_owes k c in omega arith
   most_owed (control.Skim spot left byte) k c f u = let e = ap (λ j. skim_most p.sizes j k) (none_left left (line_at k) u) in let g = ap (λ j. if_any j (bulk p c k) (skimmed_burden p c k)) (none_left left (line_at k) u) in let a = skim_owes k c in omega arith
   most_owed (control.Write spot v at) k c f u = let e = ap (λ b. if b then step_room else wrote_most k) (unmet (nat_lt at (written_bytes spot v)) (line_at k) u) in let g = ap (λ b. if b then bulk p c k else stored_burden p c 28 k) (unmet (nat_lt at (written_bytes spot v)) (line_at k) u) in let a = write_owes k c in omega arith
   most_owed (control.PutBit register number v old) k c f u = absurd (some_none (line_at k) u)

@@ -28,7 +28,7 @@ use Rattle.src_values.specs.declared.objects.CopyOf.{CopyOf}
 use Rattle.lower_trace.proofs.CodeLeft.{Switched, switch_on}
 use Rattle.lower_trace.proofs.Falling.{falling, IsPartOf}
 use Rattle.lower_trace.proofs.SegmentFrames.{InSegments}
-use Rattle.lower_trace.proofs.Prices.{step_room, given_most_for, given_most, begin_most, past_most_for, past_most, skim_most, wrote_most, copy_most, spell_most, counted_room, blank_most, handed_most, left_most, most_at}
+use Rattle.lower_trace.proofs.Prices.{fetch_room, step_room, given_most_for, given_most, begin_most, past_most_for, past_most, skim_most, wrote_most, copy_most, spell_most, counted_room, blank_most, handed_most, left_most, most_at}
 use Rattle.lower_trace.proofs.Burdens.{if_any, fetched_burden, skimmed_burden, copy_burden, bulk, declarator_burden, statements_burden, end_burden, value_burden, leave_burden, call_burden, stored_burden, load}
 use Rattle.lower_trace.proofs.PaidExpressions.{Owes, Pays, bulk_end, eval_part, some_byte, met, branch_pays, eval_pays, find_pays, found_pays, take_in_pays, take_to_pays}
 use Rattle.lower_trace.proofs.PaidAccesses.{begins_counted, typed_behind, joins_owed, fetch_pays, skim_pays, items_pay, write_pays, copy_pays, spell_pays, blank_pays, turn_pays, test_pays, next_pays, arms_pay, unwound_leaves, compares_pay}
@@ -159,7 +159,7 @@ module _ (s : Setting) where
   act_pays n control.Past k c m w f st i u h = proceed_pays n k c m w st i u h
   act_pays n (control.Fetch spot read) k c m w f st i u h =
       let e = unmet (nat_lt (length read) (type_bytes s.program.sizes (read_type k))) (line_at k) u in
-      fetch_pays s n spot read k c m w f.start f.node e (let a = ap (λ b. if b then step_room else 27) e in let b = ap (λ b. if b then bulk s.program c k else fetched_burden s.program c k) e in omega arith)
+      fetch_pays s n spot read k c m w f.start f.node e (let a = ap (λ b. if b then fetch_room else 27) e in let b = ap (λ b. if b then bulk s.program c k else fetched_burden s.program c k) e in omega arith)
   act_pays n (control.Skim spot left byte) k c m w f st i u h =
       let e = none_left left (line_at k) u in
       skim_pays s n spot left byte k c m w f.start f.node e (let a = ap (λ j. skim_most s.program.sizes j k) e in let b = ap (λ j. if_any j (bulk s.program c k) (skimmed_burden s.program c k)) e in omega arith)

@@ -3,7 +3,7 @@ use Rattle.std.proofs.Common.{◌≡◌, ℕ, ◌+◌, true, false, List, [], �
 use Rattle.pic_world.specs.World.{World, arrived, is_due}
 use Rattle.core_code.specs.Bytes.{Held, Memory}
 use Rattle.core_code.specs.Cost.{step_most, step_least, task_most, least_task, cost_of, leaving, least_of}
-use Rattle.core_code.specs.Machine.{Setting, Machine, Task, Do, Put, PutBit, PutBack, Join, LoadFrom, StoreTo, Over, Waiting, core_step, core_step_at, act, operate, enter, tasks}
+use Rattle.core_code.specs.Machine.{Setting, Machine, Task, Do, Put, PutBit, PutBack, Join, LoadFrom, StoreTo, Reading, Over, Waiting, core_step, core_step_at, act, operate, enter, tasks}
 use Rattle.core_code.specs.Tree.{Tree, list_of, trees_of}
 use Rattle.lower_trace.proofs.CodeLeft.{todo, plain, plain_behind}
 
@@ -45,6 +45,7 @@ front (PutBack register value ∷ c) t r e = absurd (cc)
 front (Join ∷ c) t r e = absurd (cc)
 front (LoadFrom to object offset n ∷ c) t r e = absurd (cc)
 front (StoreTo object offset from n ∷ c) t r e = absurd (cc)
+front (Reading bytes ∷ c) t r e = absurd (cc)
 front (Over ∷ c) t r e = absurd (cc)
 
 -- a task that is no operation
@@ -66,6 +67,7 @@ other (PutBack register value ∷ c) x r o e = record { rest = c; is = ap (λ y.
 other (Join ∷ c) x r o e = record { rest = c; is = ap (λ y. y ∷ c) (ap head_or e); behind = ap tail_or e }
 other (LoadFrom to object offset n ∷ c) x r o e = record { rest = c; is = ap (λ y. y ∷ c) (ap head_or e); behind = ap tail_or e }
 other (StoreTo object offset from n ∷ c) x r o e = record { rest = c; is = ap (λ y. y ∷ c) (ap head_or e); behind = ap tail_or e }
+other (Reading bytes ∷ c) x r o e = record { rest = c; is = ap (λ y. y ∷ c) (ap head_or e); behind = ap tail_or e }
 other (Over ∷ c) x r o e = record { rest = c; is = ap (λ y. y ∷ c) (ap head_or e); behind = ap tail_or e }
 
 pub no_code : (c : List Task) → plain c ≡ [] → c ≡ []
@@ -77,6 +79,7 @@ no_code (PutBack register value ∷ c) e = absurd (cc)
 no_code (Join ∷ c) e = absurd (cc)
 no_code (LoadFrom to object offset n ∷ c) e = absurd (cc)
 no_code (StoreTo object offset from n ∷ c) e = absurd (cc)
+no_code (Reading bytes ∷ c) e = absurd (cc)
 no_code (Over ∷ c) e = absurd (cc)
 
 -- ---- operations as tasks

@@ -107,7 +107,7 @@ module _ (z : Scene) (laws : SceneLaws z) (cp : CopyOf) (k : List Pending) (l : 
       → Comes (core_in z) (Mirrors z (state cp (Value v) k' l (arrived z.outside w))) 24 0 d) where
     byte_next : (y : Pointer) (read : List value.Byte) (w : World value.Byte) (c : Machine) → y ≡ x → length read < count → is_due (arrived z.outside w) ≡ false
         → Mirrors z (state cp (Fetch (stepped (length read) (spots.Memory y)) read) k l w) c
-        → Follow z 20 1 c (after_taking (take_byte (source_in z) (active cp (Fetch (stepped (length read) (spots.Memory y)) read) k) cp.root (fits_behind ty read) (stepped (length read) (spots.Memory y)) l (arrived z.outside w)) (λ byte. Fetch (next_byte (stepped (length read) (spots.Memory y))) (read ++ byte ∷ [])) cp k l (line_at k))
+        → Follow z 30 1 c (after_taking (take_byte (source_in z) (active cp (Fetch (stepped (length read) (spots.Memory y)) read) k) cp.root (fits_behind ty read) (stepped (length read) (spots.Memory y)) l (arrived z.outside w)) (λ byte. Fetch (next_byte (stepped (length read) (spots.Memory y))) (read ++ byte ∷ [])) cp k l (line_at k))
     unfolding take_byte
     byte_next Null read w c is lt due h = tt
     byte_next (Into o f) read w c is lt due h =
@@ -123,7 +123,7 @@ module _ (z : Scene) (laws : SceneLaws z) (cp : CopyOf) (k : List Pending) (l : 
     memory_spot i (Into o f) = (Into o (f + i), refl)
 
     fetch_case : (more : Bool) (read : List value.Byte) (w : World value.Byte) (c : Machine) → nat_lt (length read) (type_bytes z.program.sizes ty) ≡ more → length read ≤ count → AreRead z.program ty [] read → is_due (arrived z.outside w) ≡ false
-        → Mirrors z (state cp (Fetch (stepped (length read) (spots.Memory x)) read) k l w) c → Follow z (either more 20 27) (one_if more) c (fetch_as ty (source_in z) (stepped (length read) (spots.Memory x)) read k cp l (arrived z.outside w))
+        → Mirrors z (state cp (Fetch (stepped (length read) (spots.Memory x)) read) k l w) c → Follow z (either more 30 27) (one_if more) c (fetch_as ty (source_in z) (stepped (length read) (spots.Memory x)) read k cp l (arrived z.outside w))
     unfolding active
     fetch_case true read w c lt le are due h =
         let less : length read < count = let q = lt_of (length read) (type_bytes z.program.sizes ty) lt in omega arith in
@@ -142,15 +142,15 @@ module _ (z : Scene) (laws : SceneLaws z) (cp : CopyOf) (k : List Pending) (l : 
         (omega arith) (omega arith))
 
     pub pointed_fetched : (read : List value.Byte) (w : World value.Byte) (c : Machine) → length read ≤ count → AreRead z.program ty [] read → is_due (arrived z.outside w) ≡ false
-        → Mirrors z (state cp (Fetch (stepped (length read) (spots.Memory x)) read) k l w) c → Follow z (either (nat_lt (length read) (type_bytes z.program.sizes ty)) 20 27) (one_if (nat_lt (length read) (type_bytes z.program.sizes ty))) c (fetch (source_in z) (stepped (length read) (spots.Memory x)) read k cp l (arrived z.outside w))
+        → Mirrors z (state cp (Fetch (stepped (length read) (spots.Memory x)) read) k l w) c → Follow z (either (nat_lt (length read) (type_bytes z.program.sizes ty)) 30 27) (one_if (nat_lt (length read) (type_bytes z.program.sizes ty))) c (fetch (source_in z) (stepped (length read) (spots.Memory x)) read k cp l (arrived z.outside w))
     pointed_fetched read w c le are due h =
-        subst (λ t. Follow z (either (nat_lt (length read) (type_bytes z.program.sizes ty)) 20 27) (one_if (nat_lt (length read) (type_bytes z.program.sizes ty))) c (fetch_as t (source_in z) (stepped (length read) (spots.Memory x)) read k cp l (arrived z.outside w))) (sym type_is)
+        subst (λ t. Follow z (either (nat_lt (length read) (type_bytes z.program.sizes ty)) 30 27) (one_if (nat_lt (length read) (type_bytes z.program.sizes ty))) c (fetch_as t (source_in z) (stepped (length read) (spots.Memory x)) read k cp l (arrived z.outside w))) (sym type_is)
         (fetch_case (nat_lt (length read) (type_bytes z.program.sizes ty)) read w c refl le are due h)
 
     -- the same within one bound
     pub pointed_fetch : (read : List value.Byte) (w : World value.Byte) (c : Machine) → length read ≤ count → AreRead z.program ty [] read → is_due (arrived z.outside w) ≡ false
-        → Mirrors z (state cp (Fetch (stepped (length read) (spots.Memory x)) read) k l w) c → Follow z 27 0 c (fetch (source_in z) (stepped (length read) (spots.Memory x)) read k cp l (arrived z.outside w))
-    pointed_fetch read w c le are due h = follow_within z (either (nat_lt (length read) (type_bytes z.program.sizes ty)) 20 27) (one_if (nat_lt (length read) (type_bytes z.program.sizes ty))) 27 0 c _ (pointed_fetched read w c le are due h) (either_within (nat_lt (length read) (type_bytes z.program.sizes ty)) 20 27 27 (omega arith) (omega arith)) (omega arith)
+        → Mirrors z (state cp (Fetch (stepped (length read) (spots.Memory x)) read) k l w) c → Follow z 30 0 c (fetch (source_in z) (stepped (length read) (spots.Memory x)) read k cp l (arrived z.outside w))
+    pointed_fetch read w c le are due h = follow_within z (either (nat_lt (length read) (type_bytes z.program.sizes ty)) 30 27) (one_if (nat_lt (length read) (type_bytes z.program.sizes ty))) 30 0 c _ (pointed_fetched read w c le are due h) (either_within (nat_lt (length read) (type_bytes z.program.sizes ty)) 30 27 30 (omega arith) (omega arith)) (omega arith)
 
 -- What a node needs that reads or writes a computed place of so many bytes.
 pub record PointedPlace (z : Scene) (cp : CopyOf) (sought : Place) (x : Pointer) (count : ℕ) : Type 0 where
@@ -167,7 +167,7 @@ module _ (z : Scene) (laws : SceneLaws z) (cp : CopyOf) (l : source.Memory) wher
   pub pointed_read : (sought : Place) (ty : Ty) (line : ℕ) (x : Pointer) (k : List Pending) (read : List value.Byte) (w : World value.Byte) (c : Machine) → PointedPlace z cp sought x (type_bytes z.program.sizes ty) → Around z cp (In (tree.Read sought ty line) (At (spots.Memory x)) ∷ k) → Around z cp k → ReachesAll z cp (In (tree.Read sought ty line) (At (spots.Memory x)) ∷ k)
       → width (ground_in z cp).layout ty ≡ type_bytes z.program.sizes ty → base (ground_in z cp) k + 2 + type_bytes z.program.sizes ty ≤ (core_in z).program.frame_bytes (number z cp) → length read ≤ type_bytes z.program.sizes ty → AreRead z.program ty [] read → is_due (arrived z.outside w) ≡ false
       → Mirrors z (state cp (Fetch (stepped (length read) (spots.Memory x)) read) (In (tree.Read sought ty line) (At (spots.Memory x)) ∷ k) l w) c
-      → Follow z (either (nat_lt (length read) (type_bytes z.program.sizes ty)) 20 27) (one_if (nat_lt (length read) (type_bytes z.program.sizes ty))) c (fetch (source_in z) (stepped (length read) (spots.Memory x)) read (In (tree.Read sought ty line) (At (spots.Memory x)) ∷ k) cp l (arrived z.outside w))
+      → Follow z (either (nat_lt (length read) (type_bytes z.program.sizes ty)) 30 27) (one_if (nat_lt (length read) (type_bytes z.program.sizes ty))) c (fetch (source_in z) (stepped (length read) (spots.Memory x)) read (In (tree.Read sought ty line) (At (spots.Memory x)) ∷ k) cp l (arrived z.outside w))
   unfolding active
   pointed_read sought ty line x k read w c p around below reach wide room le are due h =
       let g = ground_in z cp in
@@ -209,7 +209,7 @@ module _ (z : Scene) (laws : SceneLaws z) (cp : CopyOf) (l : source.Memory) wher
       → place_width (ground_in z cp).layout sought ≡ type_bytes z.program.sizes ty → base (ground_in z cp) k + 2 ≤ above (ground_in z cp) (base (ground_in z cp) k) (tree.Update op sought right operation size ty line) (AtWith (spots.Memory x) u)
       → above (ground_in z cp) (base (ground_in z cp) k) (tree.Update op sought right operation size ty line) (AtWith (spots.Memory x) u) + type_bytes z.program.sizes ty ≤ (core_in z).program.frame_bytes (number z cp) → length read ≤ type_bytes z.program.sizes ty → AreRead z.program ty [] read → is_due (arrived z.outside w) ≡ false
       → Mirrors z (state cp (Fetch (stepped (length read) (spots.Memory x)) read) (In (tree.Update op sought right operation size ty line) (AtWith (spots.Memory x) u) ∷ k) l w) c
-      → Follow z (either (nat_lt (length read) (type_bytes z.program.sizes ty)) 20 27) (one_if (nat_lt (length read) (type_bytes z.program.sizes ty))) c (fetch (source_in z) (stepped (length read) (spots.Memory x)) read (In (tree.Update op sought right operation size ty line) (AtWith (spots.Memory x) u) ∷ k) cp l (arrived z.outside w))
+      → Follow z (either (nat_lt (length read) (type_bytes z.program.sizes ty)) 30 27) (one_if (nat_lt (length read) (type_bytes z.program.sizes ty))) c (fetch (source_in z) (stepped (length read) (spots.Memory x)) read (In (tree.Update op sought right operation size ty line) (AtWith (spots.Memory x) u) ∷ k) cp l (arrived z.outside w))
   unfolding active
   pointed_update op sought right operation size ty line x u k read w c p around reach wide high room le are due h =
       let g = ground_in z cp in
@@ -236,7 +236,7 @@ module _ (z : Scene) (laws : SceneLaws z) (cp : CopyOf) (l : source.Memory) wher
       → place_width (ground_in z cp).layout sought ≡ type_bytes z.program.sizes ty → base (ground_in z cp) k + 2 ≤ above (ground_in z cp) (base (ground_in z cp) k) (tree.Step op sought operation size ty line) (At (spots.Memory x))
       → above (ground_in z cp) (base (ground_in z cp) k) (tree.Step op sought operation size ty line) (At (spots.Memory x)) + type_bytes z.program.sizes ty ≤ (core_in z).program.frame_bytes (number z cp) → length read ≤ type_bytes z.program.sizes ty → AreRead z.program ty [] read → is_due (arrived z.outside w) ≡ false
       → Mirrors z (state cp (Fetch (stepped (length read) (spots.Memory x)) read) (In (tree.Step op sought operation size ty line) (At (spots.Memory x)) ∷ k) l w) c
-      → Follow z (either (nat_lt (length read) (type_bytes z.program.sizes ty)) 20 27) (one_if (nat_lt (length read) (type_bytes z.program.sizes ty))) c (fetch (source_in z) (stepped (length read) (spots.Memory x)) read (In (tree.Step op sought operation size ty line) (At (spots.Memory x)) ∷ k) cp l (arrived z.outside w))
+      → Follow z (either (nat_lt (length read) (type_bytes z.program.sizes ty)) 30 27) (one_if (nat_lt (length read) (type_bytes z.program.sizes ty))) c (fetch (source_in z) (stepped (length read) (spots.Memory x)) read (In (tree.Step op sought operation size ty line) (At (spots.Memory x)) ∷ k) cp l (arrived z.outside w))
   unfolding active
   pointed_step op sought operation size ty line x k read w c p around reach wide high room le are due h =
       let g = ground_in z cp in

@@ -69,7 +69,7 @@ module _ (g : Setting) (T : Machine → Type 0) (n : ℕ) (a : Option ℕ) (s : 
 
   -- a byte of a static object is read, which is an event, and is written next
   pub load_static_then : (to : Byte) (i offset left : ℕ) (r : List Task) (m : Memory) (c : Machine) → is_own g.program n to 1 ≡ true → ((s' : List Waiting) → plain_behind s' ≡ s → is_reached g.program n s' (Fixed i) offset ≡ true)
-      → Placed g n a (LoadFrom to (Fixed i) offset (suc left) ∷ r) s m w c → ((d : Machine) → Placed g n a (Put to (held_at g (Static i offset) m w) ∷ loading (behind to 1) (Fixed i) (offset + 1) left r) s m (arrived g.outside (after_read g (Static i offset) m w)) d → T d) → Comes g T 3 1 c
+      → Placed g n a (LoadFrom to (Fixed i) offset (suc left) ∷ r) s m w c → ((d : Machine) → Placed g n a (Put to (held_at g (Static i offset) m w) ∷ loading (behind to 1) (Fixed i) (offset + 1) left r) s m (arrived g.outside (after_read g (Static i offset) m w)) d → T d) → Comes g T 16 1 c
   unfolding act
   load_static_then to i offset left r m c own reached p next =
       let x = LoadFrom to (Fixed i) offset (suc left) in
@@ -79,8 +79,8 @@ module _ (g : Setting) (T : Machine → Type 0) (n : ℕ) (a : Option ℕ) (s : 
       let positive : one_if (nat_lt 0 (suc left)) ≡ 1 = ap one_if (lt_true 0 (suc left) (omega arith)) in
       let el : step_least g c ≡ one_if (nat_lt 0 (suc left)) = least_does g n a (x ∷ r) s m w c p x r f due in
       let there = reached c.stack p.stack in
-      comes_within g T (3 + 0) (1 + 0) 3 1 c
-      (comes_first g T 0 0 3 1 c d
+      comes_within g T (16 + 0) (1 + 0) 16 1 c
+      (comes_first g T 0 0 16 1 c d
       (does g n a (x ∷ r) s m w c p x r f due ∙ rw (own, there) refl)
       (omega arith) (omega arith)
       (comes_here g T d (next d (record { copy = refl; passing = refl; code = ap (λ y. Put to (held_at g (Static i offset) m w) ∷ y) (plain_loading (behind to 1) (Fixed i) (offset + 1) left f.rest ∙ ap (loading (behind to 1) (Fixed i) (offset + 1) left) f.behind); stack = p.stack; memory = refl; world = refl }))))

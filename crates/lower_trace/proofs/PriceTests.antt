@@ -16,15 +16,24 @@ use Rattle.src_values.specs.Values.{byte_count, written_bytes}
 use Rattle.src_values.specs.declared.objects.Pointer.TheVariants.{Null, Into}
 use Rattle.src_values.specs.declared.objects.Spot.{Spot}
 use Rattle.src_values.specs.declared.objects.Spot.TheVariants as spots
-use Rattle.lower_trace.proofs.Costs.{either}
+use Rattle.lower_trace.proofs.Costs.{either, skimmed_cost}
 use Rattle.lower_trace.proofs.ListBytes as blank
-use Rattle.lower_trace.proofs.Prices.{counted_room, compared_most, skim_end, skim_most, some_line, step_room}
+use Rattle.lower_trace.proofs.Prices.{fetch_room, counted_room, compared_most, skim_end, skim_most, some_line, step_room}
 use Rattle.lower_trace.proofs.SwitchCases.{compare_most}
 
 -- ---- one byte more, or all are done
 pub either_room : (b : Bool) (more done rest : ℕ) → more ≤ step_room → done ≤ rest → either b more done ≤ (if b then step_room else rest)
 either_room true more done rest a b = a
 either_room false more done rest a b = b
+
+-- of the read of a value's byte
+pub either_fetch : (b : Bool) (more done rest : ℕ) → more ≤ fetch_room → done ≤ rest → either b more done ≤ (if b then fetch_room else rest)
+either_fetch true more done rest a b = a
+either_fetch false more done rest a b = b
+
+pub same_fetch : (b : Bool) (q rest : ℕ) → q ≤ fetch_room → q ≤ rest → q ≤ (if b then fetch_room else rest)
+same_fetch true q rest a b = a
+same_fetch false q rest a b = b
 
 pub same_room : (b : Bool) (q rest : ℕ) → q ≤ step_room → q ≤ rest → q ≤ (if b then step_room else rest)
 same_room true q rest a b = a
@@ -119,3 +128,7 @@ end_room sizes place bytes q some low = subst (λ b. q ≤ (if b then computed_w
 pub skim_room : (sizes : List ℕ) (place : Place) (ty : Ty) (line : ℕ) (got : Got) (k : List Pending) (left q : ℕ) → 0 < type_bytes sizes ty → q ≤ 20 + 6 * type_bytes sizes ty → q ≤ step_room → q ≤ skim_most sizes left (In (tree.Read place ty line) got ∷ k)
 skim_room sizes place ty line got k zero q some low all = end_room sizes place (type_bytes sizes ty) q some low
 skim_room sizes place ty line got k (suc left) q some low all = all
+
+pub pointed_room : (sizes : List ℕ) (place : Place) (ty : Ty) (line : ℕ) (got : Got) (k : List Pending) (left : ℕ) → 0 < type_bytes sizes ty → skimmed_cost (type_bytes sizes ty) left ≤ skim_most sizes left (In (tree.Read place ty line) got ∷ k)
+pointed_room sizes place ty line got k zero some = end_room sizes place (type_bytes sizes ty) (20 + 6 * type_bytes sizes ty) some (omega arith)
+pointed_room sizes place ty line got k (suc left) some = omega arith

@@ -1,5 +1,5 @@
--- What byte code costs behind a micro-step, at most and at least, by the focus and what waits. A step that counts may cost `step_room`; of one that
--- doesn't count the bound is that of its node.
+-- What byte code costs behind a micro-step, at most and at least, by the focus and what waits. A step that counts may cost `step_room`, but where a
+-- finer bound is given; of one that doesn't count the bound is that of its node.
 use Rattle.std.specs.Prelude.{ℕ, zero, suc, ◌+◌, ◌-◌, ◌*◌, nat_eq, nat_lt, if◌then◌else◌, List, [], ◌∷◌, length, Option, Some, None}
 use Rattle.c_ints.specs.Range.{bytes_of}
 use Rattle.c_typed.specs.Trees as tree
@@ -21,6 +21,10 @@ use Rattle.lower_trace.proofs.Falling.{falling}
 -- what a step that counts may cost beside what came before it
 abbrev pub step_room : ℕ
 step_room = 2250
+
+-- what the read of one byte of a value may cost, which counts
+abbrev pub fetch_room : ℕ
+fetch_room = 30
 
 -- A call begins a body, which is paid for beside it.
 abbrev pub call_room : ℕ
@@ -107,6 +111,7 @@ abbrev pub begin_most : Statement → ℕ
 begin_most (tree.Declare local line) = 0
 begin_most (tree.InitScalar local e line) = 0
 begin_most (tree.InitList local all line) = 0
+begin_most (tree.Return (Some e) line) = 0
 begin_most _ = step_room
 
 -- what follows a statement
@@ -184,7 +189,7 @@ most_at p (control.Holds v) k = given_most p.sizes k
 most_at p (control.Found spot) k = found_most k
 most_at p (control.Run t) k = begin_most t
 most_at p control.Past k = past_most k
-most_at p (control.Fetch spot read) k = if nat_lt (length read) (type_bytes p.sizes (read_type k)) then step_room else 27
+most_at p (control.Fetch spot read) k = if nat_lt (length read) (type_bytes p.sizes (read_type k)) then fetch_room else 27
 most_at p (control.Skim spot left byte) k = skim_most p.sizes left k
 most_at p (control.Write spot v at) k = if nat_lt at (written_bytes spot v) then step_room else wrote_most k
 most_at p (control.PutBit register number v old) k = step_room

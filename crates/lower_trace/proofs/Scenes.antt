@@ -209,13 +209,13 @@ module _ (z : Scene) (given : IsLowerable z.program z.copies) where
       mapped_twice (y ∷ xs) zero x e = ap (λ s. map first_held (firsts.static_bytes p.sizes s)) (same_Some y x e)
       mapped_twice (y ∷ xs) (suc i) x e = mapped_twice xs i x e
 
-  pub static_small : (n : ℕ) → n < length p.statics → object_bytes p (objects.Fixed n) ≤ 96
+  pub static_small : (n : ℕ) → n < length p.statics → object_bytes p (objects.Fixed n) ≤ 32767
   unfolding object_bytes
   static_small n lt =
       let s = element_there p.statics n lt in
       let a = given.small_statics n s.0 lt in
       let b : slice_index_or p.statics n s.0 ≡ s.0 = static_at p.statics n s.0 s.0 s.1 in
-      let c : type_bytes p.sizes s.0.ty.ty ≤ 96 = subst (λ (x : StaticTree). type_bytes p.sizes x.ty.ty ≤ 96) b a in
+      let c : type_bytes p.sizes s.0.ty.ty ≤ 32767 = subst (λ (x : StaticTree). type_bytes p.sizes x.ty.ty ≤ 32767) b a in
       let d = ap (bytes_of_static p.sizes) s.1 in
       omega (arith, c, d)
 

@@ -18,6 +18,7 @@ use Rattle.lower_trace.proofs.Beginnings.{Follow}
 use Rattle.lower_trace.proofs.Changing.{agrees_above, holds_above}
 use Rattle.lower_trace.proofs.CodeLeft.{Scene, above, base, code_after, copies_from, core_in, ground_in, held, is_fixed, kept_value, number, putting, putting_if, reading, reading_at, skimmed, source_in, stack_after, todo, unset_bytes}
 use Rattle.lower_trace.proofs.Constants.{again_below, due_below, same_below}
+use Rattle.lower_trace.proofs.Costs.{skimmed_cost}
 use Rattle.lower_trace.proofs.Fetching.{fixed_done, more_length, more_there, putting_last}
 use Rattle.lower_trace.proofs.FixedFetches.{FixedPlace, follow_within}
 use Rattle.lower_trace.proofs.FixedPlaces.{own_spot}
@@ -241,14 +242,14 @@ module _ (z : Scene) (laws : SceneLaws z) (cp : CopyOf) (l : source.Memory) (sou
       (subst (λ i. Mirrors z (state cp (Fetch (stepped i start) x.read) f l w) c) (sym done_is) x.stands)))
 
   -- ---- a place that a pointer leads to
-  null_skim : (left : ℕ) (byte : Option value.Byte) (w : World value.Byte) (c : Machine) → Follow z (20 + 6 * type_bytes z.program.sizes ty) 1 c (skim (source_in z) (spots.Memory Null) (suc left) byte (In (tree.Read sought ty line) (At start) ∷ k) cp l (arrived z.outside w))
+  null_skim : (left : ℕ) (byte : Option value.Byte) (w : World value.Byte) (c : Machine) → Follow z 30 1 c (skim (source_in z) (spots.Memory Null) (suc left) byte (In (tree.Read sought ty line) (At start) ∷ k) cp l (arrived z.outside w))
   unfolding take_byte
   null_skim left byte w c = tt
 
   pub skim_pointed : (x : Pointer) (done left : ℕ) (byte : Option value.Byte) (w : World value.Byte) (c : Machine) → start ≡ spots.Memory x → spot_of (ground_in z cp).layout (ground_in z cp).copy sought ≡ Computed → SpotIsThere z.program (spots.Memory x) → 0 < type_bytes z.program.sizes ty → Around z cp (In (tree.Read sought ty line) (At start) ∷ k) → Around z cp k → ReachesAll z cp (In (tree.Read sought ty line) (At start) ∷ k)
       → width (ground_in z cp).layout ty ≡ type_bytes z.program.sizes ty → base (ground_in z cp) k + 2 + type_bytes z.program.sizes ty ≤ (core_in z).program.frame_bytes (number z cp) → done + left ≡ type_bytes z.program.sizes ty → is_due (arrived z.outside w) ≡ false
       → Mirrors z (state cp (Skim (stepped done (spots.Memory x)) left byte) (In (tree.Read sought ty line) (At start) ∷ k) l w) c
-      → Follow z (20 + 6 * type_bytes z.program.sizes ty) (some_left left) c (skim (source_in z) (stepped done (spots.Memory x)) left byte (In (tree.Read sought ty line) (At start) ∷ k) cp l (arrived z.outside w))
+      → Follow z (skimmed_cost (type_bytes z.program.sizes ty) left) (some_left left) c (skim (source_in z) (stepped done (spots.Memory x)) left byte (In (tree.Read sought ty line) (At start) ∷ k) cp l (arrived z.outside w))
   unfolding active
   skim_pointed x done zero byte w c same computed there some around below reach wide room all due h =
       let g = ground_in z cp in
@@ -300,12 +301,7 @@ module _ (z : Scene) (laws : SceneLaws z) (cp : CopyOf) (l : source.Memory) (sou
       let to = above g b e (At start) in
       let to_is : to ≡ b + 2 = ap (λ t. beyond b (pointer_bytes t)) computed ∙ beyond_is b 2 (omega arith) in
       let pointer : HasDatum z g.copy b (datum.Pointer (Into o i)) c.memory = pointer_at z g.copy b (Into o i) c.memory (subst (λ t. IsAt z g.copy b Computed t c.memory) same (subst (λ t. IsAt z g.copy b t start c.memory) computed h.holds.0)) in
-      comes_pointed (take_byte (source_in z) (active cp (Skim at (suc left) byte) f) cp.root is_any at l (arrived z.outside w)) done o i left c
-      (skim_next at (next_byte at) left y.read (take_byte (source_in z) (active cp (Skim at (suc left) byte) f) cp.root is_any at l (arrived z.outside w)) w c 20 1 count_is
+      skim_next at (next_byte at) left y.read (take_byte (source_in z) (active cp (Skim at (suc left) byte) f) cp.root is_any at l (arrived z.outside w)) w c 30 1 count_is
       (fetch_pointed z laws cp f l to (width g.layout ty) b (code_after g f) (reads_read z g sought ty line start k Computed computed) around (omega arith) (omega arith) reach o (i + done) is_any y.read (line_at f) w c (omega arith) there
       (λ none. let n : 0 ≡ done = let q = ap length none in omega arith in let q : i ≡ i + 0 = omega arith in subst (λ t. HasDatum z g.copy b (datum.Pointer (Into o t)) c.memory) (q ∙ ap (λ t. i + t) n) pointer)
-      due y.stands))
-    where
-      comes_pointed : (t : Taking) (done : ℕ) (o : object.Object) (i left : ℕ) (c : Machine) → Follow z 20 1 c (after_taking t (λ y. Skim (next_byte (stepped done (spots.Memory (Into o i)))) left (Some y)) cp (In (tree.Read sought ty line) (At start) ∷ k) l (line_at (In (tree.Read sought ty line) (At start) ∷ k)))
-          → Follow z (20 + 6 * type_bytes z.program.sizes ty) 1 c (after_taking t (λ y. Skim (next_byte (stepped done (spots.Memory (Into o i)))) left (Some y)) cp (In (tree.Read sought ty line) (At start) ∷ k) l (line_at (In (tree.Read sought ty line) (At start) ∷ k)))
-      comes_pointed t done o i left c m = follow_within z 20 1 (20 + 6 * type_bytes z.program.sizes ty) 1 c _ m (omega arith) (omega arith)
+      due y.stands)

@@ -33,7 +33,7 @@ use Rattle.lower_trace.proofs.Fitting.{StackFits}
 use Rattle.lower_trace.proofs.Known.{small}
 use Rattle.lower_trace.proofs.LedCalls.{scalar_few}
 use Rattle.lower_trace.proofs.LedValues.{int_some}
-use Rattle.lower_trace.proofs.Prices.{step_room, eval_most, given_most_in, given_most_for, given_most, turned_most, turn_most, found_most_in, found_most, begin_most, past_most_for, past_most, skim_end, skimmed_most, skim_most, wrote_most, copied_most, copy_most, spell_most, counted_room, blank_most, handed_most, left_most, compared_most, most_at}
+use Rattle.lower_trace.proofs.Prices.{step_room, fetch_room, eval_most, given_most_in, given_most_for, given_most, turned_most, turn_most, found_most_in, found_most, begin_most, past_most_for, past_most, skim_end, skimmed_most, skim_most, wrote_most, copied_most, copy_most, spell_most, counted_room, blank_most, handed_most, left_most, compared_most, most_at}
 use Rattle.lower_trace.proofs.Rooms.{three_parts, value_room}
 
 -- The chain of an `if` that is under way has no more arms than a page has room for.
@@ -98,6 +98,10 @@ met_or_not : (b : Bool) (most : ℕ) → most ≤ 600 → (if b then step_room e
 met_or_not true most le = omega arith
 met_or_not false most le = omega arith
 
+fetch_few : (b : Bool) (most : ℕ) → 30 ≤ most → (if b then fetch_room else 27) ≤ most
+fetch_few true most le = le
+fetch_few false most le = omega arith
+
 wrote_few : (k : List Pending) → wrote_most k ≤ 28
 wrote_few (In e got ∷ k) = omega arith
 wrote_few _ = omega arith
@@ -106,6 +110,8 @@ begin_few : (t : Statement) → begin_most t ≤ step_room
 begin_few (tree.Declare local line) = omega arith
 begin_few (tree.InitScalar local e line) = omega arith
 begin_few (tree.InitList local all line) = omega arith
+begin_few (tree.Return None line) = omega arith
+begin_few (tree.Return (Some e) line) = omega arith
 begin_few _ = omega arith
 
 begin_free : (t : Statement) → statement_counts t ≡ None → begin_most t ≤ 600
@@ -351,7 +357,7 @@ module _ (z : Scene) (given : IsLowerable z.program z.copies) (input : All (λ b
   free_few (control.Found spot) k c r f st fits few u = found_free p k f.0 f.1 u
   free_few (control.Run t) k c r f st fits few u = begin_free t u
   free_few control.Past k c r f st fits few u = past_free p c k few u
-  free_few (control.Fetch spot read) k c r f st fits few u = met (nat_lt (length read) (type_bytes p.sizes (read_type k))) (line_at k) 27 (omega arith) u
+  free_few (control.Fetch spot read) k c r f st fits few u = fetch_few (nat_lt (length read) (type_bytes p.sizes (read_type k))) 600 (omega arith)
   free_few (control.Skim spot left byte) k c r f st fits few u = skim_free left (line_at k) k c r st fits u
   free_few (control.Write spot v at) k c r f st fits few u = let w = wrote_few k in met (nat_lt at (written_bytes spot v)) (line_at k) (wrote_most k) (omega arith) u
   free_few (control.PutBit register number v old) k c r f st fits few u = absurd (some_none (line_at k) u)
@@ -372,7 +378,7 @@ module _ (z : Scene) (given : IsLowerable z.program z.copies) (input : All (λ b
   counted_few (control.Found spot) k c r st fits u = found_few k
   counted_few (control.Run t) k c r st fits u = begin_few t
   counted_few control.Past k c r st fits u = past_few p c k u
-  counted_few (control.Fetch spot read) k c r st fits u = met_or_not (nat_lt (length read) (type_bytes p.sizes (read_type k))) 27 (omega arith)
+  counted_few (control.Fetch spot read) k c r st fits u = fetch_few (nat_lt (length read) (type_bytes p.sizes (read_type k))) step_room (omega arith)
   counted_few (control.Skim spot left byte) k c r st fits u = skim_few left (line_at k) k u
   counted_few (control.Write spot v at) k c r st fits u = let w = wrote_few k in met_or_not (nat_lt at (written_bytes spot v)) (wrote_most k) (omega arith)
   counted_few (control.PutBit register number v old) k c r st fits u = omega arith

@@ -71,8 +71,9 @@ held_as p copies (bytes.Number n) = Number n
 held_as p copies (bytes.Part object offset high) = Part (object_as copies object) (offset_as p object + offset) high
 
 -- ---- what is given
+-- how far apart two pointers into an object are is an int
 abbrev pub IsSmallStatic : Program → StaticTree → Type 0
-IsSmallStatic p s = type_bytes p.sizes s.ty.ty ≤ 96
+IsSmallStatic p s = type_bytes p.sizes s.ty.ty ≤ 32767
 
 pub record IsSmallCopy (p : Program) (copy : FnCopy) : Type 0 where
   pub frame : frame_bytes p copy.function ≤ 96

@@ -49,6 +49,7 @@ module _ (x : Narrowing) where
   over_same (ToJoin ∷ js) = refl
   over_same (ToLoad to object offset n ∷ js) = refl
   over_same (ToStore object offset from n ∷ js) = refl
+  over_same (relation.ToRead bytes ∷ js) = refl
   over_same (relation.ToEnd ∷ js) = refl
 
   pub callers_same : (s : List Hold) → callers (one_stack s) ≡ callers (other_stack s)

@@ -6,20 +6,22 @@ use Rattle.pic_world.specs.World.{World, noted, left, entered, Ended}
 use Rattle.pic_world.specs.declared.Root.{Root}
 use Rattle.pic_world.specs.declared.Root.TheVariants.{Main, Isr}
 use Rattle.core_code.specs.Bytes as bytes
-use Rattle.core_code.specs.Bytes.{Held, Memory, Place, behind, without_frame}
+use Rattle.core_code.specs.Bytes.{Held, Memory, Place, behind, with_byte, without_frame}
 use Rattle.core_code.specs.Machine as task
-use Rattle.core_code.specs.Machine.{Task, Waiting, Next, Goes, Stuck, Still, goes, when, is_own, may_call, opened, begins, call, exit, again, leave, at_end, chosen, may_interrupt, enter}
+use Rattle.core_code.specs.Machine.{Task, Waiting, Next, Goes, Stuck, Still, goes, when, is_own, may_call, opened, begins, with_index, called, call, exit, again, leave, at_end, chosen, may_interrupt, enter}
+use Rattle.core_code.specs.Tree as tree
 use Rattle.core_code.specs.Tree.{list_of}
 use Rattle.core_code.specs.Values.{number_in, with_low, truth_of, truth_in}
 use Rattle.core_code.specs.declared.code.Byte.{Byte}
+use Rattle.core_code.specs.declared.code.Byte.TheVariants.{Frame, Result}
 use Rattle.narrow_code.specs.Marks.{Same, Tells, Denies, Marks, Holds, tells, denies, own_mark, agree, Below}
 use Rattle.narrow_code.specs.Plans as plans
 use Rattle.narrow_code.specs.Plans.{Plan, Plans, given, made, all_given, all_made, Narrowing, given_program, made_program}
 use Rattle.narrow_code.specs.Right.{Exits, Repeats, is_low_alone, fits_way, Fits, AllFit, IsSound}
 use Rattle.narrow_code.proofs.Memory.{never, holds_tells, holds_denies, Alike, lower, lower_refl, own_holds, none_above, truth_same}
-use Rattle.narrow_code.proofs.Relation.{Job, ToDo, ToJoin, ToEnd, Hold, HoldLoop, HoldCall, HoldHandler, ones, others, one_stack, other_stack, loops_of, Runs, Weak, Passes, Interrupts, Stands, Outcome, Halts, Moves, when_same, when_both, below_kept, stands_kept, jobs, jobs_first, jobs_second, jobs_run}
+use Rattle.narrow_code.proofs.Relation.{Job, ToDo, ToJoin, ToRead, ToEnd, Hold, HoldLoop, HoldCall, HoldHandler, ones, others, one_stack, other_stack, loops_of, Runs, Weak, Passes, Interrupts, Stands, Outcome, Halts, Moves, when_same, when_both, below_kept, stands_kept, jobs, jobs_first, jobs_second, jobs_run}
 use Rattle.narrow_code.proofs.Values.{no_pointer_if}
-use Rattle.narrow_code.proofs.Steps.{own_less, own_same, calls_parts, Scene, fresh, fresh_alike, fresh_off, known_open, open_alike, open_off, differs, fresh_below, loops, go_same}
+use Rattle.narrow_code.proofs.Steps.{own_less, own_same, calls_parts, Scene, parameter_same, result_alike, fresh, fresh_alike, fresh_off, known_open, open_alike, open_off, differs, fresh_below, loops, go_same}
 
 -- what a test of a value comes to of which but the lowest byte is 0
 truth_low : (size : ℕ) → nat_lt 0 size ≡ true → (m : Memory) (b : Byte) (n : ℕ) → m b ≡ bytes.Number n → number_in m (behind b 1) (size - 1) ≡ Some 0 → truth_in m b size ≡ Some (not (nat_eq n 0))
@@ -55,6 +57,27 @@ module _ (x : Narrowing) (sound : IsSound x) where
       (record { alike = alike; link = lower d runs.0 (λ byte. Same) known runs.1 link; stands = stands; passes = tt; runs = runs.2 })
       (ap (λ (c : List Task). goes c d None (one_stack s) m w) (jobs_first [] [] (x.plan d) []))
       (ap (λ (c : List Task). goes c d None (other_stack s) l w) (jobs_second [] [] (x.plan d) []))
+
+  -- a copy that reads a table: its parameters are the same, and so is what becomes the index
+  called_step : (o : Option (List ℕ)) (d p : ℕ) (js : List Job) (s : List Hold) (known : Marks) (m l : Memory) (w : World Held)
+      → Alike x.lent known m l → Below d (λ byte. Same) known → Stands x d known (HoldCall p js ∷ s)
+      → Outcome x (called (given_program x) o d (one_stack (HoldCall p js ∷ s)) m w) (called (made_program x) o d (other_stack (HoldCall p js ∷ s)) l w)
+  called_step None d p js s known m l w alike link stands = begins_step d (HoldCall p js ∷ s) known m l w (body_runs d) alike link stands
+  called_step (Some table) d p js s known m l w alike link stands =
+      Moves (record { copy = d; passing = None; jobs = ToRead table ∷ ToDo [] [] (plans.Stays tree.Leave) ∷ []; holds = HoldCall p js ∷ s; memory = with_index (given_program x) d m; second = with_index (made_program x) d l; world = w; here = λ byte. Same; known = known })
+      (record {
+        alike = index_alike;
+        link = link;
+        stands = stands;
+        passes = tt;
+        runs = (λ y. refl, (λ byte. Same), tt, (λ byte. Same), lower_refl d (λ byte. Same), tt);
+      }) refl refl
+    where
+      index_alike : Alike x.lent known (with_index (given_program x) d m) (with_index (made_program x) d l)
+      index_alike =
+          let same = parameter_same x.lent d known m l alike link in
+          result_alike x.lent known (with_byte m (Result (x.rest.root d) 0) (m (Frame d 0))) (with_byte l (Result (x.rest.root d) 0) (l (Frame d 0))) (x.rest.root d) 1 (m (Frame d 1)) (l (Frame d 1)) (same 1)
+          (result_alike x.lent known m l (x.rest.root d) 0 (m (Frame d 0)) (l (Frame d 0)) (same 0) alike)
 
   -- ---- the end of a body
   pub leave_step : (p : ℕ) (s : List Hold) (known : Marks) (m l : Memory) (w : World Held) → Alike x.lent known m l → Stands x p known s
@@ -205,7 +228,7 @@ module _ (x : Narrowing) (sound : IsSound x) where
         let called = calls_parts x sc.p sc.a d e in
         let rises = sound.rises sc.p d called.0 in
         let same = open_off sc.a d sc.known in
-        begins_step d (HoldCall sc.p js ∷ sc.s) (known_open sc.a d sc.known) (opened sc.a d sc.m) (opened sc.a d sc.l) sc.w (body_runs d)
+        called_step (x.rest.reads d) d sc.p js sc.s (known_open sc.a d sc.known) (opened sc.a d sc.m) (opened sc.a d sc.l) sc.w
         (open_alike x.lent sc.a d sc.known sc.m sc.l sc.alike) (fresh_below x sound sc.a sc.p d sc.known sc.passes called.2) (
           rises,
           (runs.0, below_kept x (x.rank d) sc.p runs.0 sc.known (known_open sc.a d sc.known) (λ c i f. same c i (differs x sound c d f)) rises (lower sc.p runs.0 sc.here sc.known (lower sc.p runs.0 after sc.here runs.1 below) sc.link), runs.2),

@@ -15,7 +15,7 @@ use Rattle.narrow_code.specs.Plans as plans
 use Rattle.narrow_code.specs.Plans.{Plan, low_op, given, made, Narrowing, given_program, made_program, given_setting, made_setting}
 use Rattle.narrow_code.specs.Right.{is_low, are_low_alone, Ends, Fits}
 use Rattle.narrow_code.proofs.Memory.{never}
-use Rattle.narrow_code.proofs.Relation.{Job, ToDo, ToPut, ToPutBit, ToPutBack, ToJoin, ToLoad, ToStore, ToEnd, Hold, HoldLoop, HoldCall, HoldHandler, ones, others, one_stack, other_stack, loops_of, SameCounts, Runs, State, first_machine, second_machine, Stays}
+use Rattle.narrow_code.proofs.Relation.{Job, ToDo, ToPut, ToPutBit, ToPutBack, ToJoin, ToLoad, ToStore, ToRead, ToEnd, Hold, HoldLoop, HoldCall, HoldHandler, ones, others, one_stack, other_stack, loops_of, SameCounts, Runs, State, first_machine, second_machine, Stays}
 use Rattle.narrow_code.proofs.Values.{width_suc}
 
 -- an operation that stays
@@ -131,6 +131,7 @@ module _ (x : Narrowing) where
       at_most : load_cost object ≤ load_cost object
       at_most = omega arith
   task_most_less p loops here (ToStore object offset from n ∷ js) s runs = omega arith
+  task_most_less p loops here (ToRead bytes ∷ js) s runs = omega arith
   task_most_less p loops here (ToEnd ∷ js) s runs = omega arith
 
   task_least_same : (js : List Job) (s : List Hold) → least_task (made_program x) (others js) (other_stack s) ≡ least_task (given_program x) (ones js) (one_stack s)
@@ -142,6 +143,7 @@ module _ (x : Narrowing) where
   task_least_same (ToJoin ∷ js) s = refl
   task_least_same (ToLoad to object offset n ∷ js) s = refl
   task_least_same (ToStore object offset from n ∷ js) s = refl
+  task_least_same (ToRead bytes ∷ js) s = refl
   task_least_same (ToEnd ∷ js) s = refl
 
   if_less : (t : Bool) (a b : ℕ) → a ≤ b → (if t then context_cost else a) ≤ (if t then context_cost else b)

@@ -18,7 +18,7 @@ use Rattle.core_code.proofs.Views.{list_again}
 use Rattle.core_code.specs.Bytes.{Held, Unset, Part, Object, Fixed, FrameOf, Place, Memory, same_byte, same_object, behind, byte_in, is_private, place_of, with_byte, with_bytes, is_in_frame, is_result_of, without_frame, without_results}
 use Rattle.core_code.specs.Bytes as bytes
 use Rattle.core_code.specs.Machine as task
-use Rattle.core_code.specs.Machine.{Program, Setting, Machine, Task, Waiting, Next, Goes, Stuck, Still, goes, when, tasks, held_at, after_read, after_write, memory_with, may_hold, written, may_call, opened, pass, is_others, passed, is_valid, put, copy, writes, address_of, and_then, operated, unary, convert, after_helper, binary, binary_at, loading, storing, load, store, load_from, store_to, with_bit, has_bit, bit_read, bit_write, begins, call, chosen, exit, again, leave, at_end, operate, act, may_interrupt, enter, core_step, gone, core_run, first_memory, static_byte, core_start, core_moment, extent, is_own, is_reached}
+use Rattle.core_code.specs.Machine.{Program, Setting, Machine, Task, Waiting, Next, Goes, Stuck, Still, goes, when, tasks, held_at, after_read, after_write, memory_with, may_hold, written, may_call, opened, pass, is_others, passed, is_valid, put, copy, writes, address_of, and_then, operated, unary, convert, after_helper, binary, binary_at, loading, storing, load, store, load_from, store_to, with_bit, has_bit, bit_read, bit_write, begins, with_index, called, call, looked_up, has_read, chosen, exit, again, leave, at_end, operate, act, may_interrupt, enter, core_step, gone, core_run, first_memory, static_byte, core_start, core_moment, extent, is_own, is_reached}
 use Rattle.core_code.specs.Operands.{number_left, is_helped}
 use Rattle.core_code.specs.Tree as tree
 use Rattle.core_code.specs.Tree.{Tree, Trees, NoTree, AndTree, list_of, trees_of}
@@ -96,6 +96,9 @@ module _ (lent : Object → Bool) where
   opened_fine : (a : Option ℕ) (c : ℕ) (m : Memory) → MemoryFine m → MemoryFine (opened a c m)
   opened_fine None c m f = frame_fine c m f
   opened_fine (Some o) c m f = f
+
+  index_fine : (q : Program) (c : ℕ) (m : Memory) → MemoryFine m → MemoryFine (with_index q c m)
+  index_fine q c m f = byte_fine (with_byte m (Result (q.root c) 0) (m (Frame c 0))) (Result (q.root c) 1) (m (Frame c 1)) (byte_fine m (Result (q.root c) 0) (m (Frame c 0)) f (f (Frame c 0))) (f (Frame c 1))
 
   helper_fine : (q : Program) (p : ℕ) (t : Bool) (m : Memory) → MemoryFine m → MemoryFine (after_helper q p t m)
   helper_fine q p true m f = results_fine (q.root p) m f
@@ -285,6 +288,15 @@ module _ (lent : Object → Bool) where
       begins_fine d s m w f e =
           goes_fine (tasks [] (g.program.body d) []) d None s m w (subst (λ (ts : List Tree). TasksFine (tasks [] ts [])) (sym (is_body d)) (tasks_fine [] (body_is d) [] (bodies d) tt)) f e
 
+      called_fine : (o : Option (List ℕ)) (d : ℕ) (s : List Waiting) (m : Memory) (w : World Held) → StackFine s → MemoryFine m → NextFine (called g.program o d s m w)
+      called_fine None d s m w f e = begins_fine d s m w f e
+      called_fine (Some bytes) d s m w f e =
+          goes_fine (task.Reading bytes ∷ task.Do [] tree.Leave ∷ []) d None s (with_index g.program d m) w (tt, (refl, tt)) f (index_fine g.program d m e)
+
+      has_read_fine : (o : Option ℕ) → NextFine (has_read g.program o c p a s m w)
+      has_read_fine None = tt
+      has_read_fine (Some n) = goes_fine c p a s (with_byte m (Result (g.program.root p) 0) (bytes.Number n)) w code stack (byte_fine m (Result (g.program.root p) 0) (bytes.Number n) memory refl)
+
       chosen_fine : (t : Option Bool) (first second : Tree) → lends lent first ≡ true → lends lent second ≡ true → NextFine (chosen t first second c p a s m w)
       chosen_fine None first second e f = tt
       chosen_fine (Some true) first second e f = goes_fine (task.Do [] first ∷ task.Join ∷ c) p a s m w (e, (tt, code)) stack memory
@@ -342,7 +354,7 @@ module _ (lent : Object → Bool) where
       operate_fine before (tree.Convert from to at) e = when_fine _ _ (writes_fine c p a s m w code stack memory m memory at (and_then (value_in from m at) (converted to)) (converted_fine to (value_in from m at) (value_fine from m at memory)))
       operate_fine before (tree.BitRead to register number) e = when_fine (has_bit g.program p register number) _ (goes_fine (task.PutBit to (bit (device_value g.outside register w) number) ∷ c) p a s m (after_read g (Device register) m w) (tt, code) stack memory)
       operate_fine before (tree.BitWrite register number from) e = when_fine (is_own g.program p from 1) _ (bit_write_fine c p a s m w code stack memory register number (m from))
-      operate_fine before (tree.Call d) e = when_fine (may_call g.program p a d) _ (begins_fine c p a s m w code stack memory d (task.InCall p c ∷ s) (opened a d m) w (code, stack) (opened_fine a d m memory))
+      operate_fine before (tree.Call d) e = when_fine (may_call g.program p a d) _ (called_fine c p a s m w code stack memory (g.program.reads d) d (task.InCall p c ∷ s) (opened a d m) w (code, stack) (opened_fine a d m memory))
       operate_fine before tree.Leave e = leave_fine p a m w memory s stack
       operate_fine before (tree.Many ts) e = goes_fine (tasks [] (list_of ts) c) p a s m w (tasks_fine [] ts c e code) stack memory
       operate_fine before (tree.If test size first second) e =
@@ -373,6 +385,7 @@ module _ (lent : Object → Bool) where
       act_fine (task.Join ∷ c) f = goes_fine c p a s m w f.1 stack memory
       act_fine (task.LoadFrom to object offset n ∷ c) f = load_from_fine c p a s m w f.1 stack memory to object offset n f.0
       act_fine (task.StoreTo object offset from n ∷ c) f = store_to_fine c p a s m w f.1 stack memory object offset from n f.0
+      act_fine (task.Reading bytes ∷ c) f = has_read_fine c p a s m w f.1 stack memory (looked_up bytes (number_in m (Result (g.program.root p) 0) 2))
       act_fine (task.Over ∷ c) f = tt
 
       enter_fine : (c : List Task) (h : Option ℕ) → TasksFine c → NextFine (enter g.program h c p a s m w)
@@ -405,6 +418,7 @@ module _ (lent : Object → Bool) where
   reaches_fine (task.PutBit to value ∷ c) f = refl
   reaches_fine (task.PutBack register value ∷ c) f = refl
   reaches_fine (task.Join ∷ c) f = refl
+  reaches_fine (task.Reading bytes ∷ c) f = refl
   reaches_fine (task.Over ∷ c) f = refl
 
 pub always_open : AlwaysOpen

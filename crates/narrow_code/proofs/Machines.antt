@@ -13,8 +13,8 @@ use Rattle.narrow_code.specs.Plans.{Plan, given, made, Narrowing, given_program,
 use Rattle.narrow_code.specs.Right.{Fits, FitsLeaf, set_mark, IsSound}
 use Rattle.narrow_code.specs.Links.{is_lent, reaches_lent}
 use Rattle.narrow_code.proofs.Memory.{never, lower, lower_refl}
-use Rattle.narrow_code.proofs.Relation.{Job, ToDo, ToPut, ToPutBit, ToPutBack, ToJoin, ToLoad, ToStore, ToEnd, ones, others, one_stack, other_stack, SameCounts, Runs, Weak, State, first_machine, second_machine, Stays, Outcome, Rests, if_both}
-use Rattle.narrow_code.proofs.Steps.{Scene, loops, go_same, set_holds, put_step}
+use Rattle.narrow_code.proofs.Relation.{Job, ToDo, ToPut, ToPutBit, ToPutBack, ToJoin, ToLoad, ToStore, ToRead, ToEnd, ones, others, one_stack, other_stack, SameCounts, Runs, Weak, State, first_machine, second_machine, Stays, Outcome, Rests, if_both}
+use Rattle.narrow_code.proofs.Steps.{Scene, loops, go_same, set_holds, put_step, read_step}
 use Rattle.narrow_code.proofs.Control.{leave_step, exit_step, again_step, end_step, loop_step, several_step, choice_step, low_choice_step, turned_choice_step, call_step, enter_step}
 use Rattle.narrow_code.proofs.Accesses.{copy_step, load_step, load_from_step, store_step, store_to_step, bit_read_step, bit_write_step}
 use Rattle.narrow_code.proofs.Values.{address_step, unary_step, convert_step, binary_step}
@@ -69,6 +69,7 @@ module _ (x : Narrowing) (sound : IsSound x) (o : Outside) (sc : Scene x) where
   act_step (ToJoin ∷ js) runs e = go_same x sound sc sc.here sc.w js (lower_refl sc.p sc.here) runs
   act_step (ToLoad to object offset n ∷ js) runs e = load_from_step x sound o sc to object offset n js e runs
   act_step (ToStore object offset from n ∷ js) runs e = store_to_step x sound o sc object offset from n js e runs
+  act_step (ToRead bytes ∷ js) runs e = read_step x sound sc bytes js runs
   act_step (ToEnd ∷ js) runs e = Rests refl refl
 
 module _ (x : Narrowing) (sound : IsSound x) (o : Outside) where

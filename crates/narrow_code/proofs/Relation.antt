@@ -26,6 +26,7 @@ pub data Job : Type 0 where
   ToJoin : Job
   ToLoad : Byte → Object → ℕ → ℕ → Job
   ToStore : Object → ℕ → Byte → ℕ → Job
+  ToRead : List ℕ → Job
   ToEnd : Job
 
 pub data Hold : Type 0 where
@@ -41,6 +42,7 @@ one (ToPutBack register value) = task.PutBack register value
 one ToJoin = task.Join
 one (ToLoad to object offset n) = task.LoadFrom to object offset n
 one (ToStore object offset from n) = task.StoreTo object offset from n
+one (ToRead bytes) = task.Reading bytes
 one ToEnd = task.Over
 
 abbrev pub other : Job → Task
@@ -51,6 +53,7 @@ other (ToPutBack register value) = task.PutBack register value
 other ToJoin = task.Join
 other (ToLoad to object offset n) = task.LoadFrom to object offset n
 other (ToStore object offset from n) = task.StoreTo object offset from n
+other (ToRead bytes) = task.Reading bytes
 other ToEnd = task.Over
 
 abbrev pub ones : List Job → List Task
@@ -105,6 +108,7 @@ module _ (lent : ℕ → Bool) (p : ℕ) (loops : List Ends) where
   Runs here (ToJoin ∷ js) = Runs here js
   Runs here (ToLoad to object offset n ∷ js) = (mid : Marks) × Below p mid (marked_on here to n) × Runs mid js
   Runs here (ToStore object offset from n ∷ js) = (agree lent p here from n ≡ true) × (low : Marks) × Below p low here × Runs low js
+  Runs here (ToRead bytes ∷ js) = Runs here js
   Runs here (ToEnd ∷ js) = Unit {0}
 
   -- from less than what is known

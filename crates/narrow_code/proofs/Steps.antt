@@ -1,18 +1,20 @@
 -- Steps that write a byte by its name, and those of control.
 use Rattle.std.proofs.Common.{◌≡◌, ℕ, zero, suc, ◌+◌, ◌<◌, ◌≤◌, Bool, true, false, not, ◌&&◌, nat_eq, nat_lt, nat_le, if◌then◌else◌, List, Option, Some, None, refl, sym, ap, ◌∙◌, subst, arith}
-use Rattle.std.proofs.lemmas.Bool.{true≢false, and_parts, and_from, ne_eqb, eqb-true, ltb-true, leb-true, le-leb}
+use Rattle.std.proofs.lemmas.Bool.{true≢false, and_parts, and_from, ne_eqb, eqb-true, eq-eqb, ltb-true, leb-true, le-leb}
 use Rattle.pic_world.specs.Roots.{same_root}
 use Rattle.pic_world.specs.World.{World}
+use Rattle.pic_world.specs.declared.Root.{Root}
 use Rattle.core_code.specs.Bytes.{Held, Unset, Object, Memory, same_byte, behind, with_byte, is_in_frame, without_frame}
 use Rattle.core_code.specs.Bytes as bytes
-use Rattle.core_code.specs.Machine.{Program, goes, when, is_own, is_valid, may_hold, memory_with, after_write, written, may_call, can_pass, is_entry, opened, pass, passed, put}
+use Rattle.core_code.specs.Machine.{Program, goes, when, is_own, is_valid, may_hold, memory_with, after_write, written, may_call, can_pass, is_entry, opened, pass, passed, put, looked_up, has_read}
+use Rattle.core_code.specs.Values.{number_in}
 use Rattle.core_code.specs.declared.code.Byte.{Byte}
 use Rattle.core_code.specs.declared.code.Byte.TheVariants.{Static, Frame, Result, Device}
-use Rattle.narrow_code.specs.Marks.{Mark, Numbers, Same, Marks, Holds, IsBelow, marked, Below}
+use Rattle.narrow_code.specs.Marks.{Mark, Numbers, Same, Marks, Holds, IsBelow, is_same, marked, Below}
 use Rattle.narrow_code.specs.Plans.{Narrowing, given_program, made_program}
 use Rattle.narrow_code.specs.Right.{Ends, set_mark, IsSound}
-use Rattle.narrow_code.proofs.Memory.{never, Alike, Off, off_refl, is_mine, below_trans, lower, marked_below, marked_off, set_same, if_held}
-use Rattle.narrow_code.proofs.Relation.{Job, Hold, other, ones, others, one_stack, other_stack, loops_of, Runs, Passes, Stands, Outcome, Moves, when_same, when_both, stands_kept}
+use Rattle.narrow_code.proofs.Memory.{never, holds_same, Alike, Off, off_refl, is_mine, below_trans, lower, marked_below, marked_off, set_same, if_same, if_held, number_same}
+use Rattle.narrow_code.proofs.Relation.{Job, Hold, other, ones, others, one_stack, other_stack, loops_of, Runs, Passes, Stands, Outcome, Halts, Moves, when_same, when_both, stands_kept}
 
 -- ---- fewer bytes
 pub less : (j n k : ℕ) → 1 ≤ n → nat_le (j + n) k ≡ true → nat_le (j + 1) k ≡ true
@@ -116,6 +118,22 @@ pub open_alike : (lent : ℕ → Bool) (a : Option ℕ) (d : ℕ) (known : Marks
 open_alike lent None d known m l r = fresh_alike lent d known m l r
 open_alike lent (Some o) d known m l r = r
 
+-- a parameter of a copy is the same
+pub parameter_same : (lent : ℕ → Bool) (d : ℕ) (known : Marks) (m l : Memory) → Alike lent known m l → Below d (λ byte. Same) known → (i : ℕ) → m (Frame d i) ≡ l (Frame d i)
+parameter_same lent d known m l r below i =
+    holds_same (if lent d then Same else known (Frame d i)) (m (Frame d i)) (l (Frame d i)) (same_if (lent d) (known (Frame d i)) (below d i (eq-eqb d d refl))) (r (Frame d i))
+  where
+    same_if : (t : Bool) (k : Mark) → is_same k ≡ true → is_same (if t then Same else k) ≡ true
+    same_if true k e = refl
+    same_if false k e = e
+
+-- the same is written to a result
+pub result_alike : (lent : ℕ → Bool) (known : Marks) (m l : Memory) (root : Root) (k : ℕ) (h g : Held) → h ≡ g → Alike lent known m l → Alike lent known (with_byte m (Result root k) h) (with_byte l (Result root k) g)
+result_alike lent known m l root k h g e r (Static n i) = r (Static n i)
+result_alike lent known m l root k h g e r (Frame c i) = r (Frame c i)
+result_alike lent known m l root k h g e r (Result n i) = if_same lent (same_byte (Result n i) (Result root k)) h g (m (Result n i)) (l (Result n i)) e (r (Result n i))
+result_alike lent known m l root k h g e r (Device a) = r (Device a)
+
 pub fresh_off : (d : ℕ) (known : Marks) → Off d known (fresh d known)
 fresh_off d known c i e = ap (λ (t : Bool). if t then Same else known (Frame c i)) e
 
@@ -160,6 +178,24 @@ module _ (x : Narrowing) (sound : IsSound x) where
     pub go_same : (low : Marks) (w : World Held) (js : List Job) → Below sc.p low sc.here → Runs x.lent sc.p loops low js
         → Outcome x (goes (ones js) sc.p sc.a (one_stack sc.s) sc.m w) (goes (others js) sc.p sc.a (other_stack sc.s) sc.l w)
     go_same low w js link runs = go_on sc.known low sc.m sc.l w js sc.alike (off_refl sc.p sc.known) (lower sc.p low sc.here sc.known link sc.link) runs
+
+    -- ---- a table's byte is read
+    has_read_step : (o : Option ℕ) (js : List Job) → Runs x.lent sc.p loops sc.here js
+        → Outcome x (has_read q o (ones js) sc.p sc.a (one_stack sc.s) sc.m sc.w) (has_read r o (others js) sc.p sc.a (other_stack sc.s) sc.l sc.w)
+    has_read_step None js runs = Halts refl
+    has_read_step (Some n) js runs =
+        let to : Byte = Result (x.rest.root sc.p) 0 in
+        go_on sc.known sc.here (with_byte sc.m to (bytes.Number n)) (with_byte sc.l to (bytes.Number n)) sc.w js
+        (result_alike x.lent sc.known sc.m sc.l (x.rest.root sc.p) 0 (bytes.Number n) (bytes.Number n) refl sc.alike) (off_refl sc.p sc.known) sc.link runs
+
+    -- the results that hold its index are the same
+    pub read_step : (table : List ℕ) (js : List Job) → Runs x.lent sc.p loops sc.here js
+        → Outcome x (has_read q (looked_up table (number_in sc.m (Result (x.rest.root sc.p) 0) 2)) (ones js) sc.p sc.a (one_stack sc.s) sc.m sc.w)
+        (has_read r (looked_up table (number_in sc.l (Result (x.rest.root sc.p) 0) 2)) (others js) sc.p sc.a (other_stack sc.s) sc.l sc.w)
+    read_step table js runs =
+        subst (λ (n : Option ℕ). Outcome x (has_read q (looked_up table (number_in sc.m (Result (x.rest.root sc.p) 0) 2)) (ones js) sc.p sc.a (one_stack sc.s) sc.m sc.w) (has_read r (looked_up table n) (others js) sc.p sc.a (other_stack sc.s) sc.l sc.w))
+        (number_same x.lent sc.p sc.here sc.known sc.m sc.l sc.alike sc.link 2 (Result (x.rest.root sc.p) 0) refl)
+        (has_read_step (looked_up table (number_in sc.m (Result (x.rest.root sc.p) 0) 2)) js runs)
 
     -- ---- a byte is written by its name
     module _ (k : Mark) (h : Held) (holds : Holds k h h) (low : Marks) (js : List Job) (runs : Runs x.lent sc.p loops low js) where

@@ -3,7 +3,7 @@ use Rattle.std.proofs.Common.{◌≡◌, List, [], ◌∷◌, refl}
 use Rattle.narrow_code.specs.InStep.{transfer_in, transfer_of}
 use Rattle.narrow_code.specs.Plans as plans
 use Rattle.narrow_code.specs.Plans.{Plan, given, made}
-use Rattle.narrow_code.proofs.Relation.{Job, ToDo, ToPut, ToPutBit, ToPutBack, ToJoin, ToLoad, ToStore, ToEnd, ones, others}
+use Rattle.narrow_code.proofs.Relation.{Job, ToDo, ToPut, ToPutBit, ToPutBack, ToJoin, ToLoad, ToStore, ToRead, ToEnd, ones, others}
 
 plan_transfer : (t : Plan) → transfer_in (made t) ≡ transfer_in (given t)
 plan_transfer (plans.Stays t) = refl
@@ -23,4 +23,5 @@ transfers_same (ToPutBack register value ∷ js) = refl
 transfers_same (ToJoin ∷ js) = refl
 transfers_same (ToLoad to object offset n ∷ js) = refl
 transfers_same (ToStore object offset from n ∷ js) = refl
+transfers_same (ToRead bytes ∷ js) = refl
 transfers_same (ToEnd ∷ js) = refl

@@ -7,7 +7,7 @@ use Rattle.core_code.specs.Bytes as bytes
 use Rattle.core_code.specs.Bytes.{Held, Number, is_private}
 use Rattle.core_code.specs.Cost.{one_if, is_kept}
 use Rattle.core_code.specs.Machine as core
-use Rattle.core_code.specs.Machine.{Task, Do, Put, PutBit, PutBack, Join, LoadFrom, StoreTo, Over, Waiting, static_bytes, held_at, after_read, noting_if, may_hold, is_own, is_valid, put, passed, copy, when, is_others, may_call, opened}
+use Rattle.core_code.specs.Machine.{Task, Do, Put, PutBit, PutBack, Join, LoadFrom, StoreTo, Reading, Over, Waiting, static_bytes, held_at, after_read, noting_if, may_hold, is_own, is_valid, put, passed, copy, when, is_others, may_call, opened}
 use Rattle.core_code.specs.declared.code.Byte.{Byte}
 use Rattle.core_code.specs.declared.code.Byte.TheVariants.{Static, Frame, Result, Device}
 use Rattle.sym_code.specs.Effect.{Memory, Port, Shared, Event, Silent, Reads, access_of}
@@ -78,6 +78,7 @@ soon_left s f loops r n (PutBit a b ∷ c) l = absurd l
 soon_left s f loops r n (PutBack a b ∷ c) l = absurd l
 soon_left s f loops r n (LoadFrom a b d e ∷ c) l = absurd l
 soon_left s f loops r n (StoreTo a b d e ∷ c) l = absurd l
+soon_left s f loops r n (Reading a ∷ c) l = absurd l
 soon_left s f loops r n (Over ∷ c) l = absurd l
 
 pub soon_to : (s : Site) (f : ℕ) (loops : List ℕ) (r : Registers) (n k : ℕ) (c : List Task) → n ≡ k → Soon s f loops r n c → Soon s f loops r k c

@@ -6,7 +6,7 @@ use Rattle.pic_world.specs.Control as control
 use Rattle.pic_world.specs.declared.Root.TheVariants.{Main, Isr}
 use Rattle.core_code.specs.Bytes as bytes
 use Rattle.core_code.specs.Bytes.{Held}
-use Rattle.core_code.specs.Cost.{restoring, least_leave}
+use Rattle.core_code.specs.Cost.{restoring, least_call, least_leave}
 use Rattle.core_code.specs.Machine as core
 use Rattle.core_code.specs.Machine.{Task, Over, Waiting, InLoop, InCall, InHandler, tasks, can_pass, may_call, is_entry, is_copy, opened}
 use Rattle.core_code.specs.Tree.{Tree, trees_of, list_of}
@@ -122,11 +122,12 @@ module _ (s : Site) (t : Machine) (wc : World Held) (calm : Calm s wc) where
       ∙ if_true (nat_lt (length ps) (s.g.limit i)) (jump_to (record (thread s f n ps r) { stack = place s f (n + 1) ∷ ps }) (Some (place s h 0))) Stuck lt
 
   pub call_goes : (f : ℕ) (pr : Option ℕ) (st : List Waiting) (loops : List ℕ) (ps : List Position) (cm : bytes.Memory) (m : Memory) → Fit s t wc f pr st loops ps cm m
-      → (h n : ℕ) (r : Registers) (c : List Task) → Fits r → Has (block s f) n (call_code h) → Left s f loops (n + 1) c → After s 1 6 (core.call s.q h c f pr st cm wc) (at s t (thread s f n ps r) m wc)
+      → (h n : ℕ) (r : Registers) (c : List Task) → Fits r → Has (block s f) n (call_code h) → Left s f loops (n + 1) c → After s (least_call (s.q.reads h)) 12 (core.call s.q h c f pr st cm wc) (at s t (thread s f n ps r) m wc)
   call_goes f pr st loops ps cm m fit h n r c fits hs l =
       let d = machine h None (tasks [] (s.q.body h) []) (InCall f c ∷ st) (opened pr h cm) wc in
       let v = at s t (thread s f n ps r) m wc in
-      when_after s 1 6 (may_call s.q f pr h) (core.Goes d) v (λ ca.
+      subst (λ (o : Option (List ℕ)). After s (least_call o) 12 (core.when (may_call s.q f pr h) (core.called s.q o h (InCall f c ∷ st) (opened pr h cm) wc)) v) (sym (s.chosen.no_tables h))
+      (when_after s 1 12 (may_call s.q f pr h) (core.Goes d) v (λ ca.
       let u = chain_user s f st fit.chain in
       let e1 : (s.q.calls f h && same_root (s.q.root f) (s.q.root h) && not (is_entry s.q h)) ≡ true = and_left _ _ ca in
       let e2 : (s.q.calls f h && same_root (s.q.root f) (s.q.root h)) ≡ true = and_left _ _ e1 in
@@ -153,10 +154,10 @@ module _ (s : Site) (t : Machine) (wc : World Held) (calm : Calm s wc) where
         level = omega (arith, up, lv);
         frames = (loops, suc n, refl, next_lands s f u n (syms.Call (targets.Block (names.Copy h))) hs.0 refl, left_to s f loops (n + 1) (suc n) c (omega arith) l, fit.level, fit.frames);
       } in
-      weaken s v d 1 (s.price (names.Copy f) n + 0) 1 6 (omega arith) (dear s f u n 6 (call_code h) hs refl (omega arith))
+      weaken s v d 1 (s.price (names.Copy f) n + 0) 1 12 (omega arith) (dear s f u n 12 (call_code h) hs refl (omega arith))
       (word_quiet s t wc calm f ps u n r m (syms.Call (targets.Block (names.Copy h))) (thread s h 0 ps' r) None d 0 0 hs.0 refl refl
       (call_is wc.inside f n ps r m h lt ∙ ap (λ k. Quiet (thread s h 0 (place s f k ∷ ps) r) None) (omega arith)) (front_lands s h uh)
-      (left_goes s t wc calm h None (InCall f c ∷ st) [] ps' (opened pr h cm) m fit' 0 r (tasks [] (s.q.body h) []) fits (body_left s h uh))))
+      (left_goes s t wc calm h None (InCall f c ∷ st) [] ps' (opened pr h cm) m fit' 0 r (tasks [] (s.q.body h) []) fits (body_left s h uh)))))
 
   -- ---- ends
   halt_is : (f n : ℕ) (r : Registers) (m : Memory) → effect_of s.g false (position (names.Copy f) n) (thread s f n [] r) m (syms.Goto (targets.Label labels.Halt)) ≡ Ends (record (thread s f n [] r) { at = None })

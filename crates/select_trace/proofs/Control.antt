@@ -5,7 +5,7 @@ use Rattle.pic_world.specs.World.{World}
 use Rattle.core_code.specs.Bytes as bytes
 use Rattle.core_code.specs.Bytes.{Held}
 use Rattle.core_code.specs.Machine as core
-use Rattle.core_code.specs.Machine.{Task, Do, Put, PutBit, PutBack, Join, LoadFrom, StoreTo, Over, Waiting, tasks, is_own, chosen, when}
+use Rattle.core_code.specs.Machine.{Task, Do, Put, PutBit, PutBack, Join, LoadFrom, StoreTo, Reading, Over, Waiting, tasks, is_own, chosen, when}
 use Rattle.core_code.specs.Tree.{Tree, Trees, Set, Address, Copy, Load, Store, Unary, Binary, Convert, BitRead, BitWrite, Call, Leave, Many, If, Loop, Exit, Again, NoTree, AndTree, list_of}
 use Rattle.core_code.specs.Values.{truth_in}
 use Rattle.core_code.specs.declared.code.Byte.{Byte}
@@ -179,6 +179,7 @@ here_left s f loops n ps r (PutBit a b ∷ c) l = absurd l
 here_left s f loops n ps r (PutBack a b ∷ c) l = absurd l
 here_left s f loops n ps r (LoadFrom a b d e ∷ c) l = absurd l
 here_left s f loops n ps r (StoreTo a b d e ∷ c) l = absurd l
+here_left s f loops n ps r (Reading a ∷ c) l = absurd l
 here_left s f loops n ps r (Over ∷ c) l = absurd l
 
 pub here_soon : (s : Site) (f : ℕ) (loops : List ℕ) (n : ℕ) (ps : List Position) (r : Registers) (c : List Task) → Soon s f loops r n c → Here s f loops (thread s f n ps r) c
@@ -190,6 +191,7 @@ here_soon s f loops n ps r (StoreTo a b d e ∷ c) l = (n, refl, refl, l)
 here_soon s f loops n ps r (Put a b ∷ c) l = absurd l
 here_soon s f loops n ps r (PutBit a b ∷ c) l = absurd l
 here_soon s f loops n ps r (PutBack a b ∷ c) l = absurd l
+here_soon s f loops n ps r (Reading a ∷ c) l = absurd l
 here_soon s f loops n ps r (Over ∷ c) l = absurd l
 
 -- operations one behind the other

@@ -11,7 +11,7 @@ use Rattle.core_code.specs.Bytes as bytes
 use Rattle.core_code.specs.Bytes.{Held, Number, without_frame}
 use Rattle.core_code.specs.Cost.{one_if, is_kept, load_cost, cost_of, leaving, least_of, task_most, least_task, step_most, step_least, context_cost}
 use Rattle.core_code.specs.Machine as core
-use Rattle.core_code.specs.Machine.{Task, Do, Put, PutBit, PutBack, Join, LoadFrom, StoreTo, Over, Waiting, InHandler, tasks, operate, act, may_interrupt, core_step, put}
+use Rattle.core_code.specs.Machine.{Task, Do, Put, PutBit, PutBack, Join, LoadFrom, StoreTo, Reading, Over, Waiting, InHandler, tasks, operate, act, may_interrupt, core_step, put}
 use Rattle.core_code.specs.Tree.{Tree, Set, Address, Copy, Load, Store, Unary, Binary, Convert, BitRead, BitWrite, Call, Leave, Many, If, Loop, Exit, Again}
 use Rattle.core_code.specs.declared.code.Byte.TheVariants.{Device}
 use Rattle.sym_code.specs.Cost.{Prices, sure_prices, most_prices, thread_cost, step_cost, step_cost_at}
@@ -114,6 +114,7 @@ module _ (s : Site) (values : ValuesGo s) where
         subst (λ (y : Thread). After s (one_if (nat_lt 0 k)) (load_cost object) (core.load_from (core_of s) to object offset k c f pr st cm wc) (at s t y m wc)) (same_thread th h.0 h.1 h.2 e) (load_from_goes s t wc calm f pr st loops ps cm m fit to object offset k h.0 th.registers c fits h.3 (lent.loads to object offset k c refl))
     task_goes loops th (StoreTo object offset from k ∷ c) known lent e fits fit h =
         subst (λ (y : Thread). After s (one_if (nat_lt 0 k)) 6 (core.store_to (core_of s) object offset from k c f pr st cm wc) (at s t y m wc)) (same_thread th h.0 h.1 h.2 e) (store_to_goes s t wc calm f pr st loops ps cm m fit object offset from k h.0 th.registers c fits h.3 (lent.stores object offset from k c refl))
+    task_goes loops th (Reading table ∷ c) known lent e fits fit h = absurd h
     task_goes loops th (Over ∷ c) known lent e fits fit h =
         (rests_still s t wc calm th m (over_is th h.1 h.2 (over_outside loops fit h.0)), refl)
 

@@ -7,7 +7,7 @@ use Rattle.pic_world.specs.declared.Root.TheVariants.{Main, Isr}
 use Rattle.core_code.specs.Bytes as bytes
 use Rattle.core_code.specs.Bytes.{Held, Number, Memory, behind, same_byte, with_byte, with_bytes, without_frame, without_results}
 use Rattle.core_code.specs.Machine as core
-use Rattle.core_code.specs.Machine.{Program, Task, Do, Put, PutBit, PutBack, Join, LoadFrom, StoreTo, Over, Waiting, InLoop, InCall, InHandler, Machine, Next, Goes, Stuck, Still, goes, when, tasks, is_own, is_valid, may_hold, memory_with, opened, may_call, passed, put, copy, written}
+use Rattle.core_code.specs.Machine.{Program, Task, Do, Put, PutBit, PutBack, Join, LoadFrom, StoreTo, Reading, Over, Waiting, InLoop, InCall, InHandler, Machine, Next, Goes, Stuck, Still, goes, when, tasks, is_own, is_valid, may_hold, memory_with, opened, may_call, passed, put, copy, written}
 use Rattle.core_code.specs.Operands.{number_behind, number_from, number_left}
 use Rattle.core_code.specs.Tree.{Tree}
 use Rattle.core_code.specs.declared.code.Byte.{Byte}
@@ -55,6 +55,7 @@ fresh_by before t (PutBack x y ∷ c) h n = tt
 fresh_by before t (Join ∷ c) h n = tt
 fresh_by before t (LoadFrom x y z u ∷ c) h n = tt
 fresh_by before t (StoreTo x y z u ∷ c) h n = tt
+fresh_by before t (Reading x ∷ c) h n = tt
 fresh_by before t (Over ∷ c) h n = tt
 
 pub behind_fresh : (before : List Tree) (t : Tree) (c : List Task) → Fresh c → Behind before t c
@@ -66,6 +67,7 @@ behind_fresh before t (PutBack x y ∷ c) h = tt
 behind_fresh before t (Join ∷ c) h = tt
 behind_fresh before t (LoadFrom x y z u ∷ c) h = tt
 behind_fresh before t (StoreTo x y z u ∷ c) h = tt
+behind_fresh before t (Reading x ∷ c) h = tt
 behind_fresh before t (Over ∷ c) h = tt
 
 pub tasks_linked : (before : List Tree) (ts : List Tree) (c : List Task) → Fresh c → Linked c → Linked (tasks before ts c)
@@ -94,6 +96,7 @@ module _ (q : Program) where
   fresh_holds f m (Join ∷ c) h = tt
   fresh_holds f m (LoadFrom x y z u ∷ c) h = tt
   fresh_holds f m (StoreTo x y z u ∷ c) h = tt
+  fresh_holds f m (Reading x ∷ c) h = tt
   fresh_holds f m (Over ∷ c) h = tt
 
   -- what waits
@@ -129,6 +132,7 @@ module _ (q : Program) where
   holds_spared g r m m' s ne (Join ∷ c) h = tt
   holds_spared g r m m' s ne (LoadFrom x y z u ∷ c) h = tt
   holds_spared g r m m' s ne (StoreTo x y z u ∷ c) h = tt
+  holds_spared g r m m' s ne (Reading x ∷ c) h = tt
   holds_spared g r m m' s ne (Over ∷ c) h = tt
 
   -- main waits for no handler

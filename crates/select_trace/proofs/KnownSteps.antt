@@ -7,11 +7,11 @@ use Rattle.pic_world.specs.declared.Root.TheVariants.{Main, Isr}
 use Rattle.core_code.specs.Bytes as bytes
 use Rattle.core_code.specs.Bytes.{Held, Number, Memory, Object, Fixed, FrameOf, Place, byte_in, behind, is_private, same_byte, with_byte, with_bytes, without_frame}
 use Rattle.core_code.specs.Machine as core
-use Rattle.core_code.specs.Machine.{Setting, Program, Task, Do, Put, PutBit, PutBack, Join, LoadFrom, StoreTo, Over, Waiting, InLoop, InCall, InHandler, Machine, Next, Goes, Stuck, Still, goes, tasks, is_own, is_valid, is_reached, is_among, callers, may_hold, memory_with, opened, may_call, put, copy, written, writes, after_helper, load, store, loading, storing, load_from, store_to, bit_write, call, begins, chosen, exit, again, leave, at_end, operate, act, may_interrupt, enter, core_step, core_run, core_start, core_moment, gone}
+use Rattle.core_code.specs.Machine.{Setting, Program, Task, Do, Put, PutBit, PutBack, Join, LoadFrom, StoreTo, Reading, Over, Waiting, InLoop, InCall, InHandler, Machine, Next, Goes, Stuck, Still, goes, tasks, is_own, is_valid, is_reached, is_among, callers, may_hold, memory_with, opened, may_call, put, copy, written, writes, after_helper, load, store, loading, storing, load_from, store_to, bit_write, call, begins, chosen, exit, again, leave, at_end, operate, act, may_interrupt, enter, core_step, core_run, core_start, core_moment, gone}
 use Rattle.c_ints.specs.Range.{bytes_of}
 use Rattle.core_code.specs.Operands.{number_left, is_helped, fits_unary, fits_together}
 use Rattle.core_code.specs.Tree.{Tree, Set, Address, Copy, Load, Store, Unary, Binary, Convert, BitRead, BitWrite, Call, Leave, Many, If, Loop, Exit, Again, list_of}
-use Rattle.core_code.specs.Values.{Value, byte_count, byte_of, value_in, pointer_in, truth_in, unary_value, converted, right_type}
+use Rattle.core_code.specs.Values.{Value, byte_count, byte_of, number_in, value_in, pointer_in, truth_in, unary_value, converted, right_type}
 use Rattle.core_code.specs.declared.code.Byte.{Byte}
 use Rattle.core_code.specs.declared.code.Byte.TheVariants.{Static, Frame, Result, Device}
 use Rattle.select_trace.proofs.Truths.{or_true, and_left, and_right, same_nat, nat_same, true_false, if_true, if_false}
@@ -60,6 +60,7 @@ module _ (g : Setting) where
       holds (Join ∷ c) b m' looks = tt
       holds (LoadFrom x y z u ∷ c) b m' looks = tt
       holds (StoreTo x y z u ∷ c) b m' looks = tt
+      holds (Reading x ∷ c) b m' looks = tt
       holds (Over ∷ c) b m' looks = tt
 
   fresh_put : (to : Byte) (held : Held) (c : List Task) (p : ℕ) (a : Option ℕ) (st : List Waiting) (m : Memory) (w : World Held) → Fresh c → Linked c → Rests g.program p m st → SureNext g.program (put g.program to held c p a st m w)
@@ -134,13 +135,29 @@ module _ (g : Setting) where
   body_holds : (h : ℕ) (m : Memory) → HoldsAll g.program h m (tasks [] (g.program.body h) [])
   body_holds h m = fresh_holds g.program h m (tasks [] (g.program.body h) []) (tasks_fresh (g.program.body h) [] tt)
 
+  -- the copy's root is that of its caller
+  called_sure : (o : Option (List ℕ)) (h : ℕ) (c : List Task) (p : ℕ) (a : Option ℕ) (st : List Waiting) (m : Memory) (w : World Held) → g.program.root p ≡ g.program.root h → Fresh c → Linked c → Rests g.program p m st
+      → SureNext g.program (core.called g.program o h (InCall p c ∷ st) (opened a h m) w)
+  called_sure None h c p a st m w ro f l r =
+      record { linked = tasks_linked [] (g.program.body h) [] tt tt; holds = body_holds h (opened a h m); rests = (ro, f, l, rests_keep g.program p m (opened a h m) st (spares_opened g.program (g.program.root p) a m h (sym ro)) r) }
+  called_sure (Some table) h c p a st m w ro f l r =
+      let first : Memory = with_byte (opened a h m) (Result (g.program.root h) 0) (opened a h m (Frame h 0)) in
+      let one = spares_byte g.program (g.program.root p) m (opened a h m) (Result (g.program.root h) 0) (opened a h m (Frame h 0)) (sym ro) (spares_opened g.program (g.program.root p) a m h (sym ro)) in
+      let both = spares_byte g.program (g.program.root p) m first (Result (g.program.root h) 1) (opened a h m (Frame h 1)) (sym ro) one in
+      record { linked = (λ b. refl, tt, tt); holds = tt; rests = (ro, f, l, rests_keep g.program p m (core.with_index g.program h (opened a h m)) st both r) }
+
+  read_sure : (o : Option ℕ) (c : List Task) (p : ℕ) (a : Option ℕ) (st : List Waiting) (m : Memory) (w : World Held) → Fresh c → Linked c → Rests g.program p m st → SureNext g.program (core.has_read g.program o c p a st m w)
+  read_sure None c p a st m w f l r = tt
+  read_sure (Some n) c p a st m w f l r =
+      let to : Byte = Result (g.program.root p) 0 in
+      fresh_goes g.program c p a st m (with_byte m to (Number n)) w f l r (spares_byte g.program (g.program.root p) m m to (Number n) refl (spares_none g.program (g.program.root p) m))
+
   call_sure : (h : ℕ) (c : List Task) (p : ℕ) (a : Option ℕ) (st : List Waiting) (m : Memory) (w : World Held) → Fresh c → Linked c → Rests g.program p m st → SureNext g.program (call g.program h c p a st m w)
   call_sure h c p a st m w f l r =
-      sure_when g.program (may_call g.program p a h) (begins g.program h (InCall p c ∷ st) (opened a h m) w) (λ ca.
+      sure_when g.program (may_call g.program p a h) (core.called g.program (g.program.reads h) h (InCall p c ∷ st) (opened a h m) w) (λ ca.
       let e1 = and_left _ _ ca in
       let e2 = and_left _ _ e1 in
-      let ro : g.program.root p ≡ g.program.root h = same_roots _ _ (and_right (g.program.calls p h) _ e2) in
-      record { linked = tasks_linked [] (g.program.body h) [] tt tt; holds = body_holds h (opened a h m); rests = (ro, f, l, rests_keep g.program p m (opened a h m) st (spares_opened g.program (g.program.root p) a m h (sym ro)) r) })
+      called_sure (g.program.reads h) h c p a st m w (same_roots _ _ (and_right (g.program.calls p h) _ e2)) f l r)
 
   chosen_sure : (o : Option Bool) (x y : Tree) (c : List Task) (p : ℕ) (a : Option ℕ) (st : List Waiting) (m : Memory) (w : World Held) → Fresh c → Linked c → Rests g.program p m st → SureNext g.program (chosen o x y c p a st m w)
   chosen_sure None x y c p a st m w f l r = tt
@@ -229,6 +246,7 @@ module _ (g : Setting) where
   act_sure (Join ∷ c) p a st m w l h r = record { linked = l.1; holds = fresh_holds g.program p m c l.0; rests = r }
   act_sure (LoadFrom to object offset k ∷ c) p a st m w l h r = load_from_sure to object offset k c p a st m w l.0 l.1 r
   act_sure (StoreTo object offset from k ∷ c) p a st m w l h r = store_to_sure object offset from k c p a st m w l.0 l.1 r
+  act_sure (Reading table ∷ c) p a st m w l h r = read_sure (core.looked_up table (number_in m (Result (g.program.root p) 0) 2)) c p a st m w l.0 l.1 r
   act_sure (Over ∷ c) p a st m w l h r = tt
 
   enter_sure : (o : Option ℕ) (c : List Task) (p : ℕ) (a : Option ℕ) (st : List Waiting) (m : Memory) (w : World Held) → Linked c → HoldsAll g.program p m c → Rests g.program p m st → SureNext g.program (enter g.program o c p a st m w)
@@ -275,6 +293,7 @@ knows_all s f m (PutBack x y ∷ c) h = tt
 knows_all s f m (Join ∷ c) h = tt
 knows_all s f m (LoadFrom x y z u ∷ c) h = tt
 knows_all s f m (StoreTo x y z u ∷ c) h = tt
+knows_all s f m (Reading x ∷ c) h = tt
 knows_all s f m (Over ∷ c) h = tt
 
 -- what is known is there

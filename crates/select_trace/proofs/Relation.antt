@@ -4,7 +4,7 @@ use Rattle.pic_world.specs.Control.{Control}
 use Rattle.pic_world.specs.World.{arrived, is_due}
 use Rattle.core_code.specs.Bytes.{Object, byte_in, behind}
 use Rattle.core_code.specs.Machine as core
-use Rattle.core_code.specs.Machine.{Task, Do, Put, PutBit, PutBack, Join, LoadFrom, StoreTo, Over, Waiting, InLoop, InCall, InHandler}
+use Rattle.core_code.specs.Machine.{Task, Do, Put, PutBit, PutBack, Join, LoadFrom, StoreTo, Reading, Over, Waiting, InLoop, InCall, InHandler}
 use Rattle.core_code.specs.Tree.{Tree, Many, Loop, Exit, list_of}
 use Rattle.core_code.specs.declared.code.Byte.{Byte}
 use Rattle.sym_code.specs.Cost.{sure_prices, most_prices, step_cost}
@@ -70,6 +70,7 @@ Left s f loops n (PutBit to value ∷ c) = ⊥
 Left s f loops n (PutBack register value ∷ c) = ⊥
 Left s f loops n (LoadFrom to object offset k ∷ c) = ⊥
 Left s f loops n (StoreTo object offset from k ∷ c) = ⊥
+Left s f loops n (Reading bytes ∷ c) = ⊥
 Left s f loops n (Over ∷ c) = ⊥
 
 -- ---- pointers
@@ -108,6 +109,7 @@ Soon s f loops r n (StoreTo object offset from k ∷ c) = Storing s f loops r n 
 Soon s f loops r n (Put to held ∷ c) = ⊥
 Soon s f loops r n (PutBit to value ∷ c) = ⊥
 Soon s f loops r n (PutBack register value ∷ c) = ⊥
+Soon s f loops r n (Reading bytes ∷ c) = ⊥
 Soon s f loops r n (Over ∷ c) = ⊥
 
 -- the byte in W is written
@@ -130,10 +132,13 @@ Now s f loops r n (Join ∷ c) = Soon s f loops r n (Join ∷ c)
 Now s f loops r n (LoadFrom to object offset k ∷ c) = Soon s f loops r n (LoadFrom to object offset k ∷ c)
 Now s f loops r n (StoreTo object offset from k ∷ c) = Soon s f loops r n (StoreTo object offset from k ∷ c)
 Now s f loops r n (PutBack register value ∷ c) = ⊥
+Now s f loops r n (Reading bytes ∷ c) = ⊥
 Now s f loops r n (Over ∷ c) = ⊥
 
 -- A thread is where these tasks are left to do.
 abbrev pub Here : Site → ℕ → List ℕ → Thread → List Task → Type 0
+-- no copy reads a table
+Here s f loops th (Reading bytes ∷ c) = ⊥
 Here s f loops th (Over ∷ c) = (f ≡ 0) × (th.rest ≡ None) × (th.at ≡ None)
 Here s f loops th (PutBack register value ∷ c) = (n : ℕ) × (value < 256) × (th.rest ≡ Some (record { to = Port register; byte = value })) × (th.at ≡ Some (place s f n)) × (lands s.g.program (place s f n) ≡ true) × Left s f loops n c
 Here s f loops th [] = (n : ℕ) × (th.rest ≡ None) × (th.at ≡ Some (place s f n)) × Now s f loops th.registers n []

@@ -297,9 +297,10 @@ module _ (s : Site) (t : Machine) (wc : World Held) (calm : Calm s wc) (f : ℕ)
   load_from_goes to (Fixed o) offset (suc k) n r c fits (first, j, e, p, h, l) lent =
       let next = goes (Put to (cm (Static o offset)) ∷ loading (behind to 1) (Fixed o) (offset + 1) k c) f pr st cm (noting_if (s.q.is_watched o) (ReadOf (cells.Static o offset) (cm (Static o offset))) wc) in
       let v = at s t (thread s f n ps r) m wc in
-      one_more k 1 3 (when (is_own s.q f to 1 && is_reached s.q f st (Fixed o) offset) next) v
-      (when_after s 1 3 (is_own s.q f to 1 && is_reached s.q f st (Fixed o) offset) next v (λ a.
-      load_static to first j o offset k n r c fits e p h l (and_left _ _ a) (and_right (is_own s.q f to 1) _ a) lent))
+      let d = machine f pr (Put to (cm (Static o offset)) ∷ loading (behind to 1) (Fixed o) (offset + 1) k c) st cm (noting_if (s.q.is_watched o) (ReadOf (cells.Static o offset) (cm (Static o offset))) wc) in
+      one_more k 1 16 (when (is_own s.q f to 1 && is_reached s.q f st (Fixed o) offset) next) v
+      (when_after s 1 16 (is_own s.q f to 1 && is_reached s.q f st (Fixed o) offset) next v (λ a.
+      weaken s v d 1 3 1 16 (omega arith) (omega arith) (load_static to first j o offset k n r c fits e p h l (and_left _ _ a) (and_right (is_own s.q f to 1) _ a) lent)))
   load_from_goes to (FrameOf g) offset (suc k) n r c fits (first, j, e, p, h, l) lent =
       let next = put s.q to (cm (Frame g offset)) (loading (behind to 1) (FrameOf g) (offset + 1) k c) f pr st cm wc in
       let v = at s t (thread s f n ps r) m wc in

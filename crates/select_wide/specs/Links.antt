@@ -129,6 +129,8 @@ pub record IsSelected (q : Program) (copies : List FnCopy) (bodies : List Body) 
   pub routine_there : (c : ℕ) (op : BinOp) (ty : IntTy) (h : Helper) → q.helped c op ty ≡ true → int_helper op false ty ≡ Some h → (d : ℕ) × (copy_of copies (q.root c) h ≡ Some d)
   pub handler_there : (c : ℕ) (copy : FnCopy) → handler_at copies ≡ Some c → slice_get copies c ≡ Some copy → is_user copy.function ≡ true
   pub handler : q.handler ≡ handler_at copies
+  -- each copy has a body: no code is selected for the read of a table
+  pub no_tables : (c : ℕ) → q.reads c ≡ None
   pub same_handler : g.program.handler ≡ q.handler
   pub no_selects : g.banked ≡ false
   -- the first bytes
