@@ -6,23 +6,27 @@ import sys
 from chain import chain, lines_of
 
 HEADLINE = ['headline/OnChip', 'hex_image/HexFile', 'hex_image/HexText', 'pic_map/MapFile', 'pic_map/MapText']
+CONTRACT = ['picc_cli/Command', 'picc_cli/CommandView', 'picc_cli/Finished', 'picc_cli/Simulation', 'picc_cli/Traced', 'host_io/Host']
+# what is counted, and what is left out of the count with all that it stands on
 TOTALS = {
-    'In all': HEADLINE,
-    'contract': ['picc_cli/Command', 'picc_cli/CommandView', 'picc_cli/Finished', 'picc_cli/Simulation', 'picc_cli/Traced', 'host_io/Host'],
-    'source': ['headline/SourceOf', 'picc_core/Typed'],
+    'In all': (HEADLINE, []),
+    'contract': (CONTRACT, []),
+    'passes': (['picc_cli/Made'], CONTRACT),
+    'source': (['headline/SourceOf', 'picc_core/Typed'], []),
 }
 ROW = re.compile(r'^\| `(\w+/\w+)` \| (\d+) \|', re.MULTILINE)
 
 
-def total(top, names):
-    files = chain(top, names)
+def total(top, names, without):
+    left_out = chain(top, without)
+    files = [name for name in chain(top, names) if name not in left_out]
     return f'{len(files)} files, {sum(lines_of(top, name) for name in files)} lines'
 
 
 def corrected(top, page):
     """The page with the right numbers."""
-    for label, names in TOTALS.items():
-        page = re.sub(label + r': \d+ files, \d+ lines', f'{label}: {total(top, names)}', page)
+    for label, (names, without) in TOTALS.items():
+        page = re.sub(label + r': \d+ files, \d+ lines', f'{label}: {total(top, names, without)}', page)
     return ROW.sub(lambda row: f'| `{row[1]}` | {lines_of(top, row[1])} |', page)
 
 

@@ -17,8 +17,9 @@ use Rattle.src_rules.specs.Step.{step}
 use Rattle.src_values.specs.Memory.{Setting, first_memory}
 use Rattle.src_memory.specs.Shown.{address_of, shown, shown_byte}
 use Rattle.src_values.specs.declared.objects.Object.TheVariants.{Fixed}
-use Rattle.headline.specs.Headline.{Source, SourceRun}
-use Rattle.headline.specs.OnChip.{IsFaithful}
+use Rattle.headline.specs.Chips.{Chip}
+use Rattle.headline.specs.Headline.{Source, SourceRun, IsFaithfulOn}
+use Rattle.headline.specs.OnChip.{pic16f877a}
 
 -- ---- runs
 abbrev pub setting_of : Program → Outside → Setting
@@ -74,7 +75,11 @@ source_of p copies content = record {
   run = run_of p content;
 }
 
--- What the image does on the chip, seen by the map, is what the program says: the headline of a typed program.
-pub record IsFaithfulTo (p : Program) (content : MapContent) (image : List ℕ) : Type 0 where
+-- What the image does on a chip, seen by the map, is a run of this source of the program, with some copies.
+pub record IsFaithfulAs (chip : Chip) (source : Program → List FnCopy → MapContent → Source) (p : Program) (content : MapContent) (image : List ℕ) : Type 0 where
   pub copies : List FnCopy
-  pub faithful : IsFaithful (source_of p copies content) content image
+  pub faithful : IsFaithfulOn chip (source p copies content) content image
+
+-- What the image does on the chip, seen by the map, is what the program says: the headline of a typed program.
+abbrev pub IsFaithfulTo : Program → MapContent → List ℕ → Type 0
+IsFaithfulTo = IsFaithfulAs pic16f877a source_of

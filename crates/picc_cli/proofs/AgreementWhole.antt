@@ -12,6 +12,7 @@ use Rattle.picc_cli.specs.Agreement.{AgreementTells, Knows, status_of}
 use Rattle.picc_cli.specs.Command.{Compared}
 use Rattle.picc_cli.specs.Finished.{AgreementCompletes, ReadsEnd}
 use Rattle.picc_cli.specs.Inputs.{HasNoScript}
+use Rattle.picc_cli.specs.RunsTold.{RunsTell}
 use Rattle.host_lines.specs.Said.{GivesUp}
 use Rattle.picc_cli.specs.ScriptInput.{IsScript}
 use Rattle.picc_cli.proofs.FilesKept.{same_bytes, script_kept, script_ends, file_ends}
@@ -65,7 +66,7 @@ module _ (asked : Compared) (o : Contents) (result : ℕ) (quiet : result ≡ 3 
   read_ends (NoScript end) k e text script reads has = inr (inr (script_ends o asked.script end k result quiet e script has))
   read_ends NoMemory k e text script reads has = inr (inr (inr e))
 
-  pub agreement_whole : (before after : Option (List ℕ)) → AgreementTells asked o before after result → (result ≡ 0) ⊎ ((result ≡ 1) ⊎ ((result ≡ 4) ⊎ ((result ≡ 5) ⊎ (result ≡ 9))))
+  pub agreement_whole : (before after : Option (List ℕ)) → AgreementTells RunsTell asked o before after result → (result ≡ 0) ⊎ ((result ≡ 1) ⊎ ((result ≡ 4) ⊎ ((result ≡ 5) ⊎ (result ≡ 9))))
       → AgreementCompletes asked o result
   agreement_whole before after t ends =
       record {

@@ -8,9 +8,11 @@ use Rattle.picc_core.proofs.OneAnswer.{one_answer}
 use Rattle.picc_core.specs.Answers.{Tells}
 use Rattle.picc_core.specs.Decided.{IsAcceptedText}
 use Rattle.picc_core.specs.declared.refusal.Refusal.{Refusal}
+use Rattle.picc_cli.specs.Built.{IsBuilt}
 use Rattle.picc_cli.specs.Command.{Names, Form, Build}
 use Rattle.picc_cli.specs.Finished.{HasStatus, BuildHasFiles, BuildPrints, HasTold, IsComplete, IsRefusedText}
 use Rattle.picc_cli.specs.Lines.{cannot_read}
+use Rattle.picc_cli.specs.Made.{IsMade}
 use Rattle.picc_cli.specs.Outcome.{Refuses, BreaksOff, WorkedOn, is_fault, FailsWithoutInput, line_of, status_of}
 use Rattle.host_lines.specs.Said.{GivesUp, HasOutcomeCause, Says}
 use Rattle.picc_cli.proofs.Endings.{number_apart, up_apart, add_nothing, whole_line, counted_later, quiet_ends, quiet_nine}
@@ -28,7 +30,7 @@ module _ (names : Names) where
       record { known = inr (inr up); usage = λ f. up_apart 2 result (omega arith) f up; no_form = λ none. inr up }
 
   -- whatever the outcome was, an output that isn't whole has a prefix
-  breaks : (outcome : Outcome) (o : Contents) (new : Option Contents) → WorkedOn outcome names o new → BreaksOff names o new
+  breaks : (outcome : Outcome) (o : Contents) (new : Option Contents) → WorkedOn IsMade outcome names o new → BreaksOff IsMade names o new
   breaks Built o new w =
       inr (record {
         text = w.text;
@@ -44,7 +46,7 @@ module _ (names : Names) where
   breaks CannotWriteMap o new w = w
   breaks NoMemory o new w = w
 
-  refused_files : (why : Outcome) (o : Contents) (new : Option Contents) (result : ℕ) → Refuses why names o new → result ≡ 1 → BuildHasFiles names o new result
+  refused_files : (why : Outcome) (o : Contents) (new : Option Contents) (result : ℕ) → Refuses why names o new → result ≡ 1 → BuildHasFiles IsMade names o new result
   refused_files why o new result w e =
       record {
         built = λ f. number_apart 0 1 result (omega arith) f e;
@@ -52,7 +54,7 @@ module _ (names : Names) where
         broken = λ up. up_apart 1 result (omega arith) e up;
       }
 
-  said_files : (outcome : Outcome) (o : Contents) (new : Option Contents) (result : ℕ) → WorkedOn outcome names o new → result ≡ status_of outcome → BuildHasFiles names o new result
+  said_files : (outcome : Outcome) (o : Contents) (new : Option Contents) (result : ℕ) → WorkedOn IsMade outcome names o new → result ≡ status_of outcome → BuildHasFiles IsMade names o new result
   said_files Built o new result w e =
       record {
         built = λ _. w;
@@ -85,7 +87,7 @@ module _ (names : Names) where
         broken = λ up. w;
       }
 
-  unsaid_files : (outcome : Outcome) (o : Contents) (new : Option Contents) (result : ℕ) → WorkedOn outcome names o new → GivesUp result → BuildHasFiles names o new result
+  unsaid_files : (outcome : Outcome) (o : Contents) (new : Option Contents) (result : ℕ) → WorkedOn IsMade outcome names o new → GivesUp result → BuildHasFiles IsMade names o new result
   unsaid_files outcome o new result w up =
       record {
         built = λ e. up_apart 0 result (omega arith) e up;
@@ -93,11 +95,28 @@ module _ (names : Names) where
         broken = λ _. breaks outcome o new w;
       }
 
-  pub build_files : (outcome : Outcome) (old middle new : Option Contents) (kind : Kind) (before now : ℕ) (p q : Option (List ℕ)) (result : ℕ) → IfSome old (λ o. WorkedOn outcome names o middle)
-      → new ≡ middle → Says kind before now p q (line_of names outcome) (status_of outcome) result → IfSome old (λ o. BuildHasFiles names o new result)
+  pub build_files : (outcome : Outcome) (old middle new : Option Contents) (kind : Kind) (before now : ℕ) (p q : Option (List ℕ)) (result : ℕ) → IfSome old (λ o. WorkedOn IsMade outcome names o middle)
+      → new ≡ middle → Says kind before now p q (line_of names outcome) (status_of outcome) result → IfSome old (λ o. BuildHasFiles IsMade names o new result)
   build_files outcome None middle new kind before now p q result w same says = tt
-  build_files outcome (Some o) middle new kind before now p q result w same (inl s) = said_files outcome o new result (subst (WorkedOn outcome names o) (sym same) w) s.ends
-  build_files outcome (Some o) middle new kind before now p q result w same (inr u) = unsaid_files outcome o new result (subst (WorkedOn outcome names o) (sym same) w) u.ends
+  build_files outcome (Some o) middle new kind before now p q result w same (inl s) = said_files outcome o new result (subst (WorkedOn IsMade outcome names o) (sym same) w) s.ends
+  build_files outcome (Some o) middle new kind before now p q result w same (inr u) = unsaid_files outcome o new result (subst (WorkedOn IsMade outcome names o) (sym same) w) u.ends
+
+  -- whoever made them, the files are built
+  built_files : (o : Contents) (new : Option Contents) (result : ℕ) → BuildHasFiles IsMade names o new result → BuildHasFiles IsBuilt names o new result
+  built_files o new result is =
+      record {
+        built = λ e. let w = is.built e in record { text = w.text; hex = w.hex; map = w.map; read = w.read; built = w.built.built; files = w.files };
+        refused = is.refused;
+        broken = λ up.
+            elim (is.broken up) [
+              | inl same ↦ inl same
+              | inr w ↦ inr (record { text = w.text; hex = w.hex; map = w.map; read = w.read; built = w.built.built; files = w.files })
+            ];
+      }
+
+  pub files_built : (old new : Option Contents) (result : ℕ) → IfSome old (λ o. BuildHasFiles IsMade names o new result) → IfSome old (λ o. BuildHasFiles IsBuilt names o new result)
+  files_built None new result is = tt
+  files_built (Some o) new result is = built_files o new result is
 
   -- ---- the status
   refused_status : (result : ℕ) → result ≡ 1 → HasStatus form result
@@ -178,7 +197,7 @@ module _ (names : Names) where
       → q ≡ option_map (λ text. text ++ line_of names why) p → HasTold form o new p q result
   told_at why o new p q result w e st = record { why = why; refuses = w; printed = e }
 
-  said_told : (outcome : Outcome) (o : Contents) (new : Option Contents) (p q : Option (List ℕ)) (result : ℕ) → WorkedOn outcome names o new
+  said_told : (outcome : Outcome) (o : Contents) (new : Option Contents) (p q : Option (List ℕ)) (result : ℕ) → WorkedOn IsMade outcome names o new
       → q ≡ option_map (λ text. text ++ line_of names outcome) p → result ≡ status_of outcome → HasTold form o new p q result
   said_told Built o new p q result w e st = λ one. number_apart 0 1 result (omega arith) st one
   said_told (Refused refusal) o new p q result w e st = told_at (Refused refusal) o new p q result w e
@@ -188,17 +207,17 @@ module _ (names : Names) where
   said_told NoMemory o new p q result w e st = λ one. number_apart 1 9 result (omega arith) one st
 
   pub build_told : (outcome : Outcome) (old middle new : Option Contents) (kind : Kind) (before now : ℕ) (p still q : Option (List ℕ)) (result : ℕ)
-      → IfSome old (λ o. WorkedOn outcome names o middle) → new ≡ middle → still ≡ p
+      → IfSome old (λ o. WorkedOn IsMade outcome names o middle) → new ≡ middle → still ≡ p
       → Says kind before now still q (line_of names outcome) (status_of outcome) result → IfSome old (λ o. HasTold form o new p q result)
   build_told outcome None middle new kind before now p still q result w same quiet says = tt
   build_told outcome (Some o) middle new kind before now p still q result w same quiet (inl s) =
-      said_told outcome o new p q result (subst (WorkedOn outcome names o) (sym same) w) (s.printed ∙ ap (option_map (λ text. text ++ line_of names outcome)) quiet) s.ends
+      said_told outcome o new p q result (subst (WorkedOn IsMade outcome names o) (sym same) w) (s.printed ∙ ap (option_map (λ text. text ++ line_of names outcome)) quiet) s.ends
   build_told outcome (Some o) middle new kind before now p still q result w same quiet (inr u) = λ one. up_apart 1 result (omega arith) one u.ends
 
   -- ---- without a fault
-  text_ends : (outcome : Outcome) (o : Contents) (new : Option Contents) (result : ℕ) → WorkedOn outcome names o new → result ≡ status_of outcome
+  text_ends : (outcome : Outcome) (o : Contents) (new : Option Contents) (result : ℕ) → WorkedOn IsMade outcome names o new → result ≡ status_of outcome
       → (is_fault outcome ≡ true → ⊥) → (text : List ℕ) → o names.input ≡ Some text → ((result ≡ 0) × IsAcceptedText text) ⊎ (((result ≡ 1) × IsRefusedText text) ⊎ (result ≡ 9))
-  text_ends Built o new result w e quiet text read = inl (e, subst IsAcceptedText (same_bytes o names.input w.text text w.read read) w.built.accepted)
+  text_ends Built o new result w e quiet text read = inl (e, subst IsAcceptedText (same_bytes o names.input w.text text w.read read) w.built.built.accepted)
   text_ends (Refused refusal) o new result w e quiet text read =
       inr (inl (e, (refusal, subst (λ t. Tells t refusal) (same_bytes o names.input w.text text w.read read) w.tells)))
   text_ends CannotRead o new result w e quiet text read = absurd (quiet refl)
@@ -206,7 +225,7 @@ module _ (names : Names) where
   text_ends CannotWriteMap o new result w e quiet text read = absurd (quiet refl)
   text_ends NoMemory o new result w e quiet text read = inr (inr e)
 
-  accepted_ends : (outcome : Outcome) (o : Contents) (new : Option Contents) (result : ℕ) → WorkedOn outcome names o new → result ≡ status_of outcome
+  accepted_ends : (outcome : Outcome) (o : Contents) (new : Option Contents) (result : ℕ) → WorkedOn IsMade outcome names o new → result ≡ status_of outcome
       → (is_fault outcome ≡ true → ⊥) → (text : List ℕ) → o names.input ≡ Some text → IsAcceptedText text → (result ≡ 0) ⊎ (result ≡ 9)
   accepted_ends Built o new result w e quiet text read accepted = inl e
   accepted_ends (Refused refusal) o new result w e quiet text read accepted =
@@ -216,10 +235,10 @@ module _ (names : Names) where
   accepted_ends CannotWriteMap o new result w e quiet text read accepted = absurd (quiet refl)
   accepted_ends NoMemory o new result w e quiet text read accepted = inr e
 
-  refused_ends : (outcome : Outcome) (o : Contents) (new : Option Contents) (result : ℕ) → WorkedOn outcome names o new → result ≡ status_of outcome
+  refused_ends : (outcome : Outcome) (o : Contents) (new : Option Contents) (result : ℕ) → WorkedOn IsMade outcome names o new → result ≡ status_of outcome
       → (is_fault outcome ≡ true → ⊥) → (text : List ℕ) (refusal : Refusal) → o names.input ≡ Some text → Tells text refusal → (result ≡ 1) ⊎ (result ≡ 9)
   refused_ends Built o new result w e quiet text refusal read tells =
-      absurd ((one_answer text).either refusal (subst IsAcceptedText (same_bytes o names.input w.text text w.read read) w.built.accepted) tells)
+      absurd ((one_answer text).either refusal (subst IsAcceptedText (same_bytes o names.input w.text text w.read read) w.built.built.accepted) tells)
   refused_ends (Refused told) o new result w e quiet text refusal read tells = inl e
   refused_ends CannotRead o new result w e quiet text refusal read tells = absurd (quiet refl)
   refused_ends CannotWriteHex o new result w e quiet text refusal read tells = absurd (quiet refl)
@@ -227,7 +246,7 @@ module _ (names : Names) where
   refused_ends NoMemory o new result w e quiet text refusal read tells = inr e
 
   complete_at : (kind : Kind) (outcome : Outcome) (o : Contents) (middle : Option Contents) (first before now : ℕ) (p q : Option (List ℕ)) (result : ℕ)
-      → WorkedOn outcome names o middle → HasOutcomeCause kind first before (is_fault outcome)
+      → WorkedOn IsMade outcome names o middle → HasOutcomeCause kind first before (is_fault outcome)
       → Says kind before now p q (line_of names outcome) (status_of outcome) result → IsComplete kind first now form o result
   complete_at kind outcome o middle first before now p q result w cause (inl s) = λ quiet.
       let no_fault : is_fault outcome ≡ true → ⊥ = λ fault. quiet (subst (IsCounted kind first) (sym s.kept) (cause.failed fault)) in
@@ -245,7 +264,7 @@ module _ (names : Names) where
       }
 
   pub build_complete : (kind later : Kind) (outcome : Outcome) (old middle : Option Contents) (first before now : ℕ) (p q : Option (List ℕ)) (result : ℕ)
-      → IfSome old (λ o. WorkedOn outcome names o middle) → HasOutcomeCause kind first before (is_fault outcome) → later ≡ kind
+      → IfSome old (λ o. WorkedOn IsMade outcome names o middle) → HasOutcomeCause kind first before (is_fault outcome) → later ≡ kind
       → Says later before now p q (line_of names outcome) (status_of outcome) result → IfSome old (λ o. IsComplete kind first now form o result)
   build_complete kind later outcome None middle first before now p q result w cause alike says = tt
   build_complete kind later outcome (Some o) middle first before now p q result w cause alike says =

@@ -3,8 +3,8 @@ use Rattle.std.proofs.Common.{◌≡◌, ℕ, zero, suc, ◌+◌, ◌<◌, ◌�
 use Rattle.std.proofs.lemmas.List.{length-take}
 use Rattle.host_io.specs.Host.{Contents, put, IsRead, PutsPrefix}
 use Rattle.picc_cli.specs.declared.building.Outcome.TheVariants.{Built, Refused, CannotRead, CannotWriteHex, CannotWriteMap, NoMemory}
-use Rattle.picc_cli.specs.Built.{IsBuilt}
 use Rattle.picc_cli.specs.Command.{Names}
+use Rattle.picc_cli.specs.Made.{IsMade}
 use Rattle.picc_cli.specs.declared.building.Outcome.{Outcome}
 use Rattle.picc_cli.specs.Outcome.{TellsWhy, Refuses, BreaksOff, WorkedOn}
 use Rattle.picc_cli.proofs.Whole.{why_whole, tree_whole}
@@ -32,8 +32,8 @@ read_long most text bytes e long =
     let l : length bytes ≡ min (most + 1) (length text) = ap (length {A = ℕ}) (sym e) ∙ length-take (most + 1) text in
     omega arith
 
-built_whole : (text bytes hex map : List ℕ) → take 262145 text ≡ bytes → IsBuilt bytes hex map → IsBuilt text hex map
-built_whole text bytes hex map e built = subst (λ t. IsBuilt t hex map) (tree_whole text bytes e built.tree) built
+built_whole : (text bytes hex map : List ℕ) → take 262145 text ≡ bytes → IsMade bytes hex map → IsMade text hex map
+built_whole text bytes hex map e built = subst (λ t. IsMade t hex map) (tree_whole text bytes e built.built.tree) built
 
 -- ---- the calls of a build, one behind the other
 refused_at : (why : Outcome) (o : Contents) (new : Option Contents) (names : Names) (bytes : List ℕ) → IsRead names.input 262145 bytes o → new ≡ Some o
@@ -49,7 +49,7 @@ refused_at why o new names bytes read same tells =
 
 -- a text for which there is a reason, or no memory to find it
 refused_for : (why : Outcome) (o : Contents) (new : Option Contents) (names : Names) (bytes : List ℕ) → IsRead names.input 262145 bytes o → new ≡ Some o
-    → TellsWhy bytes why → WorkedOn why names o new
+    → TellsWhy bytes why → WorkedOn IsMade why names o new
 refused_for (Refused refusal) o new names bytes read same tells = refused_at (Refused refusal) o new names bytes read same tells
 refused_for Built o new names bytes read same tells = absurd tells
 refused_for CannotRead o new names bytes read same tells = absurd tells
@@ -57,8 +57,8 @@ refused_for CannotWriteHex o new names bytes read same tells = absurd tells
 refused_for CannotWriteMap o new names bytes read same tells = absurd tells
 refused_for NoMemory o new names bytes read same tells = absurd tells
 
-broken_hex_at : (old middle new : Option Contents) (names : Names) (bytes hex map : List ℕ) → IfSome old (IsRead names.input 262145 bytes) → middle ≡ old → IsBuilt bytes hex map
-    → PutsPrefix names.output hex middle new → IfSome old (λ o. BreaksOff names o new)
+broken_hex_at : (old middle new : Option Contents) (names : Names) (bytes hex map : List ℕ) → IfSome old (IsRead names.input 262145 bytes) → middle ≡ old → IsMade bytes hex map
+    → PutsPrefix names.output hex middle new → IfSome old (λ o. BreaksOff IsMade names o new)
 broken_hex_at None middle new names bytes hex map read same built puts = tt
 broken_hex_at (Some o) middle new names bytes hex map read same built (inl e) = inl (e ∙ same)
 broken_hex_at (Some o) middle new names bytes hex map read same built (inr (n, short, e)) =
@@ -72,8 +72,8 @@ broken_hex_at (Some o) middle new names bytes hex map read same built (inr (n, s
       files = inl (n, short, e ∙ ap (option_map (put names.output (take n hex))) same);
     })
 
-broken_map_at : (old middle half new : Option Contents) (names : Names) (bytes hex map : List ℕ) → IfSome old (IsRead names.input 262145 bytes) → middle ≡ old → IsBuilt bytes hex map
-    → half ≡ option_map (put names.output hex) middle → PutsPrefix names.map map half new → IfSome old (λ o. BreaksOff names o new)
+broken_map_at : (old middle half new : Option Contents) (names : Names) (bytes hex map : List ℕ) → IfSome old (IsRead names.input 262145 bytes) → middle ≡ old → IsMade bytes hex map
+    → half ≡ option_map (put names.output hex) middle → PutsPrefix names.map map half new → IfSome old (λ o. BreaksOff IsMade names o new)
 broken_map_at None middle half new names bytes hex map read same built first puts = tt
 broken_map_at (Some o) middle half new names bytes hex map read same built first (inl e) =
     let text = content_of 262145 (o names.input) bytes read in
@@ -96,8 +96,8 @@ broken_map_at (Some o) middle half new names bytes hex map read same built first
       files = inr (n, short, e ∙ ap (option_map (put names.map (take n map))) (first ∙ ap (option_map (put names.output hex)) same));
     })
 
-built_files_at : (old middle half new : Option Contents) (names : Names) (bytes hex map : List ℕ) → IfSome old (IsRead names.input 262145 bytes) → middle ≡ old → IsBuilt bytes hex map
-    → half ≡ option_map (put names.output hex) middle → new ≡ option_map (put names.map map) half → IfSome old (λ o. WorkedOn Built names o new)
+built_files_at : (old middle half new : Option Contents) (names : Names) (bytes hex map : List ℕ) → IfSome old (IsRead names.input 262145 bytes) → middle ≡ old → IsMade bytes hex map
+    → half ≡ option_map (put names.output hex) middle → new ≡ option_map (put names.map map) half → IfSome old (λ o. WorkedOn IsMade Built names o new)
 built_files_at None middle half new names bytes hex map read same built first second = tt
 built_files_at (Some o) middle half new names bytes hex map read same built first second =
     let text = content_of 262145 (o names.input) bytes read in
@@ -112,31 +112,31 @@ built_files_at (Some o) middle half new names bytes hex map read same built firs
 
 -- the same, where the calls were handed the bytes as slices
 unmade_at : (why : Outcome) (old new : Option Contents) (names : Names) (bytes : List ℕ) → IfSome old (IsRead names.input 262145 bytes) → new ≡ old
-    → (why ≡ NoMemory) ⊎ TellsWhy bytes why → IfSome old (λ o. WorkedOn why names o new)
+    → (why ≡ NoMemory) ⊎ TellsWhy bytes why → IfSome old (λ o. WorkedOn IsMade why names o new)
 unmade_at why None new names bytes read same told = tt
-unmade_at why (Some o) new names bytes read same (inl none) = subst (λ w. WorkedOn w names o new) (sym none) (inl same)
+unmade_at why (Some o) new names bytes read same (inl none) = subst (λ w. WorkedOn IsMade w names o new) (sym none) (inl same)
 unmade_at why (Some o) new names bytes read same (inr tells) = refused_for why o new names bytes read same tells
 
 pub unmade_files : (why : Outcome) (old new : Option Contents) (names : Names) (bytes text : List ℕ) → IfSome old (IsRead names.input 262145 bytes) → new ≡ old → text ≡ bytes
-    → (why ≡ NoMemory) ⊎ TellsWhy text why → IfSome old (λ o. WorkedOn why names o new)
+    → (why ≡ NoMemory) ⊎ TellsWhy text why → IfSome old (λ o. WorkedOn IsMade why names o new)
 unmade_files why old new names bytes text read same e told =
     unmade_at why old new names bytes read same (subst (λ t. (why ≡ NoMemory) ⊎ TellsWhy t why) e told)
 
 pub broken_hex : (old middle new : Option Contents) (names : Names) (bytes text hex map first : List ℕ) → IfSome old (IsRead names.input 262145 bytes) → middle ≡ old
-    → text ≡ bytes → IsBuilt text hex map → first ≡ hex → PutsPrefix names.output first middle new → IfSome old (λ o. BreaksOff names o new)
+    → text ≡ bytes → IsMade text hex map → first ≡ hex → PutsPrefix names.output first middle new → IfSome old (λ o. BreaksOff IsMade names o new)
 broken_hex old middle new names bytes text hex map first read same e built f puts =
-    broken_hex_at old middle new names bytes hex map read same (subst (λ t. IsBuilt t hex map) e built) (subst (λ t. PutsPrefix names.output t middle new) f puts)
+    broken_hex_at old middle new names bytes hex map read same (subst (λ t. IsMade t hex map) e built) (subst (λ t. PutsPrefix names.output t middle new) f puts)
 
 pub broken_map : (old middle half new : Option Contents) (names : Names) (bytes text hex map first second : List ℕ) → IfSome old (IsRead names.input 262145 bytes) → middle ≡ old
-    → text ≡ bytes → IsBuilt text hex map → first ≡ hex → half ≡ option_map (put names.output first) middle → second ≡ map → PutsPrefix names.map second half new
-    → IfSome old (λ o. BreaksOff names o new)
+    → text ≡ bytes → IsMade text hex map → first ≡ hex → half ≡ option_map (put names.output first) middle → second ≡ map → PutsPrefix names.map second half new
+    → IfSome old (λ o. BreaksOff IsMade names o new)
 broken_map old middle half new names bytes text hex map first second read same e built f one s puts =
-    broken_map_at old middle half new names bytes hex map read same (subst (λ t. IsBuilt t hex map) e built)
+    broken_map_at old middle half new names bytes hex map read same (subst (λ t. IsMade t hex map) e built)
     (one ∙ ap (λ t. option_map (put names.output t) middle) f) (subst (λ t. PutsPrefix names.map t half new) s puts)
 
 pub built_files : (old middle half new : Option Contents) (names : Names) (bytes text hex map first second : List ℕ) → IfSome old (IsRead names.input 262145 bytes) → middle ≡ old
-    → text ≡ bytes → IsBuilt text hex map → first ≡ hex → half ≡ option_map (put names.output first) middle → second ≡ map → new ≡ option_map (put names.map second) half
-    → IfSome old (λ o. WorkedOn Built names o new)
+    → text ≡ bytes → IsMade text hex map → first ≡ hex → half ≡ option_map (put names.output first) middle → second ≡ map → new ≡ option_map (put names.map second) half
+    → IfSome old (λ o. WorkedOn IsMade Built names o new)
 built_files old middle half new names bytes text hex map first second read same e built f one s two =
-    built_files_at old middle half new names bytes hex map read same (subst (λ t. IsBuilt t hex map) e built)
+    built_files_at old middle half new names bytes hex map read same (subst (λ t. IsMade t hex map) e built)
     (one ∙ ap (λ t. option_map (put names.output t) middle) f) (two ∙ ap (λ t. option_map (put names.map t) half) s)

@@ -10,6 +10,7 @@ use Rattle.picc_cli.specs.Command.{Form, Build, Trace, Simulate, Agree, Generate
 use Rattle.picc_cli.specs.Finished.{HasFiles, HasFaults, IsStatus, HasStatus, HasPrinted, HasTold, IsComplete}
 use Rattle.pic_sim.specs.Going.{Known}
 use Rattle.picc_cli.specs.Generated.{generated}
+use Rattle.picc_cli.specs.Made.{HasMade}
 use Rattle.host_lines.specs.Said.{IsLast}
 use Rattle.picc_cli.specs.Simulation.{HasSimulated, Knows}
 use Rattle.picc_cli.specs.Lines.{usage_line}
@@ -31,6 +32,16 @@ no_files (Some (Simulate asked)) (Some o) = refl
 no_files (Some (Agree asked)) (Some o) = refl
 no_files (Some (Generate functions)) (Some o) = refl
 no_files (Some (Check hex)) (Some o) = refl
+
+pub no_made : (form : Option Form) (old : Option Contents) (p : Option (List ℕ)) → IfSome old (λ o. HasMade form o old p p 9)
+no_made form None p = tt
+no_made None (Some o) p = tt
+no_made (Some (Build names)) (Some o) p = record { built = λ e. absurd (omega arith); refused = λ e. absurd (omega arith); broken = λ up. inl refl }
+no_made (Some (Trace asked)) (Some o) p = tt
+no_made (Some (Simulate asked)) (Some o) p = tt
+no_made (Some (Agree asked)) (Some o) p = record { ended = agree.NoMemory; knows = tt; exact = tt; last = inr (inr refl, nothing_of p []) }
+no_made (Some (Generate functions)) (Some o) p = tt
+no_made (Some (Check hex)) (Some o) p = tt
 
 pub no_faults : (form : Option Form) (kind : Kind) (count : ℕ) (old : Option Contents) → HasFaults kind count count form old 9
 no_faults form kind count old =

@@ -10,7 +10,7 @@ use Rattle.picc_cli.specs.Command.{Asked, Compared}
 use Rattle.picc_cli.specs.Inputs as inputs
 use Rattle.picc_cli.specs.Lines.{cannot_read, undefined_line}
 use Rattle.picc_cli.specs.Refusals.{refusal_line}
-use Rattle.picc_cli.specs.RunsTold.{IsExact}
+use Rattle.picc_cli.specs.RunsTold.{IsExact, Runs}
 use Rattle.host_lines.specs.Said.{GivesUp, IsLast, Prints}
 use Rattle.picc_cli.specs.ScriptInput.{IsScript}
 use Rattle.picc_cli.specs.Trace.{Reads}
@@ -105,8 +105,8 @@ Knows asked old CannotReadText = Unit {0}
 Knows asked old NoMemory = Unit {0}
 
 -- With this status, and with these bytes printed, a comparison ended so, and what it told of the runs is just what is to be told.
-pub record AgreementTells (asked : Compared) (old : Contents) (before after : Option (List ℕ)) (result : ℕ) : Type 0 where
+pub record AgreementTells (Tell : Runs) (asked : Compared) (old : Contents) (before after : Option (List ℕ)) (result : ℕ) : Type 0 where
   pub ended : Ended
   pub knows : Knows asked old ended
-  pub exact : IsExact asked old ended
+  pub exact : IsExact Tell asked old ended
   pub last : IsLast (status_of ended) (last_line asked ended) before after result

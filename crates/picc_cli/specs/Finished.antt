@@ -1,19 +1,23 @@
 -- What the exit status of a command says.
 use Rattle.std.specs.Prelude.{ℕ, ◌≡◌, ◌<◌, ◌≤◌, ◌⊎◌, IsTrue, Option, Some, None, List, ◌++◌, option_map}
 use Rattle.host_io.specs.Host.{Kind, Contents, Lacks, PrintsPrefix, IsCounted}
-use Rattle.picc_core.specs.Answers.{Tells}
-use Rattle.picc_core.specs.Decided.{IsAcceptedText}
+use Rattle.picc_core.specs.Answers.{Tells, TellsBy}
+use Rattle.picc_core.specs.Compiled.{plain}
+use Rattle.picc_core.specs.Compiled as builds
+use Rattle.picc_core.specs.Decided.{IsAcceptedBy, IsAcceptedText}
 use Rattle.picc_core.specs.declared.refusal.Refusal.{Refusal}
 use Rattle.picc_cli.specs.declared.building.Outcome.{Outcome}
 use Rattle.picc_cli.specs.declared.tracing.Ended.{Ended}
 use Rattle.picc_cli.specs.Agreement as agreement
+use Rattle.picc_cli.specs.Built.{IsBuiltBy}
 use Rattle.picc_cli.specs.Checked.{CheckPrints, CheckTells, CheckCompletes}
 use Rattle.picc_cli.specs.Chip as chip
 use Rattle.picc_cli.specs.Command.{Names, Asked, Compared, Form, Build, Trace, Simulate, Agree, Generate, Check}
 use Rattle.picc_cli.specs.Generated.{generated}
 use Rattle.picc_cli.specs.Lines.{usage_line, cannot_read}
 use Rattle.picc_cli.specs.Outcome as build
-use Rattle.picc_cli.specs.Outcome.{Builds, Refuses, BreaksOff}
+use Rattle.picc_cli.specs.Outcome.{Files, Builds, RefusesBy, BreaksOff}
+use Rattle.picc_cli.specs.RunsTold.{RunsTell}
 use Rattle.host_lines.specs.Said.{GivesUp, Prints}
 use Rattle.picc_cli.specs.Simulation.{SimulationCompletes}
 use Rattle.picc_cli.specs.Summary as generation
@@ -23,15 +27,19 @@ use Rattle.picc_cli.specs.ScriptInput.{IsScript}
 use Rattle.picc_cli.specs.Trace.{Knows, IsTraceText}
 
 -- ---- the files, where the host tells what they held before
-pub record BuildHasFiles (names : Names) (old : Contents) (new : Option Contents) (result : ℕ) : Type 0 where
-  pub built : result ≡ 0 → Builds names old new
-  pub refused : result ≡ 1 → (why : Outcome) × Refuses why names old new
-  pub broken : GivesUp result → BreaksOff names old new
+-- Of a build: what its files are said to be is the promise (`IsBuiltBy`), or that the passes made them besides (`IsMade`).
+pub record BuildHasFilesBy (b : builds.Build) (Are : Files) (names : Names) (old : Contents) (new : Option Contents) (result : ℕ) : Type 0 where
+  pub built : result ≡ 0 → Builds Are names old new
+  pub refused : result ≡ 1 → (why : Outcome) × RefusesBy b why names old new
+  pub broken : GivesUp result → BreaksOff Are names old new
+
+abbrev pub BuildHasFiles : Files → Names → Contents → Option Contents → ℕ → Type 0
+BuildHasFiles = BuildHasFilesBy plain
 
 -- Only a build writes files.
 abbrev pub HasFiles : Option Form → Contents → Option Contents → ℕ → Type 0
 HasFiles None old new result = new ≡ Some old
-HasFiles (Some (Build names)) old new result = BuildHasFiles names old new result
+HasFiles (Some (Build names)) old new result = BuildHasFilesBy plain (IsBuiltBy plain) names old new result
 HasFiles (Some (Trace asked)) old new result = new ≡ Some old
 HasFiles (Some (Simulate asked)) old new result = new ≡ Some old
 HasFiles (Some (Agree asked)) old new result = new ≡ Some old
@@ -110,9 +118,9 @@ HasPrinted kind (Some (Check hex)) files old new result = CheckPrints kind hex o
 
 -- ---- where the host tells both
 -- the line that is printed is that of a refusal that holds of the text
-pub record BuildTells (names : Names) (old : Contents) (new : Option Contents) (before after : Option (List ℕ)) : Type 0 where
+pub record BuildTells (b : builds.Build) (names : Names) (old : Contents) (new : Option Contents) (before after : Option (List ℕ)) : Type 0 where
   pub why : Outcome
-  pub refuses : Refuses why names old new
+  pub refuses : RefusesBy b why names old new
   pub printed : after ≡ option_map (λ text. text ++ build.line_of names why) before
 
 -- what is printed holds of the text and of the script
@@ -126,25 +134,28 @@ pub record TraceTells (asked : Asked) (old : Contents) (before after : Option (L
 
 abbrev pub HasTold : Option Form → Contents → Option Contents → Option (List ℕ) → Option (List ℕ) → ℕ → Type 0
 HasTold None old new before after result = Unit {0}
-HasTold (Some (Build names)) old new before after result = result ≡ 1 → BuildTells names old new before after
+HasTold (Some (Build names)) old new before after result = result ≡ 1 → BuildTells plain names old new before after
 HasTold (Some (Trace asked)) old new before after result = GivesUp result ⊎ TraceTells asked old before after result
-HasTold (Some (Agree asked)) old new before after result = agreement.AgreementTells asked old before after result
+HasTold (Some (Agree asked)) old new before after result = agreement.AgreementTells RunsTell asked old before after result
 HasTold (Some (Generate functions)) old new before after result = GenerationTells functions before after result
 HasTold (Some (Check hex)) old new before after result = CheckTells hex old before after result
 -- what a simulation does is told with its board (HasSimulated)
 HasTold (Some (Simulate asked)) old new before after result = Unit {0}
 
 -- ---- without a fault and with memory enough, each command ends as it is to end
--- some refusal holds of the text
+-- some refusal holds of the text, by what the build accepts
+abbrev pub IsRefusedTextBy : builds.Build → List ℕ → Type 0
+IsRefusedTextBy b text = (refusal : Refusal) × TellsBy b.RefusesFirst text refusal
+
 abbrev pub IsRefusedText : List ℕ → Type 0
-IsRefusedText text = (refusal : Refusal) × Tells text refusal
+IsRefusedText = IsRefusedTextBy plain
 
 -- An accepted text is built, and one that is refused for some reason isn't. Unless memory runs out one of the two comes, and the status
 -- says which.
-pub record BuildCompletes (names : Names) (old : Contents) (result : ℕ) : Type 0 where
-  pub ends : (text : List ℕ) → old names.input ≡ Some text → ((result ≡ 0) × IsAcceptedText text) ⊎ (((result ≡ 1) × IsRefusedText text) ⊎ (result ≡ 9))
-  pub accepted : (text : List ℕ) → old names.input ≡ Some text → IsAcceptedText text → (result ≡ 0) ⊎ (result ≡ 9)
-  pub refused : (text : List ℕ) (refusal : Refusal) → old names.input ≡ Some text → Tells text refusal → (result ≡ 1) ⊎ (result ≡ 9)
+pub record BuildCompletes (b : builds.Build) (names : Names) (old : Contents) (result : ℕ) : Type 0 where
+  pub ends : (text : List ℕ) → old names.input ≡ Some text → ((result ≡ 0) × IsAcceptedBy b.Accepts text) ⊎ (((result ≡ 1) × IsRefusedTextBy b text) ⊎ (result ≡ 9))
+  pub accepted : (text : List ℕ) → old names.input ≡ Some text → IsAcceptedBy b.Accepts text → (result ≡ 0) ⊎ (result ≡ 9)
+  pub refused : (text : List ℕ) (refusal : Refusal) → old names.input ≡ Some text → TellsBy b.RefusesFirst text refusal → (result ≡ 1) ⊎ (result ≡ 9)
 
 -- The status says that the text is accepted, or that it is refused, and that there is a script; or that there is none.
 abbrev pub ReadsEnd : List ℕ → List ℕ → ℕ → Type 0
@@ -174,7 +185,7 @@ pub record GenerationCompletes (functions result : ℕ) : Type 0 where
 
 abbrev pub Completes : Option Form → Contents → ℕ → Type 0
 Completes None old result = (result ≡ 2) ⊎ (result ≡ 9)
-Completes (Some (Build names)) old result = BuildCompletes names old result
+Completes (Some (Build names)) old result = BuildCompletes plain names old result
 Completes (Some (Trace asked)) old result = TraceCompletes asked old result
 Completes (Some (Simulate asked)) old result = SimulationCompletes asked old result
 Completes (Some (Agree asked)) old result = AgreementCompletes asked old result

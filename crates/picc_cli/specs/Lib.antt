@@ -10,6 +10,7 @@ pub mod Trace
 pub mod Inputs
 pub mod Chip
 pub mod RunsTold
+pub mod Made
 pub mod Agreement
 pub mod Simulation
 pub mod Summary

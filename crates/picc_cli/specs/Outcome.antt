@@ -3,55 +3,65 @@ use Rattle.std.specs.Prelude.{ℕ, ◌≡◌, ◌≤◌, ◌⊎◌, Bool, true, 
 use Rattle.host_io.specs.Host.{Kind, Contents, put, Lacks}
 use Rattle.picc_cli.specs.declared.building.Outcome.{Outcome}
 use Rattle.picc_cli.specs.declared.building.Outcome.TheVariants.{Built, Refused, CannotRead, CannotWriteHex, CannotWriteMap, NoMemory}
-use Rattle.picc_core.specs.Answers.{Tells}
-use Rattle.picc_cli.specs.Built.{IsBuilt}
+use Rattle.picc_core.specs.Answers.{TellsBy}
+use Rattle.picc_core.specs.Compiled.{Build, plain}
 use Rattle.picc_cli.specs.Command.{Names}
 use Rattle.picc_cli.specs.Lines.{cannot_read}
 use Rattle.picc_cli.specs.Refusals.{refusal_line}
 
 -- ---- the files
+-- What is known of a text and of the texts of the two outputs.
+abbrev pub Files : Type 1
+Files = List ℕ → List ℕ → List ℕ → Type 0
+
 -- the two outputs have the files of the input's text; all other names are as before
-pub record Builds (names : Names) (old : Contents) (new : Option Contents) : Type 0 where
+pub record Builds (Are : Files) (names : Names) (old : Contents) (new : Option Contents) : Type 0 where
   pub text : List ℕ
   pub hex : List ℕ
   pub map : List ℕ
   pub read : old names.input ≡ Some text
-  pub built : IsBuilt text hex map
+  pub built : Are text hex map
   pub files : new ≡ Some (put names.map map (put names.output hex old))
 
--- Why a text isn't built: it is refused, and the refusal tells this of the text.
+-- Why a text isn't built: it is refused by what the build accepts, and the refusal tells this of the text.
+abbrev pub TellsWhyBy : Build → List ℕ → Outcome → Type 0
+TellsWhyBy b text (Refused refusal) = TellsBy b.RefusesFirst text refusal
+TellsWhyBy b text _ = ⊥
+
 abbrev pub TellsWhy : List ℕ → Outcome → Type 0
-TellsWhy text (Refused refusal) = Tells text refusal
-TellsWhy text _ = ⊥
+TellsWhy = TellsWhyBy plain
 
 -- the input is refused for this reason, and every file is as before
-pub record Refuses (why : Outcome) (names : Names) (old : Contents) (new : Option Contents) : Type 0 where
+pub record RefusesBy (b : Build) (why : Outcome) (names : Names) (old : Contents) (new : Option Contents) : Type 0 where
   pub text : List ℕ
   pub read : old names.input ≡ Some text
-  pub tells : TellsWhy text why
+  pub tells : TellsWhyBy b text why
   pub files : new ≡ Some old
 
+abbrev pub Refuses : Outcome → Names → Contents → Option Contents → Type 0
+Refuses = RefusesBy plain
+
 -- the HEX has a prefix of its bytes, or all of them and the map a prefix
-pub record BuildsPartly (names : Names) (old : Contents) (new : Option Contents) : Type 0 where
+pub record BuildsPartly (Are : Files) (names : Names) (old : Contents) (new : Option Contents) : Type 0 where
   pub text : List ℕ
   pub hex : List ℕ
   pub map : List ℕ
   pub read : old names.input ≡ Some text
-  pub built : IsBuilt text hex map
+  pub built : Are text hex map
   pub files : ((n : ℕ) × (n ≤ length hex) × (new ≡ Some (put names.output (take n hex) old)))
       ⊎ ((n : ℕ) × (n ≤ length map) × (new ≡ Some (put names.map (take n map) (put names.output hex old))))
 
 -- every file is as before, or the outputs have prefixes of their bytes
-abbrev pub BreaksOff : Names → Contents → Option Contents → Type 0
-BreaksOff names old new = (new ≡ Some old) ⊎ BuildsPartly names old new
+abbrev pub BreaksOff : Files → Names → Contents → Option Contents → Type 0
+BreaksOff Are names old new = (new ≡ Some old) ⊎ BuildsPartly Are names old new
 
-abbrev pub WorkedOn : Outcome → Names → Contents → Option Contents → Type 0
-WorkedOn Built names old new = Builds names old new
-WorkedOn (Refused refusal) names old new = Refuses (Refused refusal) names old new
-WorkedOn CannotRead names old new = new ≡ Some old
-WorkedOn CannotWriteHex names old new = BreaksOff names old new
-WorkedOn CannotWriteMap names old new = BreaksOff names old new
-WorkedOn NoMemory names old new = BreaksOff names old new
+abbrev pub WorkedOn : Files → Outcome → Names → Contents → Option Contents → Type 0
+WorkedOn Are Built names old new = Builds Are names old new
+WorkedOn Are (Refused refusal) names old new = Refuses (Refused refusal) names old new
+WorkedOn Are CannotRead names old new = new ≡ Some old
+WorkedOn Are CannotWriteHex names old new = BreaksOff Are names old new
+WorkedOn Are CannotWriteMap names old new = BreaksOff Are names old new
+WorkedOn Are NoMemory names old new = BreaksOff Are names old new
 
 -- ---- faults
 abbrev pub is_fault : Outcome → Bool

@@ -56,19 +56,29 @@ pub record IsRun (image : List ℕ) (map : MapContent) (script : ScriptContent) 
   pub tracing : Tracing
   pub went : Went image n (record { chip = first_chip; tracing = first_look map; events = []; board = fed }) (record { chip = chip; tracing = tracing; events = events; board = now }) end
 
+-- ---- chips
+-- What a simulation is said by: the run of an image over a board, and its stop and its trace by the chip's own definitions.
+pub record Simulator : Type 1 where
+  -- the run of so many instructions, seen by a map, over a board that is fed this script: what it was and became, the events, and how it ended
+  pub Ran : List ℕ → MapContent → ScriptContent → ℕ → Known → Known → List Event → SimEnd → Type 0
+  -- within so many instructions it comes to SLEEP, or to a word without a row
+  pub stops : List ℕ → MapContent → ScriptContent → ℕ → Bool
+  -- its trace at this moment
+  pub trace : List ℕ → MapContent → ScriptContent → ℕ → List Event
+
 -- ---- what was printed of it
 -- the lines of all its events
-pub record PrintsRun (image : List ℕ) (map : MapContent) (script : ScriptContent) (n : ℕ) (before now : Known) (end : SimEnd) (p q : Option (List ℕ)) : Type 0 where
+pub record PrintsRunBy (s : Simulator) (image : List ℕ) (map : MapContent) (script : ScriptContent) (n : ℕ) (before now : Known) (end : SimEnd) (p q : Option (List ℕ)) : Type 0 where
   pub events : List Event
-  pub run : IsRun image map script n before now events end
+  pub run : s.Ran image map script n before now events end
   pub shown : AllShown map events
   pub printed : q ≡ option_map (λ t. t ++ event_lines map events) p
 
 -- or a prefix of them
-pub record BreaksRun (image : List ℕ) (map : MapContent) (script : ScriptContent) (n : ℕ) (before now : Known) (p q : Option (List ℕ)) : Type 0 where
+pub record BreaksRunBy (s : Simulator) (image : List ℕ) (map : MapContent) (script : ScriptContent) (n : ℕ) (before now : Known) (p q : Option (List ℕ)) : Type 0 where
   pub end : SimEnd
   pub events : List Event
-  pub run : IsRun image map script n before now events end
+  pub run : s.Ran image map script n before now events end
   pub printed : PrintsPrefix p q (event_lines map events)
 
 -- What was printed of a run with these events and this end, where the simulation ended so.
@@ -86,25 +96,25 @@ abbrev pub NothingRan : Known → Known → Option (List ℕ) → Option (List �
 NothingRan before now p q = (now.lists ≡ before.lists) × (q ≡ p)
 
 -- What a run that ended so has done and printed.
-abbrev pub Runs : List ℕ → MapContent → ScriptContent → ℕ → Known → Known → Ended → Option (List ℕ) → Option (List ℕ) → Type 0
-Runs image map script n before now Done p q = PrintsRun image map script n before now sim.Done p q
-Runs image map script n before now (Unmodelled at) p q = PrintsRun image map script n before now (sim.Unmodelled at) p q
-Runs image map script n before now CannotPrint p q = BreaksRun image map script n before now p q
-Runs image map script n before now NoMemory p q = NothingRan before now p q ⊎ BreaksRun image map script n before now p q
-Runs image map script n before now (NoHex end) p q = ⊥
-Runs image map script n before now (NoMap end) p q = ⊥
-Runs image map script n before now (NoScript end) p q = ⊥
+abbrev pub RunsBy : Simulator → List ℕ → MapContent → ScriptContent → ℕ → Known → Known → Ended → Option (List ℕ) → Option (List ℕ) → Type 0
+RunsBy s image map script n before now Done p q = PrintsRunBy s image map script n before now sim.Done p q
+RunsBy s image map script n before now (Unmodelled at) p q = PrintsRunBy s image map script n before now (sim.Unmodelled at) p q
+RunsBy s image map script n before now CannotPrint p q = BreaksRunBy s image map script n before now p q
+RunsBy s image map script n before now NoMemory p q = NothingRan before now p q ⊎ BreaksRunBy s image map script n before now p q
+RunsBy s image map script n before now (NoHex end) p q = ⊥
+RunsBy s image map script n before now (NoMap end) p q = ⊥
+RunsBy s image map script n before now (NoScript end) p q = ⊥
 
 -- ---- the whole simulation
 -- all three files are such as they are to be, and this is the run of what they hold
-pub record Simulates (asked : Simulated) (old : Contents) (before now : Known) (ended : Ended) (p q : Option (List ℕ)) : Type 0 where
+pub record SimulatesBy (s : Simulator) (asked : Simulated) (old : Contents) (before now : Known) (ended : Ended) (p q : Option (List ℕ)) : Type 0 where
   pub image : List ℕ
   pub map : MapContent
   pub script : ScriptContent
   pub hex_file : IsFile old asked.hex (IsHexInput image)
   pub map_file : IsFile old asked.map (IsMapInput map)
   pub script_file : IsFile old asked.script (IsScriptInput script)
-  pub runs : Runs image map script asked.instructions before now ended p q
+  pub runs : RunsBy s image map script asked.instructions before now ended p q
 
 pub record LacksMap (asked : Simulated) (old : Contents) (Of : Type 0) : Type 0 where
   pub image : List ℕ
@@ -119,24 +129,16 @@ pub record LacksScript (asked : Simulated) (old : Contents) (Of : Type 0) : Type
   pub of_script : Of
 
 -- What is known of a simulation that ended so: of its files, the first that isn't such as it is to be; where all are, the run.
-abbrev pub Knows : Simulated → Contents → Known → Known → Ended → Option (List ℕ) → Option (List ℕ) → Type 0
-Knows asked old before now Done p q = Simulates asked old before now Done p q
-Knows asked old before now (Unmodelled at) p q = Simulates asked old before now (Unmodelled at) p q
-Knows asked old before now CannotPrint p q = Simulates asked old before now CannotPrint p q
-Knows asked old before now NoMemory p q = NothingRan before now p q ⊎ Simulates asked old before now NoMemory p q
-Knows asked old before now (NoHex end) p q = HasNoHex old asked.hex end × NothingRan before now p q
-Knows asked old before now (NoMap end) p q = LacksMap asked old (HasNoMap old asked.map end) × NothingRan before now p q
-Knows asked old before now (NoScript end) p q = LacksScript asked old (HasNoScript old asked.script end) × NothingRan before now p q
+abbrev pub KnowsBy : Simulator → Simulated → Contents → Known → Known → Ended → Option (List ℕ) → Option (List ℕ) → Type 0
+KnowsBy s asked old before now Done p q = SimulatesBy s asked old before now Done p q
+KnowsBy s asked old before now (Unmodelled at) p q = SimulatesBy s asked old before now (Unmodelled at) p q
+KnowsBy s asked old before now CannotPrint p q = SimulatesBy s asked old before now CannotPrint p q
+KnowsBy s asked old before now NoMemory p q = NothingRan before now p q ⊎ SimulatesBy s asked old before now NoMemory p q
+KnowsBy s asked old before now (NoHex end) p q = HasNoHex old asked.hex end × NothingRan before now p q
+KnowsBy s asked old before now (NoMap end) p q = LacksMap asked old (HasNoMap old asked.map end) × NothingRan before now p q
+KnowsBy s asked old before now (NoScript end) p q = LacksScript asked old (HasNoScript old asked.script end) × NothingRan before now p q
 
 -- ---- whether the run stops
--- the run from the same reset by the chip's own definitions, with these input bytes and arrivals
-abbrev pub run_by : List ℕ → MapContent → ScriptContent → Setting
-run_by image map script = record { image = image; watch = watch_of map; start = zeros; inputs = script.input; arrivals = script.arrivals }
-
--- within so many instructions it comes to SLEEP, or to a word without a row
-abbrev pub stops_within : List ℕ → MapContent → ScriptContent → ℕ → Bool
-stops_within image map script n = (moment (run_by image map script) n).stopped
-
 -- From that reset on the board has answered as this script has it: its lists have grown by the next input bytes, and by the flags that
 -- arrive at each index.
 pub record Answers (script : ScriptContent) (before now : Known) : Type 0 where
@@ -153,15 +155,15 @@ ComesBy true result = (result ≡ 6) ⊎ GivesUp result
 ComesBy false result = (result ≡ 0) ⊎ GivesUp result
 
 -- Of three files that are such as they are to be.
-pub record StopsAsRun (asked : Simulated) (old : Contents) (before now : Known) (result : ℕ) : Type 0 where
+pub record StopsAsRunBy (s : Simulator) (asked : Simulated) (old : Contents) (before now : Known) (result : ℕ) : Type 0 where
   -- the run by the script that the answers of the board are, whichever board it is,
   pub answered : (image : List ℕ) (map : MapContent) (script answers : ScriptContent)
       → IsFile old asked.hex (IsHexInput image) → IsFile old asked.map (IsMapInput map) → IsFile old asked.script (IsScriptInput script)
-      → Answers answers before now → ComesBy (stops_within image map answers asked.instructions) result
+      → Answers answers before now → ComesBy (s.stops image map answers asked.instructions) result
   -- and of a board that follows scripts, and has given no byte before, the run by the script of the file
   pub followed : (image : List ℕ) (map : MapContent) (script : ScriptContent)
       → IsFile old asked.hex (IsHexInput image) → IsFile old asked.map (IsMapInput map) → IsFile old asked.script (IsScriptInput script)
-      → IsSome before.follows → before.lists.given ≡ [] → ComesBy (stops_within image map script asked.instructions) result
+      → IsSome before.follows → before.lists.given ≡ [] → ComesBy (s.stops image map script asked.instructions) result
 
 -- ---- the trace of the run
 -- all instructions were run, or all up to a word that isn't run, and no line of an event is left out
@@ -175,37 +177,77 @@ ran_whole CannotPrint = false
 ran_whole NoMemory = false
 
 -- the lines of the whole trace of the run by the chip's own definitions, up to this moment
-abbrev pub PrintsTrace : List ℕ → MapContent → ScriptContent → ℕ → Option (List ℕ) → Option (List ℕ) → Type 0
-PrintsTrace image map script n p q = q ≡ option_map (λ t. t ++ event_lines map (moment (run_by image map script) n).trace) p
+abbrev pub PrintsTraceBy : Simulator → List ℕ → MapContent → ScriptContent → ℕ → Option (List ℕ) → Option (List ℕ) → Type 0
+PrintsTraceBy s image map script n p q = q ≡ option_map (λ t. t ++ event_lines map (s.trace image map script n)) p
 
 -- Of three files that are such as they are to be, where the run ended well.
-pub record PrintsAsRun (asked : Simulated) (old : Contents) (before now : Known) (ended : Ended) (p middle : Option (List ℕ)) : Type 0 where
+pub record PrintsAsRunBy (s : Simulator) (asked : Simulated) (old : Contents) (before now : Known) (ended : Ended) (p middle : Option (List ℕ)) : Type 0 where
   -- the trace of the run by the script that the answers of the board are, whichever board it is,
   pub answered : (image : List ℕ) (map : MapContent) (script answers : ScriptContent)
       → IsFile old asked.hex (IsHexInput image) → IsFile old asked.map (IsMapInput map) → IsFile old asked.script (IsScriptInput script)
-      → ran_whole ended ≡ true → Answers answers before now → PrintsTrace image map answers asked.instructions p middle
+      → ran_whole ended ≡ true → Answers answers before now → PrintsTraceBy s image map answers asked.instructions p middle
   -- and of a board that follows scripts, and has given no byte before, of the run by the script of the file
   pub followed : (image : List ℕ) (map : MapContent) (script : ScriptContent)
       → IsFile old asked.hex (IsHexInput image) → IsFile old asked.map (IsMapInput map) → IsFile old asked.script (IsScriptInput script)
-      → ran_whole ended ≡ true → IsSome before.follows → before.lists.given ≡ [] → PrintsTrace image map script asked.instructions p middle
+      → ran_whole ended ≡ true → IsSome before.follows → before.lists.given ≡ [] → PrintsTraceBy s image map script asked.instructions p middle
 
 -- With this status, and with these bytes printed, a simulation ended so: `middle` is what was printed before its last line.
-pub record SimulationTells (asked : Simulated) (old : Contents) (before now : Known) (p q : Option (List ℕ)) (result : ℕ) : Type 0 where
+pub record SimulationTellsBy (s : Simulator) (asked : Simulated) (old : Contents) (before now : Known) (p q : Option (List ℕ)) (result : ℕ) : Type 0 where
   pub ended : Ended
   pub middle : Option (List ℕ)
-  pub knows : Knows asked old before now ended p middle
+  pub knows : KnowsBy s asked old before now ended p middle
   pub last : IsLast (status_of ended) (last_line asked ended) middle q result
   -- 6 comes just where the run stops, and 0 just where it doesn't
-  pub stops : StopsAsRun asked old before now result
+  pub stops : StopsAsRunBy s asked old before now result
   -- and where either comes, the trace of that run is printed
-  pub traces : PrintsAsRun asked old before now ended p middle
+  pub traces : PrintsAsRunBy s asked old before now ended p middle
 
+-- ---- the PIC16F877A
+-- the run from the same reset by the chip's own definitions, with these input bytes and arrivals
+abbrev pub run_by : List ℕ → MapContent → ScriptContent → Setting
+run_by image map script = record { image = image; watch = watch_of map; start = zeros; inputs = script.input; arrivals = script.arrivals }
+
+-- within so many instructions it comes to SLEEP, or to a word without a row
+abbrev pub stops_within : List ℕ → MapContent → ScriptContent → ℕ → Bool
+stops_within image map script n = (moment (run_by image map script) n).stopped
+
+abbrev pub pic16f877a : Simulator
+pic16f877a = record { Ran = IsRun; stops = stops_within; trace = λ image map script n. (moment (run_by image map script) n).trace }
+
+abbrev pub PrintsRun : List ℕ → MapContent → ScriptContent → ℕ → Known → Known → SimEnd → Option (List ℕ) → Option (List ℕ) → Type 0
+PrintsRun = PrintsRunBy pic16f877a
+
+abbrev pub BreaksRun : List ℕ → MapContent → ScriptContent → ℕ → Known → Known → Option (List ℕ) → Option (List ℕ) → Type 0
+BreaksRun = BreaksRunBy pic16f877a
+
+abbrev pub Runs : List ℕ → MapContent → ScriptContent → ℕ → Known → Known → Ended → Option (List ℕ) → Option (List ℕ) → Type 0
+Runs = RunsBy pic16f877a
+
+abbrev pub Simulates : Simulated → Contents → Known → Known → Ended → Option (List ℕ) → Option (List ℕ) → Type 0
+Simulates = SimulatesBy pic16f877a
+
+abbrev pub Knows : Simulated → Contents → Known → Known → Ended → Option (List ℕ) → Option (List ℕ) → Type 0
+Knows = KnowsBy pic16f877a
+
+abbrev pub StopsAsRun : Simulated → Contents → Known → Known → ℕ → Type 0
+StopsAsRun = StopsAsRunBy pic16f877a
+
+abbrev pub PrintsTrace : List ℕ → MapContent → ScriptContent → ℕ → Option (List ℕ) → Option (List ℕ) → Type 0
+PrintsTrace = PrintsTraceBy pic16f877a
+
+abbrev pub PrintsAsRun : Simulated → Contents → Known → Known → Ended → Option (List ℕ) → Option (List ℕ) → Type 0
+PrintsAsRun = PrintsAsRunBy pic16f877a
+
+abbrev pub SimulationTells : Simulated → Contents → Known → Known → Option (List ℕ) → Option (List ℕ) → ℕ → Type 0
+SimulationTells = SimulationTellsBy pic16f877a
+
+-- ---- forms
 -- of the other forms this says nothing
 abbrev pub HasSimulated : Option Form → Contents → Known → Known → Option (List ℕ) → Option (List ℕ) → ℕ → Type 0
 HasSimulated None old before now p q result = Unit {0}
 HasSimulated (Some (Build names)) old before now p q result = Unit {0}
 HasSimulated (Some (Trace asked)) old before now p q result = Unit {0}
-HasSimulated (Some (Simulate asked)) old before now p q result = SimulationTells asked old before now p q result
+HasSimulated (Some (Simulate asked)) old before now p q result = SimulationTellsBy pic16f877a asked old before now p q result
 HasSimulated (Some (Agree asked)) old before now p q result = Unit {0}
 HasSimulated (Some (Generate functions)) old before now p q result = Unit {0}
 HasSimulated (Some (Check hex)) old before now p q result = Unit {0}

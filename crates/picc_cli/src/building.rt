@@ -7,10 +7,10 @@ ghost use Rattle.host_io.specs.Host.{Closed};
 ghost use Rattle.pic_map.specs.MapFile.{IsMapFile};
 ghost use Rattle.pic_map.specs.MapText.{AreInRange, map_text};
 ghost use Rattle.pic_map.specs.MapView.{content_of};
-ghost use Rattle.picc_cli.specs.Built.{IsBuilt};
 ghost use Rattle.picc_cli.specs.Command.{Build};
 ghost use Rattle.picc_cli.specs.CommandView.{names_of};
 ghost use Rattle.picc_cli.specs.Finished.{HasFiles, HasFaults, HasStatus, HasPrinted, HasTold, IsComplete};
+ghost use Rattle.picc_cli.specs.Made.{HasMade, IsMade};
 ghost use Rattle.picc_cli.specs.declared.building.Outcome.TheVariants as outcomes;
 ghost use Rattle.picc_cli.specs.Outcome.{TellsWhy, WorkedOn, FailsWithoutInput, is_fault, line_of, status_of};
 ghost use Rattle.host_lines.specs.Said.{Says, HasOutcomeCause};
@@ -56,6 +56,7 @@ pub fn build_files<H: Host>(alloc: Global, host: &mut H, files: Files<'_>) -> u8
     ensures printed { HasPrinted (H.kind host.old) (Some (Build (names_of files.entry))) (H.contents host.old) (H.printed host.old) (H.printed host.new) result }
     ensures told { IfSome (H.contents host.old) (λ old. HasTold (Some (Build (names_of files.entry))) old (H.contents host.new) (H.printed host.old) (H.printed host.new) result) }
     ensures complete { IfSome (H.contents host.old) (λ old. IsComplete (H.kind host.old) (H.faults host.old) (H.faults host.new) (Some (Build (names_of files.entry))) old result) }
+    ensures made { IfSome (H.contents host.old) (λ old. HasMade (Some (Build (names_of files.entry))) old (H.contents host.new) (H.printed host.old) (H.printed host.new) result) }
 {
     let outcome = run(alloc, host, files);
     report(alloc, host, files, outcome)
@@ -94,7 +95,7 @@ fn texts_of(alloc: Global, program: &Program) -> Result<Texts, AllocError>
 
 /// The files of a text, or why there are none.
 fn made(alloc: Global, text: &[u8]) -> Result<Texts, Outcome>
-    ensures made { IfOk result (λ texts. IsBuilt text.now texts.hex.items texts.map.items) }
+    ensures made { IfOk result (λ texts. IsMade text.now texts.hex.items texts.map.items) }
     ensures why { IfErr result (λ why. (why ≡ outcomes.NoMemory) ⊎ TellsWhy text.now why) }
 {
     let program = match compile(alloc, text) {
@@ -114,7 +115,7 @@ fn run<H: Host>(alloc: Global, host: &mut H, files: Files<'_>) -> Outcome
     ensures closed { H.open_file host.new ≡ Closed }
     ensures same_kind { H.kind host.new ≡ H.kind host.old }
     ensures same_printed { H.printed host.new ≡ H.printed host.old }
-    ensures files { IfSome (H.contents host.old) (λ old. WorkedOn result (names_of files.entry) old (H.contents host.new)) }
+    ensures files { IfSome (H.contents host.old) (λ old. WorkedOn IsMade result (names_of files.entry) old (H.contents host.new)) }
     ensures cause { HasOutcomeCause (H.kind host.old) (H.faults host.old) (H.faults host.new) (is_fault result) }
     ensures sound { FailsWithoutInput (H.kind host.old) (H.contents host.old) files.entry.input.now result }
 {

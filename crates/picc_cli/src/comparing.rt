@@ -6,6 +6,7 @@ ghost use Rattle.picc_cli.specs.Agreement.{FailsWithoutFiles, IsRunEnd, Knows, R
 ghost use Rattle.picc_cli.specs.Command.{Agree};
 ghost use Rattle.picc_cli.specs.CommandView.{compared_of};
 ghost use Rattle.picc_cli.specs.Finished.{HasFaults, HasPrinted, HasStatus, HasTold, IsComplete};
+ghost use Rattle.picc_cli.specs.Made.{HasMade, RunsMade};
 ghost use Rattle.picc_cli.specs.RunsTold.{EndTells, IsExact};
 ghost use Rattle.host_lines.specs.Said.{Says, HasOutcomeCause};
 ghost use Rattle.schedule.specs.ScriptFile as script_file;
@@ -53,6 +54,7 @@ pub fn compare<H: Host>(alloc: Global, host: &mut H, asked: Compared<'_>) -> u8
     ensures printed { HasPrinted (H.kind host.old) (Some (Agree (compared_of asked.entry))) (H.contents host.old) (H.printed host.old) (H.printed host.new) result }
     ensures told { IfSome (H.contents host.old) (λ old. HasTold (Some (Agree (compared_of asked.entry))) old (H.contents host.new) (H.printed host.old) (H.printed host.new) result) }
     ensures complete { IfSome (H.contents host.old) (λ old. IsComplete (H.kind host.old) (H.faults host.old) (H.faults host.new) (Some (Agree (compared_of asked.entry))) old result) }
+    ensures made { IfSome (H.contents host.old) (λ old. HasMade (Some (Agree (compared_of asked.entry))) old (H.contents host.new) (H.printed host.old) (H.printed host.new) result) }
 {
     let ended = compared(alloc, host, asked);
     report(alloc, host, asked, &ended)
@@ -116,7 +118,7 @@ fn compared<H: Host>(alloc: Global, host: &mut H, asked: Compared<'_>) -> Ended
     ensures same_contents { H.contents host.new ≡ H.contents host.old }
     ensures same_printed { H.printed host.new ≡ H.printed host.old }
     ensures knows { IfSome (H.contents host.old) (λ old. Knows (compared_of asked.entry) old result) }
-    ensures exact { IfSome (H.contents host.old) (λ old. IsExact (compared_of asked.entry) old result) }
+    ensures exact { IfSome (H.contents host.old) (λ old. IsExact RunsMade (compared_of asked.entry) old result) }
     ensures cause { HasOutcomeCause (H.kind host.old) (H.faults host.old) (H.faults host.new) (is_fault result) }
     ensures sound { FailsWithoutFiles (H.kind host.old) (H.contents host.old) (compared_of asked.entry) result }
 {
@@ -137,7 +139,7 @@ fn runs(alloc: Global, text: &[u8], script: &Script, instructions: u32) -> Ended
     requires { instructions < 2 ^ 31 }
     ensures end { IsRunEnd result }
     ensures knows { RunKnows text.now result }
-    ensures exact { EndTells text.now (script_file.content_of script.now) instructions result }
+    ensures exact { EndTells RunsMade text.now (script_file.content_of script.now) instructions result }
 {
     let built = match compile(alloc, text) {
         Ok(built) => built,

@@ -5,6 +5,7 @@ ghost use Rattle.host_io.specs.Host.{Closed};
 ghost use Rattle.picc_cli.specs.Command.{form_of, is_simulation, words_of};
 ghost use Rattle.picc_cli.specs.CommandView.{IsWithin, form_view};
 ghost use Rattle.picc_cli.specs.Finished.{HasFiles, HasFaults, HasStatus, HasPrinted, HasTold, IsComplete};
+ghost use Rattle.picc_cli.specs.Made.{HasMade};
 ghost use Rattle.picc_cli.specs.Simulation.{HasSimulated, board_of};
 ghost use Rattle.picc_cli.specs.Traced.{HasTraced};
 
@@ -70,6 +71,9 @@ pub fn picc<H: Host>(
     // Without a fault an accepted text is built, traced or compared, and one that is refused isn't, unless memory runs out; and the status
     // says which of the two a text is. So does the status of a check say whether a certificate is valid for an image.
     ensures complete { IfSome (H.contents host.old) (λ old. IsComplete (H.kind host.old) (H.faults host.old) (H.faults host.new) (form_of (words_of words.now)) old result) }
+    // Beside all this: the image and the map of a build, and those whose run is compared, are what the passes make of the text's program, each as it
+    // promises its part. None of the other clauses needs it.
+    ensures made { IfSome (H.contents host.old) (λ old. HasMade (form_of (words_of words.now)) old (H.contents host.new) (H.printed host.old) (H.printed host.new) result) }
     // The board is left as it was, but by a simulation whose files are such as they are to be.
     ensures board { is_simulation (form_of (words_of words.now)) ≡ false → board.new ≡ board.old }
     ensures refused { result ≡ 5 → board.new ≡ board.old }
@@ -99,6 +103,7 @@ fn run<H: Host>(
     ensures simulated { IfSome (H.contents host.old) (λ old. HasSimulated (option_map form_view command.entry) old (board_of (lists board.old) (follows board.old)) (board_of (lists board.new) (follows board.new)) (H.printed host.old) (H.printed host.new) result) }
     ensures traced { IfSome (H.contents host.old) (λ old. HasTraced (option_map form_view command.entry) old (H.printed host.old) (H.printed host.new) result) }
     ensures complete { IfSome (H.contents host.old) (λ old. IsComplete (H.kind host.old) (H.faults host.old) (H.faults host.new) (option_map form_view command.entry) old result) }
+    ensures made { IfSome (H.contents host.old) (λ old. HasMade (option_map form_view command.entry) old (H.contents host.new) (H.printed host.old) (H.printed host.new) result) }
     ensures board { is_simulation (option_map form_view command.entry) ≡ false → board.new ≡ board.old }
     ensures refused { result ≡ 5 → board.new ≡ board.old }
 {

@@ -85,6 +85,5 @@ compiled_to text f b tree typed taken roots recursion depth list exact apart cle
       words = words_handed (program_of f.typed) (program_of b.typed) f.words b.words f.copies.list.items f.at.items of sizes.1.0 list blocks;
       few = omega (arith, few);
       ram = sizes.0 ∙ ram ∙ sym (ap (λ l. addresses_covered l (map frame_of b.map.frames.items)) wide ∙ ap (addresses_covered (map object_of f.placed.objects.items)) long);
-      translated = made;
       faithful = translations_faithful (program_of b.typed) b.image (content_of b.map) made;
     }

@@ -3,6 +3,7 @@ pub mod Telling
 pub mod Told
 pub mod OneTyping
 pub mod OverPages
+pub mod Limited
 pub mod Sums
 pub mod Handed
 pub mod BlockViews

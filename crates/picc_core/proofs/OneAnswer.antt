@@ -320,8 +320,8 @@ module _ (text : List ℕ) where
       (subst (SayTheSame (Typing kind line)) (sym second) (one_fault kind also line other ((one_typing text).fault (fault_of kind line) (fault_of also other) here there)))
 
   same_told : (r s : Refusal) → Tells text r → Tells text s → IsOf text r → IsOf text s → SayTheSame r s
-  same_told r s tells told (Early here) there = subst (SayTheSame r) (sym (told_first text r s here told)) (same_itself r)
-  same_told r s tells told here (Early there) = subst (λ (x : Refusal). SayTheSame x s) (sym (told_first text s r there tells)) (same_itself s)
+  same_told r s tells told (Early here) there = subst (SayTheSame r) (sym (told_first IsFirstRefusal text r s here told)) (same_itself r)
+  same_told r s tells told here (Early there) = subst (λ (x : Refusal). SayTheSame x s) (sym (told_first IsFirstRefusal text s r there tells)) (same_itself s)
   same_told r s tells told (Bare line is none) (Bare other also lacks) = bare_same r s line other is also
   same_told r s tells told (Bare line is none) (Broken kind other also there) = absurd (none.none (mistyped_tree text (fault_of kind other) there))
   same_told r s tells told (Bare line is none) (Late there) = absurd (none.none (refused_tree text s there))

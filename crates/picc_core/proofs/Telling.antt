@@ -16,12 +16,16 @@ use Rattle.parse_expr.specs.Reader.{symbols_in}
 use Rattle.parse_expr.specs.declared.error.ParseError.{ParseError}
 use Rattle.parse_expr.specs.declared.error.ParseError.TheVariants as parse
 use Rattle.c_parse.specs.Limits.{open_after, run_after, judged, first_over, IsLimit}
-use Rattle.picc_core.specs.Errors.{of_lex, of_pre, of_parse}
+use Rattle.c_tables.specs.declared.error.CheckError.{CheckError}
+use Rattle.c_tables.specs.declared.error.CheckError.TheVariants as check
+use Rattle.picc_core.specs.Errors.{of_lex, of_pre, of_parse, of_check}
 use Rattle.c_parse.specs.Marks.{marked}
 use Rattle.picc_core.specs.Texts.{behind_directives, behind_tokens, tokens_left, limited, within_limits, program_tokens, HasTree, HasNoTree}
 use Rattle.picc_core.specs.Typed.{IsTreeOf, IsTypedAs}
 use Rattle.picc_core.proofs.Trees.{typed_tree, mistyped_tree, refused_tree}
-use Rattle.picc_core.specs.Answers.{Tells, TellsError, IsRefusedUnless}
+use Rattle.picc_core.specs.Answers.{First, IsEarly, Tells, TellsBy, TellsError, TellsErrorBy, IsRefusedUnless}
+use Rattle.picc_core.specs.Limits.{IsFirstRefusalWithin}
+use Rattle.picc_core.specs.declared.limits.Limits.{Limits}
 use Rattle.picc_core.specs.declared.known.Front.{Front}
 use Rattle.picc_core.specs.declared.refusal.CompileError.{CompileError}
 use Rattle.picc_core.specs.declared.refusal.CompileError.TheVariants.{NoMemory, Refused}
@@ -121,22 +125,63 @@ no_clash text r is none = let both = sym is ∙ none.tokens in absurd (cc)
 same_error : (text : List ℕ) (r s : Refusal) → program_tokens text ≡ Err (Refused r) → program_tokens text ≡ Err (Refused s) → s ≡ r
 same_error text r s is other = let both = sym is ∙ other in cc
 
-pub told_first : (text : List ℕ) (r s : Refusal) → program_tokens text ≡ Err (Refused r) → Tells text s → s ≡ r
-told_first text r (Lex line) is tells = same_error text r (Lex line) is tells
-told_first text r (Word line) is tells = same_error text r (Word line) is tells
-told_first text r (Directive line) is tells = same_error text r (Directive line) is tells
-told_first text r (Limit kind line) is tells = same_error text r (Limit kind line) is tells
-told_first text r (Syntax line) is tells = no_clash text r is tells
-told_first text r (Typing kind line) is tells = clash text r is (mistyped_tree text (fault_of kind line) tells)
-told_first text r (Roots kind) is tells = clash text r is (refused_tree text (Roots kind) tells)
-told_first text r (Recursion function) is tells = clash text r is (refused_tree text (Recursion function) tells)
-told_first text r (Depth depth) is tells = clash text r is (refused_tree text (Depth depth) tells)
-told_first text r (Ram object) is tells = clash text r is (refused_tree text (Ram object) tells)
-told_first text r (Page function words) is tells = clash text r is (refused_tree text (Page function words) tells)
-told_first text r (Code words) is tells = clash text r is (refused_tree text (Code words) tells)
+pub told_first : (Is : First) (text : List ℕ) (r s : Refusal) → program_tokens text ≡ Err (Refused r) → TellsBy Is text s → s ≡ r
+told_first Is text r (Lex line) is tells = same_error text r (Lex line) is tells
+told_first Is text r (Word line) is tells = same_error text r (Word line) is tells
+told_first Is text r (Directive line) is tells = same_error text r (Directive line) is tells
+told_first Is text r (Limit kind line) is tells = same_error text r (Limit kind line) is tells
+told_first Is text r (Syntax line) is tells = no_clash text r is tells
+told_first Is text r (Typing kind line) is tells = clash text r is (mistyped_tree text (fault_of kind line) tells)
+told_first Is text r (Roots kind) is tells = clash text r is (refused_tree text (Roots kind) tells)
+told_first Is text r (Recursion function) is tells = clash text r is (refused_tree text (Recursion function) tells)
+told_first Is text r (Depth depth) is tells = clash text r is (refused_tree text (Depth depth) tells)
+told_first Is text r (Ram object) is tells = clash text r is (refused_tree text (Ram object) tells)
+told_first Is text r (Page function words) is tells = clash text r is (refused_tree text (Page function words) tells)
+told_first Is text r (Code words) is tells = clash text r is (refused_tree text (Code words) tells)
 
-pub tokens_first : (text : List ℕ) (answer : Result Front CompileError) → MatchResult answer (λ front. IsTypedAs text (view_of front.typed)) (TellsError text)
+pub tokens_first : (limits : Limits) (text : List ℕ) (answer : Result Front CompileError) → MatchResult answer (λ front. IsTypedAs text (view_of front.typed)) (TellsErrorBy (IsFirstRefusalWithin limits) text)
     → (r : Refusal) → program_tokens text ≡ Err (Refused r) → IsRefusedUnless answer r
-tokens_first text (Ok front) tells r is = clash text r is (typed_tree text (view_of front.typed) tells)
-tokens_first text (Err NoMemory) tells r is = inr refl
-tokens_first text (Err (Refused s)) tells r is = inl (ap (λ r. Err (Refused r)) (told_first text r s is tells))
+tokens_first limits text (Ok front) tells r is = clash text r is (typed_tree text (view_of front.typed) tells)
+tokens_first limits text (Err NoMemory) tells r is = inr refl
+tokens_first limits text (Err (Refused s)) tells r is = inl (ap (λ r. Err (Refused r)) (told_first (IsFirstRefusalWithin limits) text r s is tells))
+
+-- ---- what the stages up to the types refuse
+pub lex_early : (e : LexError) → IsEarly (of_lex e)
+lex_early lex.NoMemory = tt
+lex_early (lex.Bad line) = tt
+lex_early (lex.Identifier line) = tt
+
+pub pre_early : (e : PreError) → IsEarly (of_pre e)
+pre_early pre.NoMemory = tt
+pre_early (pre.Word line) = tt
+pre_early (pre.Directive line) = tt
+pre_early (pre.Tokens line) = tt
+
+pub parse_early : (e : ParseError) → IsEarly (of_parse e)
+parse_early parse.NoMemory = tt
+parse_early (parse.Nesting line) = tt
+parse_early (parse.Run line) = tt
+parse_early (parse.Syntax line) = tt
+
+pub check_early : (e : CheckError) → IsEarly (of_check e)
+check_early check.NoMemory = tt
+check_early (check.Kind kind line) = tt
+
+-- is told of the text whatever is accepted behind them
+early_refused : (limits : Limits) (text : List ℕ) (r : Refusal) → IsEarly (Refused r) → Tells text r → TellsBy (IsFirstRefusalWithin limits) text r
+early_refused limits text (Lex line) early tells = tells
+early_refused limits text (Word line) early tells = tells
+early_refused limits text (Directive line) early tells = tells
+early_refused limits text (Limit kind line) early tells = tells
+early_refused limits text (Syntax line) early tells = tells
+early_refused limits text (Typing kind line) early tells = tells
+early_refused limits text (Roots kind) early tells = absurd early
+early_refused limits text (Recursion function) early tells = absurd early
+early_refused limits text (Depth depth) early tells = absurd early
+early_refused limits text (Ram object) early tells = absurd early
+early_refused limits text (Page function words) early tells = absurd early
+early_refused limits text (Code words) early tells = absurd early
+
+pub early_told : (limits : Limits) (text : List ℕ) (e : CompileError) → IsEarly e → TellsError text e → TellsErrorBy (IsFirstRefusalWithin limits) text e
+early_told limits text NoMemory early tells = tt
+early_told limits text (Refused r) early tells = early_refused limits text r early tells

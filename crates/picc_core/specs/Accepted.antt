@@ -13,7 +13,7 @@ use Rattle.call_graph.specs.Levels.{IsAcyclic, IsFirstRecursive}
 use Rattle.call_graph.specs.declared.types.FnCopy.{FnCopy}
 use Rattle.code_place.specs.Pages.{page_words, addresses, AreWithinPages, AreInMemory, PassesMemory}
 use Rattle.pic_map.specs.MapContent.{ObjectLine, FrameLine}
-use Rattle.ram_place.specs.Placement.{IsPlacing, LacksObject, LacksFrame}
+use Rattle.ram_place.specs.Placement.{whole_below, IsPlacingIn, LacksObject, LacksFrame}
 use Rattle.program_code.specs.Order.{rank}
 use Rattle.program_code.specs.Stated.{copy_words, sizes}
 use Rattle.picc_core.specs.declared.refusal.Refusal.{Refusal}
@@ -32,26 +32,37 @@ pub record FitsStack (p : Program) : Type 0 where
   pub exact : HasDepth p depth
   pub within : depth ≤ 8
 
--- its objects and the frames of its copies have addresses
-pub record FitsMemory (p : Program) (copies : List FnCopy) : Type 0 where
+-- its objects and the frames of its copies have addresses below the top of memory
+pub record FitsMemoryBelow (top : ℕ) (p : Program) (copies : List FnCopy) : Type 0 where
   pub objects : List ObjectLine
   pub frames : List FrameLine
-  pub placing : IsPlacing p copies objects frames
+  pub placing : IsPlacingIn (whole_below p top) p copies objects frames
 
--- the block of a function's copy is over a page
-pub record IsOverPage (p : Program) (copies : List FnCopy) (number words : ℕ) : Type 0 where
+-- and in the whole memory
+abbrev pub FitsMemory : Program → List FnCopy → Type 0
+FitsMemory = FitsMemoryBelow 0x200
+
+-- the block of a function's copy has more words than these
+pub record IsOver (most : ℕ) (p : Program) (copies : List FnCopy) (number words : ℕ) : Type 0 where
   pub copy : FnCopy
   pub among : Contains copies copy
   pub function : copy.function ≡ callee.User number
   pub stated : words ≡ copy_words p copy
-  pub over : page_words < words
+  pub over : most < words
 
 -- of all of them the one that is defined first
-pub record IsFirstOverPage (p : Program) (copies : List FnCopy) (name : List ℕ) (words : ℕ) : Type 0 where
+pub record IsFirstOver (most : ℕ) (p : Program) (copies : List FnCopy) (name : List ℕ) (words : ℕ) : Type 0 where
   pub number : ℕ
-  pub over : IsOverPage p copies number words
-  pub first : (other more : ℕ) → IsOverPage p copies other more → number ≤ other
+  pub over : IsOver most p copies number words
+  pub first : (other more : ℕ) → IsOver most p copies other more → number ≤ other
   pub named : name ≡ name_at p number
+
+-- it is over a page
+abbrev pub IsOverPage : Program → List FnCopy → ℕ → ℕ → Type 0
+IsOverPage = IsOver page_words
+
+abbrev pub IsFirstOverPage : Program → List FnCopy → List ℕ → ℕ → Type 0
+IsFirstOverPage = IsFirstOver page_words
 
 -- the first function that reaches itself
 pub record IsRecursive (p : Program) (name : List ℕ) : Type 0 where

@@ -7,17 +7,19 @@ use Rattle.code_place.specs.Pages.{page_words}
 use Rattle.code_place.specs.declared.PageError.{PageError}
 use Rattle.code_place.specs.declared.PageError.TheVariants as pages
 use Rattle.program_code.specs.Stated.{copy_words}
-use Rattle.picc_core.specs.Accepted.{IsOverPage, IsFirstOverPage, PassesPages}
+use Rattle.picc_core.specs.Accepted.{IsOver, IsFirstOverPage, IsFirstOver, PassesPages}
+use Rattle.picc_core.specs.Limits.{NoneIsOver, PassesWords}
+use Rattle.picc_core.specs.declared.limits.Limits.{Limits}
 use Rattle.picc_core.specs.declared.refusal.CompileError.{CompileError}
 use Rattle.picc_core.specs.declared.refusal.CompileError.TheVariants.{NoMemory, Refused}
 use Rattle.picc_core.specs.declared.refusal.Refusal.{Refusal}
 use Rattle.picc_core.specs.declared.refusal.Refusal.TheVariants.{Lex, Word, Directive, Syntax, Typing, Recursion, Roots, Depth, Ram, Code, Page, Limit}
 use Rattle.picc_core.specs.declared.stages.OverPage.{OverPage}
 
--- Of the functions whose blocks are over a page the one that is defined first, or that there is none.
-abbrev pub TellsFirstOver : Program → List FnCopy → Option OverPage → Type 0
-TellsFirstOver p copies None = (number words : ℕ) → IsOverPage p copies number words → ⊥
-TellsFirstOver p copies (Some found) = IsOverPage p copies found.number found.words × ((other more : ℕ) → IsOverPage p copies other more → found.number ≤ other)
+-- Of the functions whose blocks have more words than these the one that is defined first, or that there is none.
+abbrev pub TellsFirstOver : ℕ → Program → List FnCopy → Option OverPage → Type 0
+TellsFirstOver most p copies None = NoneIsOver most p copies
+TellsFirstOver most p copies (Some found) = IsOver most p copies found.number found.words × ((other more : ℕ) → IsOver most p copies other more → found.number ≤ other)
 
 -- of two such functions the one that is defined first
 abbrev pub earlier : Option OverPage → Option OverPage → Option OverPage
@@ -61,3 +63,13 @@ abbrev pub IsOfCopy : Program → List FnCopy → PageError → Type 0
 IsOfCopy p copies pages.NoMemory = Unit {0}
 IsOfCopy p copies (pages.Page block words) = SomeIsOver p copies
 IsOfCopy p copies (pages.Code words) = Unit {0}
+
+-- ---- within limits
+abbrev pub IsOfCodeWithin : Limits → Program → List FnCopy → Refusal → Type 0
+IsOfCodeWithin limits p copies (Page name words) = IsFirstOver limits.words_of_block p copies name.items words
+IsOfCodeWithin limits p copies (Code words) = PassesWords limits p copies words
+IsOfCodeWithin limits p copies refusal = IsOfCode p copies refusal
+
+abbrev pub TellsCodeWithin : Limits → Program → List FnCopy → CompileError → Type 0
+TellsCodeWithin limits p copies NoMemory = Unit {0}
+TellsCodeWithin limits p copies (Refused refusal) = IsOfCodeWithin limits p copies refusal

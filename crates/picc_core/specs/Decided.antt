@@ -9,11 +9,15 @@ use Rattle.picc_core.specs.declared.refusal.Refusal.{Refusal}
 use Rattle.picc_core.specs.declared.refusal.Refusal.TheVariants.{Lex, Word, Directive, Syntax, Typing, Recursion, Roots, Depth, Ram, Code, Page, Limit}
 
 -- The text has a typed program, and all rules behind those on types accept that, with these copies of its functions.
-pub record IsAcceptedText (text : List ℕ) : Type 0 where
+pub record IsAcceptedBy (Are : Program → List FnCopy → Type 0) (text : List ℕ) : Type 0 where
   pub program : Program
   pub typed : IsTypedAs text program
   pub copies : List FnCopy
-  pub accepted : AreAccepted program copies
+  pub accepted : Are program copies
+
+-- by what any program is asked for
+abbrev pub IsAcceptedText : List ℕ → Type 0
+IsAcceptedText = IsAcceptedBy AreAccepted
 
 -- Two refusals say the same. The line of `Syntax` is free.
 abbrev pub SayTheSame : Refusal → Refusal → Type 0

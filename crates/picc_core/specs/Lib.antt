@@ -5,6 +5,7 @@ pub mod Answers
 pub mod Blocks
 pub mod Compiled
 pub mod Accepted
+pub mod Limits
 pub mod CodeAnswers
 pub mod Founded
 pub mod Coded

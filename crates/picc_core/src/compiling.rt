@@ -141,6 +141,7 @@ fn compiled(alloc: Global, text: &[u8], saving: Saving) -> Result<Built, Compile
     ensures refused { IfErr result (TellsError text.now) }
     ensures tokens { (r : Refusal) → program_tokens text.now ≡ Err (Refused r) → IsRefusedUnless result r }
     ensures whole { IfOk result (IsCompiledTo text.now) }
+    ensures translated { IfOk result (λ built. IsTranslated (program_of built.typed) built.image (content_of built.map)) }
 {
     let front = front(alloc, text)?;
     let made = built(alloc, front, saving)?;
@@ -175,14 +176,14 @@ pub fn compile(alloc: Global, text: &[u8]) -> Result<Built, CompileError>
     ensures words { IfOk result (λ built. HasWords (program_of built.typed) built.words) }
     // It has few objects.
     ensures few { IfOk result (λ built. length built.map.objects.items ≤ 65536) }
-    // The image and the map are what the passes make of the program: each promises its part.
-    ensures translated { IfOk result (λ built. IsTranslated (program_of built.typed) built.image (content_of built.map)) }
-    // So what the image does on the chip, seen by the map, is what the program says.
+    // What the image does on the chip, seen by the map, is what the program says.
     ensures faithful { IfOk result (λ built. IsFaithfulTo (program_of built.typed) (content_of built.map) built.image) }
     // Each address that is covered is counted once.
     ensures ram { IfOk result (λ built. built.ram ≡ addresses_covered (map object_of built.map.objects.items) (map frame_of built.map.frames.items)) }
     // All this together.
     ensures whole { IfOk result (IsCompiledTo text.now) }
+    // Beside it: the image and the map are what the passes make of the program, and each promises its part. None of the clauses above needs it.
+    ensures translated { IfOk result (λ built. IsTranslated (program_of built.typed) built.image (content_of built.map)) }
 {
     compiled(alloc, text, Saving::Lean)
 }
@@ -196,8 +197,10 @@ pub fn compile_plain(alloc: Global, text: &[u8]) -> Result<Built, CompileError>
     ensures refused { IfErr result (TellsError text.now) }
     // The first refusal of the text's tokens is told, unless memory runs out.
     ensures tokens { (r : Refusal) → program_tokens text.now ≡ Err (Refused r) → IsRefusedUnless result r }
-    // All that is known of what `compile` makes.
+    // All that is known of what `compile` makes,
     ensures whole { IfOk result (IsCompiledTo text.now) }
+    // and that the image and the map are what the passes make of the program.
+    ensures translated { IfOk result (λ built. IsTranslated (program_of built.typed) built.image (content_of built.map)) }
 {
     compiled(alloc, text, Saving::Plain)
 }

@@ -6,10 +6,10 @@ use Rattle.c_typed.specs.Chains.{graph_of}
 use Rattle.c_typed.specs.Trees.{StaticTree, Program}
 use Rattle.call_graph.specs.declared.types.FnCopy.{FnCopy}
 use Rattle.pic_map.specs.MapContent.{ObjectLine, FrameLine}
-use Rattle.live_frames.specs.Memory.{covers, Stands, AreDisjoint}
+use Rattle.live_frames.specs.Memory.{covers, AreDisjoint}
 use Rattle.live_frames.specs.Together.{MayBeLive, LiveFramesHave}
-use Rattle.ram_place.specs.Placement.{objects_have, IsTaken, IsTakenFor, IsPlacing, LiveFramesAreDisjoint, FramesAreClear, ObjectsAreDisjoint}
-use Rattle.live_frames.proofs.FreeRuns.{stands_free}
+use Rattle.ram_place.specs.Placement.{objects_have, IsTaken, IsTakenFor, Extent, IsPlacingIn, LiveFramesAreDisjoint, FramesAreClear, ObjectsAreDisjoint}
+use Rattle.ram_place.proofs.Below.{below_free}
 
 get_take : {X : Type 0} (xs : List X) (k j : ℕ) (x : X) → j < k → slice_get xs j ≡ Some x → slice_get (take k xs) j ≡ Some x
 get_take {X} [] k j x less got = absurd (cc)
@@ -44,9 +44,9 @@ turned : (graph : List (List ℕ)) (functions : ℕ) (a b : FnCopy) → MayBeLiv
 turned graph functions a b live = elim live [ inl roots ↦ inl (λ same. roots (sym same)) | inr one ↦ elim one [ inl on ↦ inr (inr on) | inr back ↦ inr (inl back) ] ]
 
 -- a frame is clear of an earlier one that may be live
-earlier : (p : Program) (copies : List FnCopy) (objects : List ObjectLine) (frames : List FrameLine) → IsPlacing p copies objects frames → (j k : ℕ) (a b : FnCopy) (f g : FrameLine) → j < k → slice_get copies j ≡ Some a → slice_get copies k ≡ Some b → slice_get frames j ≡ Some f → slice_get frames k ≡ Some g → MayBeLive (graph_of p) (length p.functions) a b → AreDisjoint f.address f.size g.address g.size
-earlier p copies objects frames placing j k a b f g less one two here there live x in_first in_second =
-    stands_free (IsTakenFor p objects copies (take k frames) b) g.size g.address x (placing.frames_stand k b g two there).1 in_second
+earlier : (e : Extent) (p : Program) (copies : List FnCopy) (objects : List ObjectLine) (frames : List FrameLine) → IsPlacingIn e p copies objects frames → (j k : ℕ) (a b : FnCopy) (f g : FrameLine) → j < k → slice_get copies j ≡ Some a → slice_get copies k ≡ Some b → slice_get frames j ≡ Some f → slice_get frames k ≡ Some g → MayBeLive (graph_of p) (length p.functions) a b → AreDisjoint f.address f.size g.address g.size
+earlier e p copies objects frames placing j k a b f g less one two here there live x in_first in_second =
+    below_free e.top (IsTakenFor p objects copies (take k frames) b) g.size g.address x (placing.frames_stand k b g two there).1 in_second
     (inr (one_frame (graph_of p) (length p.functions) b copies (take k frames) j a f x one (get_take frames k j f less here) live in_first))
 
 other_way : (j k : ℕ) → (j ≡ k → ⊥) → (j < k) ⊎ (k < j)
@@ -54,31 +54,31 @@ other_way j k other = elim (cases_lt j k) [ inl less ↦ inl less | inr more ↦
   below : (j k : ℕ) → (j ≡ k → ⊥) → k ≤ j → k < j
   below j k other more = elim (cases_lt k j) [ inl less ↦ less | inr same ↦ absurd (other (omega (arith, more, same))) ]
 
-pub live_disjoint : (p : Program) (copies : List FnCopy) (objects : List ObjectLine) (frames : List FrameLine) → IsPlacing p copies objects frames → LiveFramesAreDisjoint p copies frames
-live_disjoint p copies objects frames placing j k a b f g other one two here there live x in_first in_second =
+pub live_disjoint : (e : Extent) (p : Program) (copies : List FnCopy) (objects : List ObjectLine) (frames : List FrameLine) → IsPlacingIn e p copies objects frames → LiveFramesAreDisjoint p copies frames
+live_disjoint e p copies objects frames placing j k a b f g other one two here there live x in_first in_second =
     elim (other_way j k other) [
-      | inl less ↦ earlier p copies objects frames placing j k a b f g less one two here there live x in_first in_second
-      | inr more ↦ earlier p copies objects frames placing k j b a g f more two one there here (turned (graph_of p) (length p.functions) a b live) x in_second in_first
+      | inl less ↦ earlier e p copies objects frames placing j k a b f g less one two here there live x in_first in_second
+      | inr more ↦ earlier e p copies objects frames placing k j b a g f more two one there here (turned (graph_of p) (length p.functions) a b live) x in_second in_first
     ]
 
 -- a frame is clear of each object
-pub frames_clear : (p : Program) (copies : List FnCopy) (objects : List ObjectLine) (frames : List FrameLine) → IsPlacing p copies objects frames → FramesAreClear objects frames
-frames_clear p copies objects frames placing j k o f here there x in_object in_frame =
+pub frames_clear : (e : Extent) (p : Program) (copies : List FnCopy) (objects : List ObjectLine) (frames : List FrameLine) → IsPlacingIn e p copies objects frames → FramesAreClear objects frames
+frames_clear e p copies objects frames placing j k o f here there x in_object in_frame =
     elim (slice_get_cases copies k).1 [
-      | inl found ↦ stands_free (IsTakenFor p objects copies (take k frames) found.0) f.size f.address x (placing.frames_stand k found.0 f found.2 there).1 in_frame (inl (one_object objects j o x here in_object))
+      | inl found ↦ below_free e.top (IsTakenFor p objects copies (take k frames) found.0) f.size f.address x (placing.frames_stand k found.0 f found.2 there).1 in_frame (inl (one_object objects j o x here in_object))
       | inr past ↦ absurd (omega (arith, past.0, placing.each_frame, slice_get_within frames k f there))
     ]
 
-earlier_object : (p : Program) (copies : List FnCopy) (objects : List ObjectLine) (frames : List FrameLine) → IsPlacing p copies objects frames → (j k : ℕ) (o q : ObjectLine) → j < k → slice_get objects j ≡ Some o → slice_get objects k ≡ Some q → AreDisjoint o.address o.size q.address q.size
-earlier_object p copies objects frames placing j k o q less here there x in_first in_second =
-    elim (slice_get_cases p.statics k).1 [
-      | inl found ↦ stands_free (IsTaken (take k objects)) q.size q.address x (placing.objects_stand k found.0 q found.2 there).1 in_second (one_object (take k objects) j o x (get_take objects k j o less here) in_first)
+earlier_object : (e : Extent) (p : Program) (copies : List FnCopy) (objects : List ObjectLine) (frames : List FrameLine) → IsPlacingIn e p copies objects frames → (j k : ℕ) (o q : ObjectLine) → j < k → slice_get objects j ≡ Some o → slice_get objects k ≡ Some q → AreDisjoint o.address o.size q.address q.size
+earlier_object e p copies objects frames placing j k o q less here there x in_first in_second =
+    elim (slice_get_cases e.statics k).1 [
+      | inl found ↦ below_free e.top (IsTaken (take k objects)) q.size q.address x (placing.objects_stand k found.0 q found.2 there).1 in_second (one_object (take k objects) j o x (get_take objects k j o less here) in_first)
       | inr past ↦ absurd (omega (arith, past.0, placing.each_object, slice_get_within objects k q there))
     ]
 
-pub objects_disjoint : (p : Program) (copies : List FnCopy) (objects : List ObjectLine) (frames : List FrameLine) → IsPlacing p copies objects frames → ObjectsAreDisjoint objects
-objects_disjoint p copies objects frames placing j k o q other here there x in_first in_second =
+pub objects_disjoint : (e : Extent) (p : Program) (copies : List FnCopy) (objects : List ObjectLine) (frames : List FrameLine) → IsPlacingIn e p copies objects frames → ObjectsAreDisjoint objects
+objects_disjoint e p copies objects frames placing j k o q other here there x in_first in_second =
     elim (other_way j k other) [
-      | inl less ↦ earlier_object p copies objects frames placing j k o q less here there x in_first in_second
-      | inr more ↦ earlier_object p copies objects frames placing k j q o more there here x in_second in_first
+      | inl less ↦ earlier_object e p copies objects frames placing j k o q less here there x in_first in_second
+      | inr more ↦ earlier_object e p copies objects frames placing k j q o more there here x in_second in_first
     ]

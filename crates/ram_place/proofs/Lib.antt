@@ -1,6 +1,8 @@
 pub mod Arguments
+pub mod Below
 pub mod Digits
 pub mod Lawful
+pub mod Leaving
 pub mod Loops
 pub mod Standing
 pub mod Statements

@@ -11,13 +11,15 @@ use Rattle.call_graph.specs.declared.types.FnCopy.{FnCopy}
 use Rattle.pic_map.specs.MapContent.{ObjectLine, FrameLine}
 use Rattle.pic_map.specs.declared.FrameLine as code
 use Rattle.ram_place.specs.Answers.{TellsObject, TellsFrame}
-use Rattle.live_frames.specs.Memory.{is_taken, covers, Stands, HasNoPlace}
+use Rattle.live_frames.specs.Memory.{is_taken, covers}
 use Rattle.live_frames.specs.Together.{LiveFramesHave}
-use Rattle.ram_place.specs.Placement.{object_line, frame_line, objects_have, frames_have, IsTaken, IsTakenFor, IsObject, IsFrame, AreObjects, AreFrames}
+use Rattle.ram_place.specs.Placement.{object_line, frame_line, objects_have, frames_have, IsTaken, IsTakenFor, Extent, IsObjectBelow, IsFrameBelow, AreObjectsIn, AreFramesBelow}
+use Rattle.ram_place.specs.Regions.{StandsBelow, HasNoPlaceBelow}
 use Rattle.ram_place.specs.Sizes as sizes
 use Rattle.ram_place.specs.declared.placing.PlaceError.{PlaceError}
 use Rattle.ram_place.specs.declared.placing.PlaceError.TheVariants.{NoMemory, Ram}
-use Rattle.live_frames.proofs.FreeRuns.{too_large, stands_too, no_place_too}
+use Rattle.live_frames.proofs.FreeRuns.{too_large}
+use Rattle.ram_place.proofs.Below.{below_too, lost_below, none_below_too}
 
 -- a size that a region holds is told as it is
 uncapped : (n size : ℕ) → size ≡ capped n → size ≤ 96 → size ≡ n
@@ -26,39 +28,39 @@ uncapped n size same small = omega (arith, same, small)
 same_capped : (n : ℕ) → n ≤ 96 → capped n ≡ n
 same_capped n small = omega (arith, small)
 
-pub none_uncapped : (taken : ℕ → Type 0) (n told : ℕ) → told ≡ capped n → HasNoPlace taken told → HasNoPlace taken n
-none_uncapped taken n told same none =
-    let P : ℕ → Type 0 = λ (m : ℕ). HasNoPlace taken m in
-    elim (cases_lt 96 n) [ inl large ↦ too_large taken n large | inr small ↦ subst P (same ∙ same_capped n small) none ]
+pub none_uncapped : (top : ℕ) (taken : ℕ → Type 0) (n told : ℕ) → told ≡ capped n → HasNoPlaceBelow top taken told → HasNoPlaceBelow top taken n
+none_uncapped top taken n told same none =
+    let P : ℕ → Type 0 = λ (m : ℕ). HasNoPlaceBelow top taken m in
+    elim (cases_lt 96 n) [ inl large ↦ lost_below taken top n (too_large taken n large) | inr small ↦ subst P (same ∙ same_capped n small) none ]
 
 -- the line of an object that stands somewhere
-pub object_told : (p : Program) (s : StaticTree) (taken : ℕ → Type 0) (name : List ℕ) (address size n : ℕ) → name ≡ s.name → n ≡ type_bytes p.sizes s.ty.ty → Stands taken n address → size ≡ n → ((let line : ObjectLine = record { constant = s.ty.constant; name = name; address = address; size = size } in line) ≡ object_line p s address) × Stands taken size address
-object_told p s taken name address size n named bytes stands same =
+pub object_told : (top : ℕ) (p : Program) (s : StaticTree) (taken : ℕ → Type 0) (name : List ℕ) (address size n : ℕ) → name ≡ s.name → n ≡ type_bytes p.sizes s.ty.ty → StandsBelow top taken n address → size ≡ n → ((let line : ObjectLine = record { constant = s.ty.constant; name = name; address = address; size = size } in line) ≡ object_line p s address) × StandsBelow top taken size address
+object_told top p s taken name address size n named bytes stands same =
     let one : List ℕ → ObjectLine = λ (m : List ℕ). record { constant = s.ty.constant; name = m; address = address; size = size } in
     let two : ℕ → ObjectLine = λ (m : ℕ). record { constant = s.ty.constant; name = s.name; address = address; size = m } in
-    let P : ℕ → Type 0 = λ (m : ℕ). Stands taken m address in
+    let P : ℕ → Type 0 = λ (m : ℕ). StandsBelow top taken m address in
     (ap one named ∙ ap two (same ∙ bytes), subst P (sym same) stands)
 
 -- the line of a frame that stands somewhere
-pub frame_told : (p : Program) (copy : FnCopy) (taken : ℕ → Type 0) (name : List ℕ) (address size n : ℕ) → name ≡ sizes.name_of p copy.function → n ≡ capped (sizes.frame_bytes p copy.function) → Stands taken n address → size ≡ n → size ≤ 96 → ((let line : FrameLine = record { root = copy.root; name = name; address = address; size = size } in line) ≡ frame_line p copy address) × Stands taken size address
-frame_told p copy taken name address size n named bytes stands same small =
+pub frame_told : (top : ℕ) (p : Program) (copy : FnCopy) (taken : ℕ → Type 0) (name : List ℕ) (address size n : ℕ) → name ≡ sizes.name_of p copy.function → n ≡ capped (sizes.frame_bytes p copy.function) → StandsBelow top taken n address → size ≡ n → size ≤ 96 → ((let line : FrameLine = record { root = copy.root; name = name; address = address; size = size } in line) ≡ frame_line p copy address) × StandsBelow top taken size address
+frame_told top p copy taken name address size n named bytes stands same small =
     let one : List ℕ → FrameLine = λ (m : List ℕ). record { root = copy.root; name = m; address = address; size = size } in
     let two : ℕ → FrameLine = λ (m : ℕ). record { root = copy.root; name = sizes.name_of p copy.function; address = address; size = m } in
-    let P : ℕ → Type 0 = λ (m : ℕ). Stands taken m address in
+    let P : ℕ → Type 0 = λ (m : ℕ). StandsBelow top taken m address in
     (ap one named ∙ ap two (uncapped (sizes.frame_bytes p copy.function) size (same ∙ bytes) small), subst P (sym same) stands)
 
 -- the same where the same bytes are taken
-frame_too : (p : Program) (copy : FnCopy) (taken other : ℕ → Type 0) → ((x : ℕ) → x < 512 → taken x → other x) → ((x : ℕ) → x < 512 → other x → taken x) → (r : Result code.FrameLine PlaceError) → TellsFrame p taken copy r → TellsFrame p other copy r
-frame_too p copy taken other on back (Ok line) told = (told.0, stands_too taken other on back line.size line.address told.1)
-frame_too p copy taken other on back (Err NoMemory) told = tt
-frame_too p copy taken other on back (Err (Ram name)) told = (told.0, no_place_too taken other on (sizes.frame_bytes p copy.function) told.1)
+frame_too : (top : ℕ) (p : Program) (copy : FnCopy) (taken other : ℕ → Type 0) → ((x : ℕ) → x < 512 → taken x → other x) → ((x : ℕ) → x < 512 → other x → taken x) → (r : Result code.FrameLine PlaceError) → TellsFrame top p taken copy r → TellsFrame top p other copy r
+frame_too top p copy taken other on back (Ok line) told = (told.0, below_too top taken other on back line.size line.address told.1)
+frame_too top p copy taken other on back (Err NoMemory) told = tt
+frame_too top p copy taken other on back (Err (Ram name)) told = (told.0, none_below_too top taken other on (sizes.frame_bytes p copy.function) told.1)
 
 -- what is told of a frame by the bytes that are marked
-pub next_told : (p : Program) (objects : List ObjectLine) (list : List FnCopy) (frames : List FrameLine) (copy : FnCopy) (graph : List (List ℕ)) (functions : ℕ) (marks old : List Bool) → graph ≡ graph_of p → functions ≡ length p.functions → ((x : ℕ) → x < 512 → is_taken old x ≡ objects_have objects x) → ((x : ℕ) → x < 512 → (is_taken marks x ≡ true) ↔ ((is_taken old x ≡ true) ⊎ LiveFramesHave graph functions copy list frames x)) → (r : Result code.FrameLine PlaceError) → TellsFrame p (λ x. is_taken marks x ≡ true) copy r → TellsFrame p (IsTakenFor p objects list frames copy) copy r
-next_told p objects list frames copy graph functions marks old rows count agree told r frame =
+pub next_told : (top : ℕ) (p : Program) (objects : List ObjectLine) (list : List FnCopy) (frames : List FrameLine) (copy : FnCopy) (graph : List (List ℕ)) (functions : ℕ) (marks old : List Bool) → graph ≡ graph_of p → functions ≡ length p.functions → ((x : ℕ) → x < 512 → is_taken old x ≡ objects_have objects x) → ((x : ℕ) → x < 512 → (is_taken marks x ≡ true) ↔ ((is_taken old x ≡ true) ⊎ LiveFramesHave graph functions copy list frames x)) → (r : Result code.FrameLine PlaceError) → TellsFrame top p (λ x. is_taken marks x ≡ true) copy r → TellsFrame top p (IsTakenFor p objects list frames copy) copy r
+next_told top p objects list frames copy graph functions marks old rows count agree told r frame =
     let P : ℕ → List (List ℕ) → Type 0 = λ (x : ℕ) (g : List (List ℕ)). LiveFramesHave g functions copy list frames x in
     let Q : ℕ → ℕ → Type 0 = λ (x : ℕ) (n : ℕ). LiveFramesHave (graph_of p) n copy list frames x in
-    frame_too p copy (λ (x : ℕ). is_taken marks x ≡ true) (IsTakenFor p objects list frames copy)
+    frame_too top p copy (λ (x : ℕ). is_taken marks x ≡ true) (IsTakenFor p objects list frames copy)
     (λ x small here. elim ((told x small).0 here) [ inl was ↦ inl (sym (agree x small) ∙ was) | inr live ↦ inr (subst (Q x) count (subst (P x) rows live)) ])
     (λ x small there. (told x small).1 (elim there [ inl was ↦ inl (agree x small ∙ was) | inr live ↦ inr (subst (P x) (sym rows) (subst (Q x) (sym count) live)) ])) r frame
 
@@ -73,31 +75,31 @@ same_some : {X : Type 0} (x y : X) (o : Option X) → o ≡ Some x → o ≡ Som
 same_some {X} x y o one two = cc
 
 -- one object more stands behind those before it
-pub objects_pushed : (p : Program) (xs : List ObjectLine) (y : ObjectLine) (s : StaticTree) (marks : List Bool) → AreObjects p xs → slice_get p.statics (length xs) ≡ Some s → ((x : ℕ) → x < 512 → is_taken marks x ≡ objects_have xs x) → y ≡ object_line p s y.address → Stands (λ x. is_taken marks x ≡ true) y.size y.address → AreObjects p (xs ++ y ∷ [])
-objects_pushed p xs y s marks so_far next agree told stands k t line declared got =
-    let here : Stands (IsTaken xs) y.size y.address = stands_too (λ (x : ℕ). is_taken marks x ≡ true) (IsTaken xs) (λ x small h. sym (agree x small) ∙ h) (λ x small h. agree x small ∙ h) y.size y.address stands in
-    let P : List ObjectLine → Type 0 = λ (list : List ObjectLine). IsObject p list t line in
+pub objects_pushed : (e : Extent) (p : Program) (xs : List ObjectLine) (y : ObjectLine) (s : StaticTree) (marks : List Bool) → AreObjectsIn e p xs → slice_get e.statics (length xs) ≡ Some s → ((x : ℕ) → x < 512 → is_taken marks x ≡ objects_have xs x) → y ≡ object_line p s y.address → StandsBelow e.top (λ x. is_taken marks x ≡ true) y.size y.address → AreObjectsIn e p (xs ++ y ∷ [])
+objects_pushed e p xs y s marks so_far next agree told stands k t line declared got =
+    let here : StandsBelow e.top (IsTaken xs) y.size y.address = below_too e.top (λ (x : ℕ). is_taken marks x ≡ true) (IsTaken xs) (λ x small h. sym (agree x small) ∙ h) (λ x small h. agree x small ∙ h) y.size y.address stands in
+    let P : List ObjectLine → Type 0 = λ (list : List ObjectLine). IsObjectBelow e.top p list t line in
     elim (pushed xs y line k got) [
       | inl was ↦ subst P (sym (take-append-le k xs (y ∷ []) (omega (arith, was.0)))) (so_far k t line declared was.1)
       | inr now ↦ (
-          let E : ℕ → Type 0 = λ (n : ℕ). slice_get p.statics n ≡ Some t in
-          let same : t ≡ s = same_some t s (slice_get p.statics (length xs)) (subst E now.0 declared) next in
-          let Q : StaticTree → Type 0 = λ (u : StaticTree). IsObject p xs u y in
-          let R : ObjectLine → Type 0 = λ (l : ObjectLine). IsObject p xs t l in
+          let E : ℕ → Type 0 = λ (n : ℕ). slice_get e.statics n ≡ Some t in
+          let same : t ≡ s = same_some t s (slice_get e.statics (length xs)) (subst E now.0 declared) next in
+          let Q : StaticTree → Type 0 = λ (u : StaticTree). IsObjectBelow e.top p xs u y in
+          let R : ObjectLine → Type 0 = λ (l : ObjectLine). IsObjectBelow e.top p xs t l in
           subst P (sym (take_at xs (y ∷ []) k (sym now.0))) (subst R (sym now.1) (subst Q (sym same) (told, here))))
     ]
 
 -- one frame more stands behind those before it
-pub frames_pushed : (p : Program) (objects : List ObjectLine) (copies : List FnCopy) (xs : List FrameLine) (y : FrameLine) (copy : FnCopy) → AreFrames p objects copies xs → slice_get copies (length xs) ≡ Some copy → IsFrame p objects copies xs copy y → AreFrames p objects copies (xs ++ y ∷ [])
-frames_pushed p objects copies xs y copy so_far next told k c line listed got =
-    let P : List FrameLine → Type 0 = λ (list : List FrameLine). IsFrame p objects copies list c line in
+pub frames_pushed : (top : ℕ) (p : Program) (objects : List ObjectLine) (copies : List FnCopy) (xs : List FrameLine) (y : FrameLine) (copy : FnCopy) → AreFramesBelow top p objects copies xs → slice_get copies (length xs) ≡ Some copy → IsFrameBelow top p objects copies xs copy y → AreFramesBelow top p objects copies (xs ++ y ∷ [])
+frames_pushed top p objects copies xs y copy so_far next told k c line listed got =
+    let P : List FrameLine → Type 0 = λ (list : List FrameLine). IsFrameBelow top p objects copies list c line in
     elim (pushed xs y line k got) [
       | inl was ↦ subst P (sym (take-append-le k xs (y ∷ []) (omega (arith, was.0)))) (so_far k c line listed was.1)
       | inr now ↦ (
           let E : ℕ → Type 0 = λ (n : ℕ). slice_get copies n ≡ Some c in
           let same : c ≡ copy = same_some c copy (slice_get copies (length xs)) (subst E now.0 listed) next in
-          let Q : FnCopy → Type 0 = λ (d : FnCopy). IsFrame p objects copies xs d y in
-          let R : FrameLine → Type 0 = λ (l : FrameLine). IsFrame p objects copies xs c l in
+          let Q : FnCopy → Type 0 = λ (d : FnCopy). IsFrameBelow top p objects copies xs d y in
+          let R : FrameLine → Type 0 = λ (l : FrameLine). IsFrameBelow top p objects copies xs c l in
           subst P (sym (take_at xs (y ∷ []) k (sym now.0))) (subst R (sym now.1) (subst Q (sym same) told)))
     ]
 

@@ -1,17 +1,15 @@
 -- The steps of the placing: one line more, or a name that is told.
-use Rattle.std.proofs.Common.{◌≡◌, ℕ, ◌+◌, ◌<◌, ◌≤◌, ◌⊎◌, inl, inr, Bool, true, false, ◌||◌, List, [], ◌∷◌, ◌++◌, length, map, replicate, get_or, refl, sym, ap, ◌∙◌, subst, arith, slice_get, Some, Result, Ok, Err, lit<}
+use Rattle.std.proofs.Common.{◌≡◌, ℕ, ◌+◌, ◌<◌, ◌≤◌, ◌⊎◌, inl, inr, Bool, true, false, ◌||◌, List, [], ◌∷◌, ◌++◌, length, map, take, replicate, refl, sym, ap, ◌∙◌, subst, arith, slice_get, Some, Result, Ok, Err, IfOk, lit<}
 use Rattle.std.proofs.lemmas.List.{length-map, length-append, length-replicate, map-append, length_push}
 use Rattle.std.specs.Global.{Global}
 use Rattle.std.specs.declared.vec.Vec.{Vec}
 use Rattle.c_typed.specs.Chains.{graph_of, row_of, number_of, helper_number}
 use Rattle.c_typed.specs.Trees.{StaticTree, Program}
 use Rattle.c_typed.specs.Types.{type_bytes}
-use Rattle.c_typed.specs.Views.{program_of, static_of}
 use Rattle.c_typed.specs.declared.calls.FnId.{FnId}
 use Rattle.c_typed.specs.declared.calls.FnId.TheVariants as callee
 use Rattle.c_typed.specs.declared.calls.Helper as helper
 use Rattle.c_typed.specs.declared.calls.Helper.TheVariants.{Mul2, Mul4, Divu2, Divs2, Remu2, Rems2, Divu4, Divs4, Remu4, Rems4, Shl2, Shru2, Shrs2, Shl4, Shru4, Shrs4}
-use Rattle.c_typed.specs.declared.program.Static.{Static}
 use Rattle.std.proofs.lemmas.Option.{slice_get_within, get_or_from_slice_get}
 use Rattle.call_graph.specs.Copies.{IsOne, AreCopies}
 use Rattle.call_graph.specs.Rows.{rows_of}
@@ -20,17 +18,18 @@ use Rattle.pic_map.specs.MapContent.{ObjectLine, FrameLine}
 use Rattle.pic_map.specs.MapView.{object_of, frame_of}
 use Rattle.pic_map.specs.declared.ObjLine.{ObjLine}
 use Rattle.pic_map.specs.declared.FrameLine as code
-use Rattle.ram_place.specs.Answers.{TellsPlacing, TellsObject, TellsFrame, TellsObjects, TellsFrames}
+use Rattle.ram_place.specs.Answers.{TellsPlacingIn, TellsObject, TellsFrame, TellsObjects, TellsFrames}
 use Rattle.live_frames.specs.Live.{IsGraphOf}
-use Rattle.live_frames.specs.Memory.{is_taken, covers, Stands, HasNoPlace}
-use Rattle.ram_place.specs.Placement.{objects_have, IsTaken, IsTakenFor, AreObjects, AreFrames, IsPlacing, LacksObject, LacksFrame}
+use Rattle.live_frames.specs.Memory.{is_taken, covers}
+use Rattle.ram_place.specs.Placement.{objects_have, IsTaken, IsTakenFor, Extent, kept, kept_from, but_below, whole_below, AreObjectsIn, AreFramesBelow, IsPlacing, IsPlacingBut, IsPlacingIn, LacksObjectIn, LacksFrameIn}
 use Rattle.live_frames.specs.declared.live.Graph.{Graph}
 use Rattle.ram_place.specs.declared.placing.Objects.{Objects}
 use Rattle.pic_map.specs.declared.Placed.{Placed}
 use Rattle.ram_place.specs.declared.placing.PlaceError.{PlaceError}
 use Rattle.ram_place.specs.declared.placing.PlaceError.TheVariants.{NoMemory, Ram}
-use Rattle.live_frames.proofs.Connected.{got_of, rows_length}
-use Rattle.live_frames.proofs.FreeRuns.{no_place_too}
+use Rattle.live_frames.proofs.Connected.{rows_length}
+use Rattle.ram_place.proofs.Below.{none_below_too, stands_whole}
+use Rattle.ram_place.proofs.Leaving.{kept_none}
 use Rattle.ram_place.proofs.Standing.{objects_pushed, frames_pushed, objects_have_more}
 
 none_got : {X : Type 0} (xs : List X) (k : ℕ) (x : X) → xs ≡ [] → slice_get xs k ≡ Some x → ⊥
@@ -38,39 +37,34 @@ none_got {X} [] k x none got = cc
 none_got {X} (y ∷ ys) k x none got = cc
 
 -- before the first object, and before the first frame
-pub objects_none : (p : Program) (lines : List ObjLine) → lines ≡ [] → AreObjects p (map object_of lines)
-objects_none p lines none k s line declared got = absurd (none_got (map object_of lines) k line (ap (map object_of) none) got)
+pub objects_none : (e : Extent) (p : Program) (lines : List ObjLine) → lines ≡ [] → AreObjectsIn e p (map object_of lines)
+objects_none e p lines none k s line declared got = absurd (none_got (map object_of lines) k line (ap (map object_of) none) got)
 
-pub frames_none : (p : Program) (objects : List ObjectLine) (copies : List FnCopy) (lines : List code.FrameLine) → lines ≡ [] → AreFrames p objects copies (map frame_of lines)
-frames_none p objects copies lines none k copy line listed got = absurd (none_got (map frame_of lines) k line (ap (map frame_of) none) got)
+pub frames_none : (top : ℕ) (p : Program) (objects : List ObjectLine) (copies : List FnCopy) (lines : List code.FrameLine) → lines ≡ [] → AreFramesBelow top p objects copies (map frame_of lines)
+frames_none top p objects copies lines none k copy line listed got = absurd (none_got (map frame_of lines) k line (ap (map frame_of) none) got)
 
 -- the object whose turn it is
-next_static : (statics given : List Static) (lines : List ObjLine) (i : ℕ) (object : Static) → given ≡ statics → length lines ≡ i → i < length given → object ≡ get_or given i object → slice_get (map static_of statics) (length (map object_of lines)) ≡ Some (static_of object)
-next_static statics given lines i object same count below read =
-    let P : ℕ → Type 0 = λ (n : ℕ). slice_get (map static_of statics) n ≡ Some (static_of object) in
-    let Q : List Static → Type 0 = λ (list : List Static). slice_get (map static_of list) i ≡ Some (static_of object) in
-    subst P (sym (length-map lines object_of ∙ count)) (subst Q same (got_of static_of given i object below read))
+turn : (e : Extent) (lines : List ObjLine) (s : StaticTree) → slice_get e.statics (length lines) ≡ Some s → slice_get e.statics (length (map object_of lines)) ≡ Some s
+turn e lines s next = ap (slice_get e.statics) (length-map lines object_of) ∙ next
 
-pub object_placed : (p : Program) (statics given : List Static) (lines new : List ObjLine) (i : ℕ) (object : Static) (line : ObjLine) (marks marked : List Bool) → p.statics ≡ map static_of statics → given ≡ statics → length lines ≡ i → i < length given → object ≡ get_or given i object → AreObjects p (map object_of lines) → ((x : ℕ) → x < 512 → is_taken marks x ≡ objects_have (map object_of lines) x) → new ≡ lines ++ line ∷ [] → TellsObject p (λ x. is_taken marks x ≡ true) (static_of object) (Ok line) → ((x : ℕ) → x < 512 → is_taken marked x ≡ (covers line.address line.size x || is_taken marks x)) → (length new ≡ i + 1) × AreObjects p (map object_of new) × ((x : ℕ) → x < 512 → is_taken marked x ≡ objects_have (map object_of new) x)
-object_placed p statics given lines new i object line marks marked of same count below read so_far agree grown told more =
+pub object_placed : (e : Extent) (p : Program) (lines new : List ObjLine) (s : StaticTree) (line : ObjLine) (marks marked : List Bool) → slice_get e.statics (length lines) ≡ Some s → AreObjectsIn e p (map object_of lines) → ((x : ℕ) → x < 512 → is_taken marks x ≡ objects_have (map object_of lines) x) → new ≡ lines ++ line ∷ [] → TellsObject e.top p (λ x. is_taken marks x ≡ true) s (Ok line) → ((x : ℕ) → x < 512 → is_taken marked x ≡ (covers line.address line.size x || is_taken marks x)) → (length new ≡ length lines + 1) × AreObjectsIn e p (map object_of new) × ((x : ℕ) → x < 512 → is_taken marked x ≡ objects_have (map object_of new) x)
+object_placed e p lines new s line marks marked next so_far agree grown told more =
     let seen : map object_of new ≡ map object_of lines ++ object_of line ∷ [] = ap (map object_of) grown ∙ map-append object_of lines (line ∷ []) in
-    let next : slice_get p.statics (length (map object_of lines)) ≡ Some (static_of object) = ap (λ (list : List StaticTree). slice_get list (length (map object_of lines))) of ∙ next_static statics given lines i object same count below read in
-    let P : List ObjectLine → Type 0 = λ (list : List ObjectLine). AreObjects p list in (
-      ap length grown ∙ length_push lines line ∙ ap (λ (n : ℕ). n + 1) count,
-      subst P (sym seen) (objects_pushed p (map object_of lines) (object_of line) (static_of object) marks so_far next agree told.0 told.1),
+    let P : List ObjectLine → Type 0 = λ (list : List ObjectLine). AreObjectsIn e p list in (
+      ap length grown ∙ length_push lines line,
+      subst P (sym seen) (objects_pushed e p (map object_of lines) (object_of line) s marks so_far (turn e lines s next) agree told.0 told.1),
       λ x small. more x small ∙ ap (λ (b : Bool). covers line.address line.size x || b) (agree x small) ∙ sym (objects_have_more (map object_of lines) (object_of line) x) ∙ sym (ap (λ (list : List ObjectLine). objects_have list x) seen),
     )
 
-pub object_lost : (p : Program) (statics given : List Static) (lines : List ObjLine) (i : ℕ) (object : Static) (marks : List Bool) → p.statics ≡ map static_of statics → given ≡ statics → length lines ≡ i → i < length given → object ≡ get_or given i object → AreObjects p (map object_of lines) → ((x : ℕ) → x < 512 → is_taken marks x ≡ objects_have (map object_of lines) x) → (e : PlaceError) → TellsObject p (λ x. is_taken marks x ≡ true) (static_of object) (Err e) → TellsObjects p (Err e)
-object_lost p statics given lines i object marks of same count below read so_far agree NoMemory told = tt
-object_lost p statics given lines i object marks of same count below read so_far agree (Ram name) told =
-    let next : slice_get p.statics (length (map object_of lines)) ≡ Some (static_of object) = ap (λ (list : List StaticTree). slice_get list (length (map object_of lines))) of ∙ next_static statics given lines i object same count below read in
+pub object_lost : (e : Extent) (p : Program) (lines : List ObjLine) (s : StaticTree) (marks : List Bool) → slice_get e.statics (length lines) ≡ Some s → AreObjectsIn e p (map object_of lines) → ((x : ℕ) → x < 512 → is_taken marks x ≡ objects_have (map object_of lines) x) → (error : PlaceError) → TellsObject e.top p (λ x. is_taken marks x ≡ true) s (Err error) → TellsObjects e p (Err error)
+object_lost e p lines s marks next so_far agree NoMemory told = tt
+object_lost e p lines s marks next so_far agree (Ram name) told =
     record {
       objects = map object_of lines;
       objects_stand = so_far;
-      object = static_of object;
-      is_next = next;
-      has_none = no_place_too (λ (x : ℕ). is_taken marks x ≡ true) (IsTaken (map object_of lines)) (λ x small here. sym (agree x small) ∙ here) (type_bytes p.sizes object.ty.ty) told.1;
+      object = s;
+      is_next = turn e lines s next;
+      has_none = none_below_too e.top (λ (x : ℕ). is_taken marks x ≡ true) (IsTaken (map object_of lines)) (λ x small here. sym (agree x small) ∙ here) (type_bytes p.sizes s.ty.ty) told.1;
       named = told.0;
     }
 
@@ -79,19 +73,19 @@ next_copy copies lines i copy count listed =
     let P : ℕ → Type 0 = λ (n : ℕ). slice_get copies n ≡ Some copy in
     subst P (sym (length-map lines frame_of ∙ count)) listed
 
-pub frame_placed : (p : Program) (objects : List ObjectLine) (copies : List FnCopy) (lines given new : List code.FrameLine) (i : ℕ) (copy : FnCopy) (line : code.FrameLine) → given ≡ lines → length lines ≡ i → slice_get copies i ≡ Some copy → AreFrames p objects copies (map frame_of lines) → new ≡ lines ++ line ∷ [] → TellsFrame p (IsTakenFor p objects copies (map frame_of given) copy) copy (Ok line) → (length new ≡ i + 1) × AreFrames p objects copies (map frame_of new)
-frame_placed p objects copies lines given new i copy line same count listed so_far grown told =
+pub frame_placed : (top : ℕ) (p : Program) (objects : List ObjectLine) (copies : List FnCopy) (lines given new : List code.FrameLine) (i : ℕ) (copy : FnCopy) (line : code.FrameLine) → given ≡ lines → length lines ≡ i → slice_get copies i ≡ Some copy → AreFramesBelow top p objects copies (map frame_of lines) → new ≡ lines ++ line ∷ [] → TellsFrame top p (IsTakenFor p objects copies (map frame_of given) copy) copy (Ok line) → (length new ≡ i + 1) × AreFramesBelow top p objects copies (map frame_of new)
+frame_placed top p objects copies lines given new i copy line same count listed so_far grown told =
     let seen : map frame_of new ≡ map frame_of lines ++ frame_of line ∷ [] = ap (map frame_of) grown ∙ map-append frame_of lines (line ∷ []) in
-    let P : List FrameLine → Type 0 = λ (list : List FrameLine). AreFrames p objects copies list in
-    let Q : List code.FrameLine → Type 0 = λ (list : List code.FrameLine). TellsFrame p (IsTakenFor p objects copies (map frame_of list) copy) copy (Ok line) in (
+    let P : List FrameLine → Type 0 = λ (list : List FrameLine). AreFramesBelow top p objects copies list in
+    let Q : List code.FrameLine → Type 0 = λ (list : List code.FrameLine). TellsFrame top p (IsTakenFor p objects copies (map frame_of list) copy) copy (Ok line) in (
       ap length grown ∙ length_push lines line ∙ ap (λ (n : ℕ). n + 1) count,
-      subst P (sym seen) (frames_pushed p objects copies (map frame_of lines) (frame_of line) copy so_far (next_copy copies lines i copy count listed) (subst Q same told)),
+      subst P (sym seen) (frames_pushed top p objects copies (map frame_of lines) (frame_of line) copy so_far (next_copy copies lines i copy count listed) (subst Q same told)),
     )
 
-pub frame_lost : (p : Program) (objects : List ObjectLine) (copies : List FnCopy) (lines given : List code.FrameLine) (i : ℕ) (copy : FnCopy) → given ≡ lines → length lines ≡ i → slice_get copies i ≡ Some copy → AreFrames p objects copies (map frame_of lines) → (e : PlaceError) → TellsFrame p (IsTakenFor p objects copies (map frame_of given) copy) copy (Err e) → TellsFrames p objects copies (Err e)
-frame_lost p objects copies lines given i copy same count listed so_far NoMemory told = tt
-frame_lost p objects copies lines given i copy same count listed so_far (Ram name) told =
-    let Q : List code.FrameLine → Type 0 = λ (list : List code.FrameLine). TellsFrame p (IsTakenFor p objects copies (map frame_of list) copy) copy (Err (Ram name)) in
+pub frame_lost : (top : ℕ) (p : Program) (objects : List ObjectLine) (copies : List FnCopy) (lines given : List code.FrameLine) (i : ℕ) (copy : FnCopy) → given ≡ lines → length lines ≡ i → slice_get copies i ≡ Some copy → AreFramesBelow top p objects copies (map frame_of lines) → (e : PlaceError) → TellsFrame top p (IsTakenFor p objects copies (map frame_of given) copy) copy (Err e) → TellsFrames top p objects copies (Err e)
+frame_lost top p objects copies lines given i copy same count listed so_far NoMemory told = tt
+frame_lost top p objects copies lines given i copy same count listed so_far (Ram name) told =
+    let Q : List code.FrameLine → Type 0 = λ (list : List code.FrameLine). TellsFrame top p (IsTakenFor p objects copies (map frame_of list) copy) copy (Err (Ram name)) in
     let here = subst Q same told in
     record {
       frames = map frame_of lines;
@@ -103,14 +97,14 @@ frame_lost p objects copies lines given i copy same count listed so_far (Ram nam
     }
 
 -- what is told of the objects, and of the frames behind them, is told of the placing
-pub objects_lost : (p : Program) (copies : List FnCopy) (e : PlaceError) → TellsObjects p (Err e) → TellsPlacing p copies (Err e)
-objects_lost p copies NoMemory told = tt
-objects_lost p copies (Ram name) told = inl told
+pub objects_lost : (e : Extent) (p : Program) (copies : List FnCopy) (error : PlaceError) → TellsObjects e p (Err error) → TellsPlacingIn e p copies (Err error)
+objects_lost e p copies NoMemory told = tt
+objects_lost e p copies (Ram name) told = inl told
 
-pub frames_lost : (p : Program) (objects : Objects) (copies given : List FnCopy) (e : PlaceError) → given ≡ copies → TellsObjects p (Ok objects) → TellsFrames p (map object_of objects.lines.items) given (Err e) → TellsPlacing p copies (Err e)
-frames_lost p objects copies given NoMemory same stood told = tt
-frames_lost p objects copies given (Ram name) same stood told =
-    let Q : List FnCopy → Type 0 = λ (list : List FnCopy). TellsFrames p (map object_of objects.lines.items) list (Err (Ram name)) in
+pub frames_lost : (e : Extent) (p : Program) (objects : Objects) (copies given : List FnCopy) (error : PlaceError) → given ≡ copies → TellsObjects e p (Ok objects) → TellsFrames e.top p (map object_of objects.lines.items) given (Err error) → TellsPlacingIn e p copies (Err error)
+frames_lost e p objects copies given NoMemory same stood told = tt
+frames_lost e p objects copies given (Ram name) same stood told =
+    let Q : List FnCopy → Type 0 = λ (list : List FnCopy). TellsFrames e.top p (map object_of objects.lines.items) list (Err (Ram name)) in
     inr (record {
       objects = map object_of objects.lines.items;
       each_object = length-map objects.lines.items object_of ∙ stood.0;
@@ -118,15 +112,42 @@ frames_lost p objects copies given (Ram name) same stood told =
       frame = subst Q same told;
     })
 
-pub all_placed : (p : Program) (objects : Objects) (copies given : List FnCopy) (frames : Vec code.FrameLine Global) → given ≡ copies → TellsObjects p (Ok objects) → TellsFrames p (map object_of objects.lines.items) given (Ok frames) → IsPlacing p copies (map object_of objects.lines.items) (map frame_of frames.items)
-all_placed p objects copies given frames same stood told =
-    let Q : List FnCopy → Type 0 = λ (list : List FnCopy). TellsFrames p (map object_of objects.lines.items) list (Ok frames) in
+pub all_placed : (e : Extent) (p : Program) (objects : Objects) (copies given : List FnCopy) (frames : Vec code.FrameLine Global) → given ≡ copies → TellsObjects e p (Ok objects) → TellsFrames e.top p (map object_of objects.lines.items) given (Ok frames) → IsPlacingIn e p copies (map object_of objects.lines.items) (map frame_of frames.items)
+all_placed e p objects copies given frames same stood told =
+    let Q : List FnCopy → Type 0 = λ (list : List FnCopy). TellsFrames e.top p (map object_of objects.lines.items) list (Ok frames) in
     let here = subst Q same told in
     record {
       each_object = length-map objects.lines.items object_of ∙ stood.0;
       objects_stand = stood.1;
       each_frame = length-map frames.items frame_of ∙ here.0;
       frames_stand = here.1;
+    }
+
+-- with none left out all static objects are placed
+all_kept : (p : Program) (without : List Bool) → without ≡ [] → kept p without ≡ p.statics
+all_kept p without none = ap (λ (list : List Bool). kept_from 0 list p.statics) none ∙ kept_none 0 p.statics
+
+pub none_out : (p : Program) (without : List Bool) (top : ℕ) (copies : List FnCopy) (r : Result Placed PlaceError) → without ≡ [] → TellsPlacingIn (but_below p without top) p copies r → TellsPlacingIn (whole_below p top) p copies r
+none_out p without top copies r none told =
+    let P : List StaticTree → Type 0 = λ (list : List StaticTree). TellsPlacingIn (record { statics = list; top = top }) p copies r in
+    subst P (all_kept p without none) told
+
+pub none_but : (p : Program) (without : List Bool) (copies : List FnCopy) (r : Result Placed PlaceError) → without ≡ [] → IfOk r (λ placed. IsPlacingBut p copies without (map object_of placed.objects.items) (map frame_of placed.frames.items))
+    → IfOk r (λ placed. IsPlacing p copies (map object_of placed.objects.items) (map frame_of placed.frames.items))
+none_but p without copies r none told =
+    let P : List StaticTree → Type 0 = λ (list : List StaticTree). IfOk r (λ placed. IsPlacingIn (record { statics = list; top = 0x200 }) p copies (map object_of placed.objects.items) (map frame_of placed.frames.items)) in
+    subst P (all_kept p without none) told
+
+-- what stands below a top stands so in the whole memory
+pub whole_memory : (statics : List StaticTree) (top : ℕ) (p : Program) (copies : List FnCopy) (objects : List ObjectLine) (frames : List FrameLine) → IsPlacingIn (record { statics = statics; top = top }) p copies objects frames
+    → IsPlacingIn (record { statics = statics; top = 0x200 }) p copies objects frames
+whole_memory statics top p copies objects frames placing =
+    record {
+      each_object = placing.each_object;
+      objects_stand = λ k s line declared got. let here = placing.objects_stand k s line declared got in (here.0, stands_whole (IsTaken (take k objects)) top line.size line.address here.1);
+      each_frame = placing.each_frame;
+      frames_stand = λ k copy line listed got.
+          let here = placing.frames_stand k copy line listed got in (here.0, stands_whole (IsTakenFor p objects copies (take k frames) copy) top line.size line.address here.1);
     }
 
 -- the number of a function of the program, or of a helper, is one of the graph

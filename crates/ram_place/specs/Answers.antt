@@ -9,8 +9,9 @@ use Rattle.pic_map.specs.MapContent as content
 use Rattle.pic_map.specs.MapView.{object_of, frame_of}
 use Rattle.pic_map.specs.declared.ObjLine.{ObjLine}
 use Rattle.pic_map.specs.declared.FrameLine.{FrameLine}
-use Rattle.live_frames.specs.Memory.{is_taken, Stands, HasNoPlace}
-use Rattle.ram_place.specs.Placement.{object_line, frame_line, objects_have, AreObjects, AreFrames, IsPlacing, LacksObject, LacksFrame, LacksFrameBehind}
+use Rattle.live_frames.specs.Memory.{is_taken}
+use Rattle.ram_place.specs.Placement.{Extent, whole, object_line, frame_line, objects_have, AreObjectsIn, AreFramesBelow, IsPlacingIn, LacksObjectIn, LacksFrameIn, LacksFrameBehindBelow}
+use Rattle.ram_place.specs.Regions.{StandsBelow, HasNoPlaceBelow}
 use Rattle.ram_place.specs.Sizes as sizes
 use Rattle.ram_place.specs.declared.placing.Objects.{Objects}
 use Rattle.pic_map.specs.declared.Placed.{Placed}
@@ -18,35 +19,38 @@ use Rattle.ram_place.specs.declared.placing.PlaceError.{PlaceError}
 use Rattle.ram_place.specs.declared.placing.PlaceError.TheVariants.{NoMemory, Ram}
 
 -- What is given is the placing. A name is told exactly where what has it is the first that has no address.
+abbrev pub TellsPlacingIn : Extent → Program → List FnCopy → Result Placed PlaceError → Type 0
+TellsPlacingIn e p copies (Ok placed) = IsPlacingIn e p copies (map object_of placed.objects.items) (map frame_of placed.frames.items)
+TellsPlacingIn e p copies (Err NoMemory) = Unit {0}
+TellsPlacingIn e p copies (Err (Ram name)) = LacksObjectIn e p name.items ⊎ LacksFrameIn e p copies name.items
+
 abbrev pub TellsPlacing : Program → List FnCopy → Result Placed PlaceError → Type 0
-TellsPlacing p copies (Ok placed) = IsPlacing p copies (map object_of placed.objects.items) (map frame_of placed.frames.items)
-TellsPlacing p copies (Err NoMemory) = Unit {0}
-TellsPlacing p copies (Err (Ram name)) = LacksObject p name.items ⊎ LacksFrame p copies name.items
+TellsPlacing p = TellsPlacingIn (whole p) p
 
 -- The line of a static object, or its name where it has no place.
-abbrev pub TellsObject : Program → (ℕ → Type 0) → StaticTree → Result ObjLine PlaceError → Type 0
-TellsObject p taken s (Ok line) = (object_of line ≡ object_line p s line.address) × Stands taken line.size line.address
-TellsObject p taken s (Err NoMemory) = Unit {0}
-TellsObject p taken s (Err (Ram name)) = (name.items ≡ s.name) × HasNoPlace taken (type_bytes p.sizes s.ty.ty)
+abbrev pub TellsObject : ℕ → Program → (ℕ → Type 0) → StaticTree → Result ObjLine PlaceError → Type 0
+TellsObject top p taken s (Ok line) = (object_of line ≡ object_line p s line.address) × StandsBelow top taken line.size line.address
+TellsObject top p taken s (Err NoMemory) = Unit {0}
+TellsObject top p taken s (Err (Ram name)) = (name.items ≡ s.name) × HasNoPlaceBelow top taken (type_bytes p.sizes s.ty.ty)
 
 -- The line of a copy's frame, or its name where it has no place.
-abbrev pub TellsFrame : Program → (ℕ → Type 0) → FnCopy → Result FrameLine PlaceError → Type 0
-TellsFrame p taken copy (Ok line) = (frame_of line ≡ frame_line p copy line.address) × Stands taken line.size line.address
-TellsFrame p taken copy (Err NoMemory) = Unit {0}
-TellsFrame p taken copy (Err (Ram name)) = (name.items ≡ sizes.name_of p copy.function) × HasNoPlace taken (sizes.frame_bytes p copy.function)
+abbrev pub TellsFrame : ℕ → Program → (ℕ → Type 0) → FnCopy → Result FrameLine PlaceError → Type 0
+TellsFrame top p taken copy (Ok line) = (frame_of line ≡ frame_line p copy line.address) × StandsBelow top taken line.size line.address
+TellsFrame top p taken copy (Err NoMemory) = Unit {0}
+TellsFrame top p taken copy (Err (Ram name)) = (name.items ≡ sizes.name_of p copy.function) × HasNoPlaceBelow top taken (sizes.frame_bytes p copy.function)
 
 -- the bytes of the objects are marked
 abbrev pub AreMarked : Objects → Type 0
 AreMarked objects = (x : ℕ) → x < 512 → is_taken objects.taken.marks x ≡ objects_have (map object_of objects.lines.items) x
 
 -- All objects, and their bytes; or the name of the first that has no place.
-abbrev pub TellsObjects : Program → Result Objects PlaceError → Type 0
-TellsObjects p (Ok objects) = (length objects.lines.items ≡ length p.statics) × AreObjects p (map object_of objects.lines.items) × AreMarked objects
-TellsObjects p (Err NoMemory) = Unit {0}
-TellsObjects p (Err (Ram name)) = LacksObject p name.items
+abbrev pub TellsObjects : Extent → Program → Result Objects PlaceError → Type 0
+TellsObjects e p (Ok objects) = (length objects.lines.items ≡ length e.statics) × AreObjectsIn e p (map object_of objects.lines.items) × AreMarked objects
+TellsObjects e p (Err NoMemory) = Unit {0}
+TellsObjects e p (Err (Ram name)) = LacksObjectIn e p name.items
 
 -- The frames of all copies, or the name of the first that has no place.
-abbrev pub TellsFrames : Program → List content.ObjectLine → List FnCopy → Result (Vec FrameLine Global) PlaceError → Type 0
-TellsFrames p objects copies (Ok frames) = (length frames.items ≡ length copies) × AreFrames p objects copies (map frame_of frames.items)
-TellsFrames p objects copies (Err NoMemory) = Unit {0}
-TellsFrames p objects copies (Err (Ram name)) = LacksFrameBehind p objects copies name.items
+abbrev pub TellsFrames : ℕ → Program → List content.ObjectLine → List FnCopy → Result (Vec FrameLine Global) PlaceError → Type 0
+TellsFrames top p objects copies (Ok frames) = (length frames.items ≡ length copies) × AreFramesBelow top p objects copies (map frame_of frames.items)
+TellsFrames top p objects copies (Err NoMemory) = Unit {0}
+TellsFrames top p objects copies (Err (Ram name)) = LacksFrameBehindBelow top p objects copies name.items

@@ -6,9 +6,12 @@ ghost use Rattle.c_typed.specs.Room as room;
 ghost use Rattle.c_typed.specs.Words as stated;
 ghost use Rattle.c_typed.specs.Views.{program_of, static_of, variable_of, size_of};
 ghost use Rattle.ram_place.specs.Helpers as helpers;
+ghost use Rattle.ram_place.specs.Placement as placement;
 ghost use Rattle.ram_place.specs.Sizes as sizes;
+ghost use Rattle.ram_place.specs.Start as start;
 
 use crate::amount::{plus, times};
+use crate::leaving::is_left_out;
 use crate::room::statements_room;
 use crate::words::statements_words;
 use c_typed::{FnId, Helper, Static, Structure, Typed, Variable, bytes_of};
@@ -99,19 +102,39 @@ pub fn block_words(p: &Typed, function: FnId) -> u64
     }
 }
 
-fn statics_bytes(structures: &[Structure], statics: &[Static]) -> u64
-    ensures { result ≡ capped (stated.statics_bytes (map size_of structures.now) (map static_of statics.now)) }
+/// How many bytes a static object has, if it isn't left out.
+fn bytes_kept(structures: &[Structure], object: &Static, without: &[bool], number: usize) -> u64
+    ensures { result ≡ capped (start.bytes_kept (map size_of structures.now) without.now number (static_of object.now)) }
+{
+    if is_left_out(without, number) {
+        return 0;
+    }
+    bytes_of(structures, object.ty.ty)
+}
+
+fn statics_bytes(structures: &[Structure], statics: &[Static], without: &[bool]) -> u64
+    ensures { result ≡ capped (stated.statics_bytes (map size_of structures.now) (placement.kept_from 0 without.now (map static_of statics.now))) }
 {
     let mut sum = 0;
-    for object in statics {
-        sum = plus(sum, bytes_of(structures, object.ty.ty));
+    for (number, object) in statics.iter().enumerate() {
+        sum = plus(sum, bytes_kept(structures, object, without, number));
     }
     sum
+}
+
+/// How many words the start block is stated to have, where the static objects that are marked get no first bytes.
+pub fn start_words_but(p: &Typed, without: &[bool]) -> u64
+    ensures { result ≡ capped (start.start_size_but (program_of p.now) without.now) }
+{
+    plus(
+        100,
+        times(4, statics_bytes(&p.structures, &p.statics, without)),
+    )
 }
 
 /// How many words the start block is stated to have.
 pub fn start_words(p: &Typed) -> u64
     ensures { result ≡ capped (stated.start_size (program_of p.now)) }
 {
-    plus(100, times(4, statics_bytes(&p.structures, &p.statics)))
+    start_words_but(p, &[])
 }

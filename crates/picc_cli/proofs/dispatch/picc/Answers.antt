@@ -1,7 +1,7 @@
 use Rattle.picc_cli.specs.Command.{form_of, words_of}
 use Rattle.picc_cli.proofs.Forms.{complete_by}
 use Rattle.picc_cli.proofs.Limits.{command_within}
-use Rattle.picc_cli.proofs.NothingDone.{no_files, no_print, no_told, no_end, not_simulated}
+use Rattle.picc_cli.proofs.NothingDone.{no_files, no_made, no_print, no_told, no_end, not_simulated}
 use Rattle.picc_cli.proofs.TracedWhole.{not_traced}
 use Rattle.picc_cli.proofs.dispatch.picc.Goals as goal
 
@@ -10,6 +10,9 @@ run-requires-clause-few g c = command_within c.in-Ok.command (words_of c.args.wo
 
 pub returns-in-Err-clause-files : goal.returns-in-Err-clause-files
 returns-in-Err-clause-files g c = no_files (form_of (words_of c.args.words.now)) (g.H.Host.contents c.args.host.now)
+
+pub returns-in-Err-clause-made : goal.returns-in-Err-clause-made
+returns-in-Err-clause-made g c = no_made (form_of (words_of c.args.words.now)) (g.H.Host.contents c.args.host.now) (g.H.Host.printed c.args.host.now)
 
 pub returns-in-Err-clause-printed : goal.returns-in-Err-clause-printed
 returns-in-Err-clause-printed g c = no_print (form_of (words_of c.args.words.now)) (g.H.Host.kind c.args.host.now) (g.H.Host.contents c.args.host.now) (g.H.Host.printed c.args.host.now)

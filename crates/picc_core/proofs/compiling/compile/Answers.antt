@@ -6,7 +6,6 @@ use Rattle.call_graph.specs.Levels.{IsAcyclic}
 use Rattle.headline.specs.SourceOf.{IsFaithfulTo}
 use Rattle.pic_map.specs.MapText.{AreInRange}
 use Rattle.pic_map.specs.MapView.{content_of, object_of, frame_of}
-use Rattle.program_code.specs.Translated.{IsTranslated}
 use Rattle.ram_place.specs.Placement.{addresses_covered}
 use Rattle.picc_core.specs.Blocks.{HasWords}
 use Rattle.picc_core.specs.Compiled.{IsPlaced, IsWithinDepth}
@@ -45,9 +44,6 @@ returns-clause-words c = part_of c.args.text.now (λ b. HasWords (program_of b.t
 
 pub returns-clause-few : goal.returns-clause-few
 returns-clause-few c = part_of c.args.text.now (λ b. length b.map.objects.items ≤ 65536) c.compiled.result c.compiled.ensures.whole (λ b is. is.few)
-
-pub returns-clause-translated : goal.returns-clause-translated
-returns-clause-translated c = part_of c.args.text.now (λ b. IsTranslated (program_of b.typed) b.image (content_of b.map)) c.compiled.result c.compiled.ensures.whole (λ b is. is.translated)
 
 pub returns-clause-faithful : goal.returns-clause-faithful
 returns-clause-faithful c = part_of c.args.text.now (λ b. IsFaithfulTo (program_of b.typed) (content_of b.map) b.image) c.compiled.result c.compiled.ensures.whole (λ b is. is.faithful)

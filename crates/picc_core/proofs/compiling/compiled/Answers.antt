@@ -7,6 +7,15 @@ use Rattle.c_typed.specs.Views.{program_of}
 pub built-requires : goal.built-requires
 built-requires c = c.in_ok-front.ensures.founded
 
+pub returns-clause-translated : goal.returns-clause-translated
+returns-clause-translated c =
+    let front = c.in_ok-front.ensures in
+    let made = c.in_ok-made.ensures in
+    let f = c.in_ok-front.front in
+    let b = c.in_ok-made.made in
+    let is = checked f.typed f.copies.list.items f.placed f.at.items b made.objects made.frames front.founded made.code (program_named c.args.text.now (program_of f.typed) front.typed) in
+    translated f.typed f.copies.list.items f.placed f.at.items b made.objects made.frames front.founded made.code made.typed is
+
 pub returns-clause-whole : goal.returns-clause-whole
 returns-clause-whole c =
     let front = c.in_ok-front.ensures in
@@ -16,4 +25,4 @@ returns-clause-whole c =
     let is = checked f.typed f.copies.list.items f.placed f.at.items b made.objects made.frames front.founded made.code (program_named c.args.text.now (program_of f.typed) front.typed) in
     compiled_to c.args.text.now f b front.tree front.typed front.taken front.roots front.recursion front.depth front.list front.exact front.apart front.clear front.objects
     front.ram front.blocks made.typed made.objects made.frames made.sizes is.range is.few
-    (translated f.typed f.copies.list.items f.placed f.at.items b made.objects made.frames front.founded made.code made.typed is)
+    (returns-clause-translated c)

@@ -6,4 +6,4 @@ use Rattle.picc_core.proofs.stages.refused_page.Goals as goal
 
 pub unreachable-requires : goal.unreachable-requires
 unreachable-requires c =
-    some_function (program_of c.args.p.now) c.args.copies.now c.requires (subst (TellsFirstOver (program_of c.args.p.now) c.args.copies.now) c.in_default.is c.first_over_page.ensures)
+    some_function (program_of c.args.p.now) c.args.copies.now c.requires (subst (TellsFirstOver 2048 (program_of c.args.p.now) c.args.copies.now) c.in_default.is c.first_over.ensures)

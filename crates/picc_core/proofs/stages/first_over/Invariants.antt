@@ -1,7 +1,7 @@
 use Rattle.std.proofs.Common.{take}
 use Rattle.c_typed.specs.Views.{program_of}
 use Rattle.picc_core.specs.CodeAnswers.{TellsFirstOver}
-use Rattle.picc_core.proofs.stages.first_over_page.Given as goal
+use Rattle.picc_core.proofs.stages.first_over.Given as goal
 
 abbrev pub invariant-loop-copy : goal.invariant-loop-copy
-invariant-loop-copy l = TellsFirstOver (program_of l.p) (take l.copy-index l.copies) l.first
+invariant-loop-copy l = TellsFirstOver l.most (program_of l.p) (take l.copy-index l.copies) l.first
