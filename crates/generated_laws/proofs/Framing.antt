@@ -1,17 +1,17 @@
 -- Where the object and the frames of a generated program stand.
-use Rattle.std.proofs.Common.{◌≡◌, ℕ, zero, suc, ◌+◌, ◌<◌, ◌≤◌, ◌⊎◌, inl, inr, ⊎_elim, Bool, true, false, ◌||◌, List, [], ◌∷◌, length, take, Option, Some, None, refl, ap, sym, ◌∙◌, subst, arith, if◌then◌else◌}
+use Rattle.std.proofs.Common.{◌≡◌, ℕ, zero, suc, ◌+◌, ◌<◌, ◌≤◌, inl, inr, Bool, true, false, ◌||◌, List, [], ◌∷◌, length, take, Option, Some, refl, ap, sym, ◌∙◌, subst, arith, if◌then◌else◌}
 use Rattle.std.specs.Prelude.{slice_get}
 use Rattle.std.proofs.lemmas.Option.{slice_get_within}
-use Rattle.c_typed.specs.Chains.{graph_of, IsChain, Reaches}
+use Rattle.c_typed.specs.Chains.{graph_of, IsChain}
 use Rattle.c_typed.specs.Room.{frame_size, room, place_room, arguments_room, statement_room, statements_room, arm_room, arms_room, last_room}
 use Rattle.c_typed.specs.Trees.{FunctionTree, StaticTree, Program}
 use Rattle.call_graph.specs.declared.types.FnCopy.{FnCopy}
-use Rattle.live_frames.specs.Memory.{covers, Stands, IsLowestIn, IsPlace, regions, count_below, counted}
+use Rattle.live_frames.specs.Memory.{covers, Stands, count_below, counted}
 use Rattle.live_frames.specs.Together.{MayBeLive, LiveFramesHave}
 use Rattle.live_frames.proofs.FreeRuns.{covers_tells}
 use Rattle.pic_map.specs.MapContent.{ObjectLine, FrameLine}
 use Rattle.pic_world.specs.declared.Root.TheVariants as root
-use Rattle.ram_place.specs.Placement.{objects_have, frames_have, IsTaken, IsTakenFor, object_line, frame_line, IsObject, IsFrame, AreObjects, AreFrames, IsPlacing, addresses_covered}
+use Rattle.ram_place.specs.Placement.{objects_have, frames_have, IsTaken, IsTakenFor, frame_line, IsObject, IsFrame, AreObjects, AreFrames, IsPlacing, addresses_covered}
 use Rattle.ram_place.specs.Sizes.{name_or_none, size_or_none}
 use Rattle.generated_laws.specs.Placed.{main_copy, copy_of, copies_from, generated_copies, object_at, main_frame, frame_of, frames_from, generated_objects, generated_frames, generated_graph}
 use Rattle.generated_laws.specs.Tree.{function_name}

@@ -1,9 +1,9 @@
 -- A generated tree is one of the grammar.
 use Rattle.std.proofs.Common.{◌≡◌, ℕ, zero, suc, ◌+◌, ◌≤◌, List, [], ◌∷◌, refl, arith, codes}
 use Rattle.c_nodes.specs.Programs as unit
-use Rattle.c_nodes.specs.Programs.{Statements, StatementTree, ItemTree, IsDeclaration, IsStatement, AreStatements, depth_statements, IsItem, IsUnit}
+use Rattle.c_nodes.specs.Programs.{Statements, ItemTree, IsDeclaration, IsStatement, AreStatements, depth_statements, IsItem, IsUnit}
 use Rattle.c_nodes.specs.Trees.{Tree, IsTree, AreSpecs, IsDeclarator, rank}
-use Rattle.generated_laws.specs.Tree.{byte_specs, object, declared_byte, variable, function_name, function_at, functions_from, assigned, call_at, calls_from, main_statements, main_at, generated_tree}
+use Rattle.generated_laws.specs.Tree.{byte_specs, object, declared_byte, variable, function_at, functions_from, assigned, call_at, calls_from, main_statements, main_at, generated_tree}
 
 byte_is : (line : ℕ) → AreSpecs (byte_specs line)
 byte_is line = (refl, (refl, tt))

@@ -1,5 +1,5 @@
 -- Each generated text is accepted, and its sizes.
-use Rattle.std.proofs.Common.{◌≡◌, ℕ, zero, suc, ◌+◌, ◌*◌, ◌<◌, ◌≤◌, Bool, true, List, [], ◌∷◌, length, map, Option, Some, None, Result, Ok, Err, refl, sym, ap, ◌∙◌, subst, arith}
+use Rattle.std.proofs.Common.{◌≡◌, ℕ, zero, suc, ◌+◌, ◌*◌, ◌<◌, ◌≤◌, Bool, true, List, [], ◌∷◌, map, Option, Some, Result, Ok, Err, refl, sym, ap, ◌∙◌, subst, arith}
 use Rattle.std.specs.Prelude.{sum}
 use Rattle.std.specs.List.{sum_by}
 use Rattle.std.specs.List.Sorted.{IsPermutation}
@@ -17,7 +17,7 @@ use Rattle.c_typed.specs.Words.{start_size}
 use Rattle.call_graph.specs.Copies.{IsDepth, HasDepth, AreCopies, root_of}
 use Rattle.call_graph.specs.Levels.{IsAcyclic, IsLongest}
 use Rattle.call_graph.specs.declared.types.FnCopy.{FnCopy}
-use Rattle.pic_map.specs.MapContent.{ObjectLine, FrameLine}
+use Rattle.pic_map.specs.MapContent.{ObjectLine}
 use Rattle.pic_world.specs.declared.Root.TheVariants as root
 use Rattle.code_place.specs.Pages.{addresses}
 use Rattle.program_code.specs.Stated.{copy_words, sizes}

@@ -1,7 +1,7 @@
 -- The text of a generated program by its parts.
 use Rattle.std.proofs.Common.{◌≡◌, ℕ, ◌+◌, List, [], ◌∷◌, ◌++◌, sym, ap, ◌∙◌, append_assoc, append-nil, add-one, codes}
 use Rattle.std.specs.Prelude.{decimal}
-use Rattle.picc_cli.specs.Generated.{line, functions_text, calls_text, generated}
+use Rattle.generated_laws.specs.Generated.{line, functions_text, calls_text, generated}
 
 pub no_functions : (old : List ℕ) → old ≡ old ++ functions_text 0
 unfolding functions_text

@@ -23,7 +23,6 @@ pub mod SimulationStops
 pub mod ChipNames
 pub mod SimulationEnds
 pub mod AgreementEnds
-pub mod SizesTold
 pub mod GenerationEnds
 pub mod FilesKept
 pub mod SimulationWhole

@@ -1,14 +1,15 @@
 -- The numbers that words give are within their limits.
-use Rattle.std.proofs.Common.{◌≡◌, ℕ, ◌+◌, ◌-◌, ◌*◌, ◌≤◌, ⊎_elim, Bool, true, false, Option, Some, None, List, [], ◌∷◌, sym, ap, arith}
-use Rattle.std.proofs.lemmas.Bool.{cases_lt, lt-ltb, le-ltb}
+use Rattle.std.proofs.Common.{◌≡◌, ℕ, ◌+◌, ◌-◌, ◌*◌, ◌≤◌, ⊎_elim, Bool, true, false, Option, Some, None, List, [], ◌∷◌, refl, sym, subst, arith}
+use Rattle.std.proofs.lemmas.Bool.{cases_lt, ltb-true, lt-ltb, le-ltb}
 use Rattle.std.specs.Prelude.{nat_lt, ◌&&◌, if◌then◌else◌}
 use Rattle.std.specs.Prelude.{codes, option_map}
 use Rattle.std.specs.List.{list_all}
 use Rattle.std.specs.Str.{bytes_eq}
 use Rattle.picc_cli.specs.declared.command.Command as declared
 use Rattle.picc_cli.specs.declared.command.Command.TheVariants as commands
-use Rattle.picc_cli.specs.CommandView.{IsWithin, compared_of, form_view}
-use Rattle.picc_cli.specs.Command.{Compared, Build, Trace, Simulate, Agree, Generate, Check, is_name, differ, is_short, all_digits, number_onto, number_in, build_of, trace_of, simulate_of, agree_of, from_one, generate_of, check_of, form_by_name, form_of}
+use Rattle.picc_cli.specs.CommandView.{IsWithin, form_view}
+use Rattle.picc_cli.specs.Command.{Form, Build, Trace, Simulate, Agree, Generate, Check, is_name, differ, is_short, all_digits, number_onto, number_in, build_of, trace_of, simulate_of, agree_of, from_one, generate_of, check_of, form_by_name, form_of}
+use Rattle.picc_cli.specs.Summary.{IsSize}
 
 onto_within : (most n m : ℕ) (digits : List ℕ) → n ≤ most → number_onto most n digits ≡ Some m → m ≤ most
 unfolding number_onto
@@ -25,96 +26,111 @@ number_within most m word = by_test (is_short word && all_digits word) where
   by_test true e = onto_within most 0 m word (omega arith) e
   by_test false e = absurd (cc)
 
-module _ (asked : Compared) where
-  no_build : (words : List (List ℕ)) → build_of words ≡ Some (Agree asked) → ⊥
-  no_build [] e = cc
-  no_build (a ∷ []) e = cc
-  no_build (a ∷ b ∷ []) e = cc
-  no_build (a ∷ b ∷ c ∷ []) e = by_test (differ a b c) e where
-    by_test : (x : Bool) → (if x then Some (Build (record { input = a; output = b; map = c })) else None) ≡ Some (Agree asked) → ⊥
-    by_test true e = cc
-    by_test false e = cc
-  no_build (a ∷ b ∷ c ∷ d ∷ more) e = cc
+-- the number of a form is within its limit
+abbrev IsLimited : Form → Type 0
+IsLimited (Build names) = Unit {0}
+IsLimited (Trace asked) = Unit {0}
+IsLimited (Simulate asked) = Unit {0}
+IsLimited (Agree asked) = asked.instructions ≤ 100000
+IsLimited (Generate size) = IsSize size
+IsLimited (Check hex) = Unit {0}
 
-  no_trace : (words : List (List ℕ)) → trace_of words ≡ Some (Agree asked) → ⊥
-  no_trace [] e = cc
-  no_trace (a ∷ []) e = cc
-  no_trace (a ∷ b ∷ []) e = cc
-  no_trace (a ∷ b ∷ m ∷ []) e = by_number (number_in 1000000 m) e where
-    by_number : (o : Option ℕ) → option_map (λ steps. Trace (record { input = a; script = b; steps = steps })) o ≡ Some (Agree asked) → ⊥
-    by_number None e = cc
-    by_number (Some n) e = cc
-  no_trace (a ∷ b ∷ m ∷ d ∷ more) e = cc
+this_form : (f g : Form) → Some f ≡ Some g → f ≡ g
+this_form f g e = cc
 
-  no_simulation : (words : List (List ℕ)) → simulate_of words ≡ Some (Agree asked) → ⊥
-  no_simulation [] e = cc
-  no_simulation (a ∷ []) e = cc
-  no_simulation (a ∷ b ∷ []) e = cc
-  no_simulation (a ∷ b ∷ c ∷ []) e = cc
-  no_simulation (a ∷ b ∷ c ∷ n ∷ []) e = by_number (number_in 1000000 n) e where
-    by_number : (o : Option ℕ) → option_map (λ instructions. Simulate (record { hex = a; map = b; script = c; instructions = instructions })) o ≡ Some (Agree asked) → ⊥
-    by_number None e = cc
-    by_number (Some n) e = cc
-  no_simulation (a ∷ b ∷ c ∷ n ∷ d ∷ more) e = cc
+module _ (form : Form) where
+  by_form : (f : Form) → IsLimited f → Some f ≡ Some form → IsLimited form
+  by_form f is e = subst IsLimited (this_form f form e) is
 
-  no_program : (words : List (List ℕ)) → generate_of words ≡ Some (Agree asked) → ⊥
-  no_program [] e = cc
-  no_program (k ∷ []) e = by_number (number_in 64 k) e where
-    by_test : (n : ℕ) (x : Bool) → (if x then Some (Generate n) else None) ≡ Some (Agree asked) → ⊥
-    by_test n true e = cc
-    by_test n false e = cc
+  no_form : None ≡ Some form → IsLimited form
+  no_form e = absurd (cc)
 
-    by_number : (o : Option ℕ) → from_one o ≡ Some (Agree asked) → ⊥
-    by_number None e = cc
-    by_number (Some n) e = by_test n (nat_lt 0 n) e
-  no_program (k ∷ d ∷ more) e = cc
+  build_within : (words : List (List ℕ)) → build_of words ≡ Some form → IsLimited form
+  build_within [] e = no_form e
+  build_within (a ∷ []) e = no_form e
+  build_within (a ∷ b ∷ []) e = no_form e
+  build_within (a ∷ b ∷ c ∷ []) e = by_test (differ a b c) e where
+    by_test : (x : Bool) → (if x then Some (Build (record { input = a; output = b; map = c })) else None) ≡ Some form → IsLimited form
+    by_test true e = by_form (Build (record { input = a; output = b; map = c })) tt e
+    by_test false e = no_form e
+  build_within (a ∷ b ∷ c ∷ d ∷ more) e = no_form e
 
-  no_check : (words : List (List ℕ)) → check_of words ≡ Some (Agree asked) → ⊥
-  no_check [] e = cc
-  no_check (hex ∷ []) e = cc
-  no_check (hex ∷ d ∷ more) e = cc
+  trace_within : (words : List (List ℕ)) → trace_of words ≡ Some form → IsLimited form
+  trace_within [] e = no_form e
+  trace_within (a ∷ []) e = no_form e
+  trace_within (a ∷ b ∷ []) e = no_form e
+  trace_within (a ∷ b ∷ m ∷ []) e = by_number (number_in 1000000 m) e where
+    by_number : (o : Option ℕ) → option_map (λ steps. Trace (record { input = a; script = b; steps = steps })) o ≡ Some form → IsLimited form
+    by_number None e = no_form e
+    by_number (Some n) e = by_form (Trace (record { input = a; script = b; steps = n })) tt e
+  trace_within (a ∷ b ∷ m ∷ d ∷ more) e = no_form e
 
-  agreed_within : (words : List (List ℕ)) → agree_of words ≡ Some (Agree asked) → asked.instructions ≤ 100000
-  agreed_within [] e = absurd (cc)
-  agreed_within (a ∷ []) e = absurd (cc)
-  agreed_within (a ∷ b ∷ []) e = absurd (cc)
-  agreed_within (a ∷ b ∷ n ∷ []) e = number_within 100000 asked.instructions n (by_number (number_in 100000 n) e) where
-    by_number : (o : Option ℕ) → option_map (λ instructions. Agree (record { input = a; script = b; instructions = instructions })) o ≡ Some (Agree asked) → o ≡ Some asked.instructions
-    by_number None e = absurd (cc)
-    by_number (Some n) e =
-        let same : (record { input = a; script = b; instructions = n }) ≡ asked = cc in
-        ap (λ (c : Compared). Some c.instructions) same
-  agreed_within (a ∷ b ∷ n ∷ d ∷ more) e = absurd (cc)
+  simulation_within : (words : List (List ℕ)) → simulate_of words ≡ Some form → IsLimited form
+  simulation_within [] e = no_form e
+  simulation_within (a ∷ []) e = no_form e
+  simulation_within (a ∷ b ∷ []) e = no_form e
+  simulation_within (a ∷ b ∷ c ∷ []) e = no_form e
+  simulation_within (a ∷ b ∷ c ∷ n ∷ []) e = by_number (number_in 1000000 n) e where
+    by_number : (o : Option ℕ) → option_map (λ instructions. Simulate (record { hex = a; map = b; script = c; instructions = instructions })) o ≡ Some form → IsLimited form
+    by_number None e = no_form e
+    by_number (Some n) e = by_form (Simulate (record { hex = a; map = b; script = c; instructions = n })) tt e
+  simulation_within (a ∷ b ∷ c ∷ n ∷ d ∷ more) e = no_form e
 
-  named_within : (words : List (List ℕ)) → form_by_name words ≡ Some (Agree asked) → asked.instructions ≤ 100000
+  agreement_within : (words : List (List ℕ)) → agree_of words ≡ Some form → IsLimited form
+  agreement_within [] e = no_form e
+  agreement_within (a ∷ []) e = no_form e
+  agreement_within (a ∷ b ∷ []) e = no_form e
+  agreement_within (a ∷ b ∷ n ∷ []) e = by_number (number_in 100000 n) (λ m is. number_within 100000 m n is) e where
+    by_number : (o : Option ℕ) → ((m : ℕ) → o ≡ Some m → m ≤ 100000) → option_map (λ instructions. Agree (record { input = a; script = b; instructions = instructions })) o ≡ Some form → IsLimited form
+    by_number None low e = no_form e
+    by_number (Some m) low e = by_form (Agree (record { input = a; script = b; instructions = m })) (low m refl) e
+  agreement_within (a ∷ b ∷ n ∷ d ∷ more) e = no_form e
+
+  program_within : (words : List (List ℕ)) → generate_of words ≡ Some form → IsLimited form
+  program_within [] e = no_form e
+  program_within (k ∷ []) e = by_number (number_in 64 k) (λ m is. number_within 64 m k is) e where
+    by_test : (m : ℕ) (x : Bool) → nat_lt 0 m ≡ x → m ≤ 64 → (if x then Some (Generate m) else None) ≡ Some form → IsLimited form
+    by_test m true some low e = by_form (Generate m) (ltb-true 0 m some, low) e
+    by_test m false none low e = no_form e
+
+    by_number : (o : Option ℕ) → ((m : ℕ) → o ≡ Some m → m ≤ 64) → from_one o ≡ Some form → IsLimited form
+    by_number None low e = no_form e
+    by_number (Some m) low e = by_test m (nat_lt 0 m) refl (low m refl) e
+  program_within (k ∷ d ∷ more) e = no_form e
+
+  check_within : (words : List (List ℕ)) → check_of words ≡ Some form → IsLimited form
+  check_within [] e = no_form e
+  check_within (hex ∷ []) e = by_form (Check hex) tt e
+  check_within (hex ∷ d ∷ more) e = no_form e
+
+  named_within : (words : List (List ℕ)) → form_by_name words ≡ Some form → IsLimited form
   unfolding form_by_name
-  named_within [] e = absurd (cc)
+  named_within [] e = no_form e
   named_within (command ∷ rest) e =
       by_tests (bytes_eq command (codes "build")) (bytes_eq command (codes "trace")) (bytes_eq command (codes "sim")) (bytes_eq command (codes "agree")) (bytes_eq command (codes "gen")) (bytes_eq command (codes "check")) e
     where
       by_tests : (u v w x y z : Bool)
-          → (if u then build_of rest else if v then trace_of rest else if w then simulate_of rest else if x then agree_of rest else if y then generate_of rest else if z then check_of rest else None) ≡ Some (Agree asked)
-          → asked.instructions ≤ 100000
-      by_tests true v w x y z e = absurd (no_build rest e)
-      by_tests false true w x y z e = absurd (no_trace rest e)
-      by_tests false false true x y z e = absurd (no_simulation rest e)
-      by_tests false false false true y z e = agreed_within rest e
-      by_tests false false false false true z e = absurd (no_program rest e)
-      by_tests false false false false false true e = absurd (no_check rest e)
-      by_tests false false false false false false e = absurd (cc)
+          → (if u then build_of rest else if v then trace_of rest else if w then simulate_of rest else if x then agree_of rest else if y then generate_of rest else if z then check_of rest else None) ≡ Some form
+          → IsLimited form
+      by_tests true v w x y z e = build_within rest e
+      by_tests false true w x y z e = trace_within rest e
+      by_tests false false true x y z e = simulation_within rest e
+      by_tests false false false true y z e = agreement_within rest e
+      by_tests false false false false true z e = program_within rest e
+      by_tests false false false false false true e = check_within rest e
+      by_tests false false false false false false e = no_form e
 
-  -- the N of `agree` is at most 100,000
-  pub compared_within : (words : List (List ℕ)) → form_of words ≡ Some (Agree asked) → asked.instructions ≤ 100000
-  compared_within words e = by_test (list_all is_name words) e where
-    by_test : (x : Bool) → (if x then form_by_name words else None) ≡ Some (Agree asked) → asked.instructions ≤ 100000
+  words_within : (words : List (List ℕ)) → form_of words ≡ Some form → IsLimited form
+  words_within words e = by_test (list_all is_name words) e where
+    by_test : (x : Bool) → (if x then form_by_name words else None) ≡ Some form → IsLimited form
     by_test true e = named_within words e
-    by_test false e = absurd (cc)
+    by_test false e = no_form e
 
 pub command_within : (command : Option declared.Command) (words : List (List ℕ)) → option_map form_view command ≡ form_of words → IsWithin command
 command_within None words e = tt
 command_within (Some (commands.Build files)) words e = tt
 command_within (Some (commands.Trace asked)) words e = tt
 command_within (Some (commands.Simulate simulated)) words e = tt
-command_within (Some (commands.Agree compared)) words e = compared_within (compared_of compared) words (sym e)
-command_within (Some (commands.Generate size)) words e = tt
+command_within (Some (commands.Agree compared)) words e = words_within (form_view (commands.Agree compared)) words (sym e)
+command_within (Some (commands.Generate size)) words e = words_within (Generate size) words (sym e)
 command_within (Some (commands.Check hex)) words e = tt

@@ -9,12 +9,11 @@ use Rattle.picc_cli.specs.declared.tracing.Ended.TheVariants as trace
 use Rattle.picc_cli.specs.Command.{Form, Build, Trace, Simulate, Agree, Generate, Check}
 use Rattle.picc_cli.specs.Finished.{HasFiles, HasFaults, IsStatus, HasStatus, HasPrinted, HasTold, IsComplete}
 use Rattle.pic_sim.specs.Going.{Known}
-use Rattle.picc_cli.specs.Generated.{generated}
 use Rattle.picc_cli.specs.Made.{HasMade}
 use Rattle.host_lines.specs.Said.{IsLast}
 use Rattle.picc_cli.specs.Simulation.{HasSimulated, Knows}
 use Rattle.picc_cli.specs.Lines.{usage_line}
-use Rattle.picc_cli.specs.Summary.{summary_line}
+use Rattle.picc_cli.specs.Summary.{generated_text}
 use Rattle.picc_cli.proofs.CheckEnds.{unsaid_told}
 use Rattle.picc_cli.proofs.Endings.{add_nothing}
 use Rattle.picc_cli.proofs.SimulationStops.{prints_as_run, stops_as_run}
@@ -59,7 +58,7 @@ no_status_known (Some (Build names)) = inr (inr (inr refl))
 no_status_known (Some (Trace asked)) = inr (inr (inr (inr (inr refl))))
 no_status_known (Some (Simulate asked)) = inr (inr (inr (inr refl)))
 no_status_known (Some (Agree asked)) = inr (inr (inr (inr (inr refl))))
-no_status_known (Some (Generate functions)) = inr (inr (inr refl))
+no_status_known (Some (Generate functions)) = inr (inr refl)
 no_status_known (Some (Check hex)) = inr (inr (inr (inr refl)))
 
 pub no_status : (form : Option Form) → HasStatus form 9
@@ -95,8 +94,7 @@ no_print (Some (Agree asked)) kind files p =
       sound = λ is e. absurd (omega arith);
     }
 no_print (Some (Generate functions)) kind files p =
-    let text = generated functions ++ summary_line functions 0 0 0 in
-    record { whole = inl (inr refl); prefix = λ up. (None, text, record { words = 0; ram = 0; depth = 0; whole = refl }, nothing_of p text) }
+    record { whole = λ zero. absurd (omega arith); prefix = λ up. nothing_of p (generated_text functions) }
 no_print (Some (Check hex)) kind files p =
     record {
       prints = record { whole = inl (inr refl); prefix = λ up. (check.NoMemory, [], refl, nothing_of p []) };
@@ -110,7 +108,7 @@ no_told (Some (Build names)) (Some o) new p = λ e. absurd (omega arith)
 no_told (Some (Trace asked)) (Some o) new p = inl (inr refl)
 no_told (Some (Simulate asked)) (Some o) new p = tt
 no_told (Some (Agree asked)) (Some o) new p = record { ended = agree.NoMemory; knows = tt; exact = tt; last = inr (inr refl, nothing_of p []) }
-no_told (Some (Generate functions)) (Some o) new p = record { sized = λ e. absurd (omega arith); refused = λ e. absurd (omega arith) }
+no_told (Some (Generate functions)) (Some o) new p = tt
 no_told (Some (Check hex)) (Some o) new p = unsaid_told hex o 9 p p (inr refl)
 
 -- a board that wasn't asked
@@ -164,7 +162,7 @@ no_end (Some (Agree asked)) kind before now (Some o) = λ quiet.
             refused = λ text script refusal a b c d. inr refl;
           };
     }
-no_end (Some (Generate functions)) kind before now (Some o) = λ quiet. record { ends = inr (inr refl); accepted = λ a. inr refl; refused = λ refusal a. inr refl }
+no_end (Some (Generate functions)) kind before now (Some o) = λ quiet. inr refl
 no_end (Some (Check hex)) kind before now (Some o) = λ quiet.
     record {
       ends = inr (inr (inr refl));

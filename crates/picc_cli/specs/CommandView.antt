@@ -7,6 +7,7 @@ use Rattle.picc_cli.specs.declared.command.Compared as declared_compared
 use Rattle.picc_cli.specs.declared.command.Command as declared_command
 use Rattle.picc_cli.specs.declared.command.Command.TheVariants as commands
 use Rattle.picc_cli.specs.Command.{Names, Asked, Simulated, Compared, Form, Build, Trace, Simulate, Agree, Generate, Check}
+use Rattle.picc_cli.specs.Summary.{IsSize}
 
 abbrev pub names_of : Files → Names
 names_of files = record { input = files.input.now; output = files.output.now; map = files.map.now }
@@ -28,12 +29,12 @@ form_view (commands.Agree compared) = Agree (compared_of compared)
 form_view (commands.Generate size) = Generate size
 form_view (commands.Check hex) = Check hex.now
 
--- a comparison has at most 100,000 instructions
+-- a comparison has at most 100,000 instructions, and a generated program from 1 to 64 functions
 abbrev pub IsWithin : Option declared_command.Command → Type 0
 IsWithin None = Unit {0}
 IsWithin (Some (commands.Build files)) = Unit {0}
 IsWithin (Some (commands.Trace asked)) = Unit {0}
 IsWithin (Some (commands.Simulate simulated)) = Unit {0}
 IsWithin (Some (commands.Agree compared)) = compared.instructions ≤ 100000
-IsWithin (Some (commands.Generate size)) = Unit {0}
+IsWithin (Some (commands.Generate size)) = IsSize size
 IsWithin (Some (commands.Check hex)) = Unit {0}

@@ -13,15 +13,13 @@ use Rattle.picc_cli.specs.Built.{IsBuiltBy}
 use Rattle.picc_cli.specs.Checked.{CheckPrints, CheckTells, CheckCompletes}
 use Rattle.picc_cli.specs.Chip as chip
 use Rattle.picc_cli.specs.Command.{Names, Asked, Compared, Form, Build, Trace, Simulate, Agree, Generate, Check}
-use Rattle.picc_cli.specs.Generated.{generated}
 use Rattle.picc_cli.specs.Lines.{usage_line, cannot_read}
 use Rattle.picc_cli.specs.Outcome as build
 use Rattle.picc_cli.specs.Outcome.{Files, Builds, RefusesBy, BreaksOff}
 use Rattle.picc_cli.specs.RunsTold.{RunsTell}
-use Rattle.host_lines.specs.Said.{GivesUp, Prints}
+use Rattle.host_lines.specs.Said.{GivesUp}
 use Rattle.picc_cli.specs.Simulation.{SimulationCompletes}
-use Rattle.picc_cli.specs.Summary as generation
-use Rattle.picc_cli.specs.Summary.{IsGeneratedText, GenerationTells}
+use Rattle.picc_cli.specs.Summary.{generated_text}
 use Rattle.picc_cli.specs.Trace as trace
 use Rattle.picc_cli.specs.ScriptInput.{IsScript}
 use Rattle.picc_cli.specs.Trace.{Knows, IsTraceText}
@@ -73,7 +71,7 @@ IsStatus (Some (Build names)) result = (result ≡ 0) ⊎ ((result ≡ 1) ⊎ Gi
 IsStatus (Some (Trace asked)) result = (result ≡ 0) ⊎ ((result ≡ 1) ⊎ ((result ≡ 4) ⊎ ((result ≡ 5) ⊎ GivesUp result)))
 IsStatus (Some (Simulate asked)) result = (result ≡ 0) ⊎ ((result ≡ 5) ⊎ ((result ≡ 6) ⊎ GivesUp result))
 IsStatus (Some (Agree asked)) result = (result ≡ 0) ⊎ ((result ≡ 1) ⊎ ((result ≡ 4) ⊎ ((result ≡ 5) ⊎ GivesUp result)))
-IsStatus (Some (Generate functions)) result = (result ≡ 0) ⊎ ((result ≡ 1) ⊎ GivesUp result)
+IsStatus (Some (Generate functions)) result = (result ≡ 0) ⊎ GivesUp result
 IsStatus (Some (Check hex)) result = (result ≡ 0) ⊎ ((result ≡ 5) ⊎ ((result ≡ 7) ⊎ GivesUp result))
 
 pub record HasStatus (form : Option Form) (result : ℕ) : Type 0 where
@@ -83,10 +81,10 @@ pub record HasStatus (form : Option Form) (result : ℕ) : Type 0 where
   pub no_form : form ≡ None → (result ≡ 2) ⊎ GivesUp result
 
 -- ---- the printed text
--- this line, or a prefix of it where the printing failed
-pub record UsagePrints (old new : Option (List ℕ)) (result : ℕ) : Type 0 where
-  pub whole : result ≡ 2 → new ≡ option_map (λ text. text ++ usage_line) old
-  pub prefix : GivesUp result → PrintsPrefix old new usage_line
+-- this text with this status, or a prefix of it where the printing failed
+pub record TextPrints (text : List ℕ) (status : ℕ) (old new : Option (List ℕ)) (result : ℕ) : Type 0 where
+  pub whole : result ≡ status → new ≡ option_map (λ t. t ++ text) old
+  pub prefix : GivesUp result → PrintsPrefix old new text
 
 pub record BuildPrints (kind : Kind) (names : Names) (old new : Option (List ℕ)) (result : ℕ) : Type 0 where
   pub nothing : result ≡ 0 → new ≡ old
@@ -108,12 +106,12 @@ pub record TracePrints (kind : Kind) (asked : Asked) (files : Option Contents) (
       ⊎ (Lacks files asked.script × (new ≡ option_map (λ text. text ++ cannot_read asked.script) old))
 
 abbrev pub HasPrinted : Kind → Option Form → Option Contents → Option (List ℕ) → Option (List ℕ) → ℕ → Type 0
-HasPrinted kind None files old new result = UsagePrints old new result
+HasPrinted kind None files old new result = TextPrints usage_line 2 old new result
 HasPrinted kind (Some (Build names)) files old new result = BuildPrints kind names old new result
 HasPrinted kind (Some (Trace asked)) files old new result = TracePrints kind asked files old new result
 HasPrinted kind (Some (Simulate asked)) files old new result = chip.SimulationPrints kind asked files old new result
 HasPrinted kind (Some (Agree asked)) files old new result = agreement.AgreementPrints kind asked files old new result
-HasPrinted kind (Some (Generate functions)) files old new result = Prints generation.status_of (IsGeneratedText functions) old new result
+HasPrinted kind (Some (Generate functions)) files old new result = TextPrints (generated_text functions) 0 old new result
 HasPrinted kind (Some (Check hex)) files old new result = CheckPrints kind hex old new result
 
 -- ---- where the host tells both
@@ -137,10 +135,10 @@ HasTold None old new before after result = Unit {0}
 HasTold (Some (Build names)) old new before after result = result ≡ 1 → BuildTells plain names old new before after
 HasTold (Some (Trace asked)) old new before after result = GivesUp result ⊎ TraceTells asked old before after result
 HasTold (Some (Agree asked)) old new before after result = agreement.AgreementTells RunsTell asked old before after result
-HasTold (Some (Generate functions)) old new before after result = GenerationTells functions before after result
 HasTold (Some (Check hex)) old new before after result = CheckTells hex old before after result
--- what a simulation does is told with its board (HasSimulated)
+-- what a simulation does is told with its board (HasSimulated), and what is printed of a generated program is one text
 HasTold (Some (Simulate asked)) old new before after result = Unit {0}
+HasTold (Some (Generate functions)) old new before after result = Unit {0}
 
 -- ---- without a fault and with memory enough, each command ends as it is to end
 -- some refusal holds of the text, by what the build accepts
@@ -177,19 +175,14 @@ pub record AgreementCompletes (asked : Compared) (old : Contents) (result : ℕ)
   pub ends : (result ≡ 0) ⊎ ((result ≡ 1) ⊎ ((result ≡ 4) ⊎ ((result ≡ 5) ⊎ (result ≡ 9))))
   pub files : TraceCompletes (agreement.files_of asked) old result
 
--- The program is accepted and printed, or refused. Unless memory runs out one of the two comes, and the status says which.
-pub record GenerationCompletes (functions result : ℕ) : Type 0 where
-  pub ends : ((result ≡ 0) × IsAcceptedText (generated functions)) ⊎ (((result ≡ 1) × IsRefusedText (generated functions)) ⊎ (result ≡ 9))
-  pub accepted : IsAcceptedText (generated functions) → (result ≡ 0) ⊎ (result ≡ 9)
-  pub refused : (refusal : Refusal) → Tells (generated functions) refusal → (result ≡ 1) ⊎ (result ≡ 9)
-
 abbrev pub Completes : Option Form → Contents → ℕ → Type 0
 Completes None old result = (result ≡ 2) ⊎ (result ≡ 9)
 Completes (Some (Build names)) old result = BuildCompletes plain names old result
 Completes (Some (Trace asked)) old result = TraceCompletes asked old result
 Completes (Some (Simulate asked)) old result = SimulationCompletes asked old result
 Completes (Some (Agree asked)) old result = AgreementCompletes asked old result
-Completes (Some (Generate functions)) old result = GenerationCompletes functions result
+-- a generated program is never refused
+Completes (Some (Generate functions)) old result = (result ≡ 0) ⊎ (result ≡ 9)
 Completes (Some (Check hex)) old result = CheckCompletes hex old result
 
 abbrev pub IsComplete : Kind → ℕ → ℕ → Option Form → Contents → ℕ → Type 0

@@ -16,6 +16,5 @@ pub mod Simulation
 pub mod Summary
 pub mod Checked
 pub mod Finished
-pub mod Generated
 pub mod Traced
 pub mod TracedStep

@@ -25,11 +25,10 @@ const USAGE: &str =
     "usage: picc build IN OUT MAP | trace IN SCRIPT M | sim HEX MAP SCRIPT N | agree IN SCRIPT N | gen K | check HEX\n";
 
 /// Runs the command of these words, which are those after the program's name, over a host on which no file is open.
-/// The answer is the exit status: 0 where the command did what its form says, 1 where the C text is refused, which may be the
-/// one that `gen` generates, 2 where
-/// the words are of no form, 3 for a fault of the host, 4 where a step of a trace or of a comparison is undefined, 5 where
-/// a HEX file, a map or a script is none, 6 where a simulation comes to SLEEP or to a word that is no instruction's, 7 where no
-/// certificate of the return stack's depth is valid for an image, 9 when out of memory.
+/// The answer is the exit status: 0 where the command did what its form says, 1 where the C text is refused, 2 where the words
+/// are of no form, 3 for a fault of the host, 4 where a step of a trace or of a comparison is undefined, 5 where a HEX file, a
+/// map or a script is none, 6 where a simulation comes to SLEEP or to a word that is no instruction's, 7 where no certificate of
+/// the return stack's depth is valid for an image, 9 when out of memory.
 ///
 /// The forms are six. `build IN OUT MAP` compiles the C text of IN, writes the HEX to OUT and then the map to
 /// MAP, and prints nothing. No file is created before all else has succeeded. `trace IN SCRIPT M` runs the C text of IN by
@@ -57,10 +56,9 @@ pub fn picc<H: Host>(
     // What is printed is a whole text of the form, or a prefix of one where it gives up. Over a sound host 3 comes with the line of a file
     // that has no content.
     ensures printed { HasPrinted (H.kind host.old) (form_of (words_of words.now)) (H.contents host.old) (H.printed host.old) (H.printed host.new) result }
-    // What is printed of a refused text, of a file that isn't such as it is to be, and of an accepted one, holds of the files; and
-    // the sizes of a generated program are those of its typed program, or a refusal of it holds of it. The depth that a check prints is
-    // that of a certificate that is valid for the image of its file, so in no run of that image does the return stack hold more words; with
-    // 7 no certificate is valid for it.
+    // What is printed of a refused text, of a file that isn't such as it is to be, and of an accepted one, holds of the files. The
+    // depth that a check prints is that of a certificate that is valid for the image of its file, so in no run of that image does the
+    // return stack hold more words; with 7 no certificate is valid for it.
     ensures told { IfSome (H.contents host.old) (λ old. HasTold (form_of (words_of words.now)) old (H.contents host.new) (H.printed host.old) (H.printed host.new) result) }
     // A simulation runs the chip over the board, on what its three files hold: this is that run, its events, and what the board was
     // asked and told. 6 comes just where the run of the chip's own definitions stops, and with 0 and 6 the trace of that run is printed.

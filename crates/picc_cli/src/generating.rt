@@ -1,7 +1,7 @@
 //! Programs of a given size.
 
 ghost use Rattle.std.specs.Prelude.{◌≡◌, ◌++◌, IfOk, OnOk};
-ghost use Rattle.picc_cli.specs.Generated as spec;
+ghost use Rattle.generated_laws.specs.Generated as spec;
 
 use crate::refusal::push_counted;
 use std::alloc::{AllocError, Global};

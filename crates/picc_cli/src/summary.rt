@@ -1,20 +1,17 @@
 //! The form `gen`: a program of a given size, and its sizes.
 
-ghost use Rattle.std.specs.Prelude.{◌≡◌, ◌≤◌, ◌++◌, IfErr, IfOk, IfSome, OnOk, Some};
+ghost use Rattle.std.specs.Prelude.{◌≡◌, ◌+◌, ◌*◌, ◌≤◌, ◌++◌, IfOk, IfSome, OnOk, Some};
+ghost use Rattle.generated_laws.specs.Generated.{generated};
 ghost use Rattle.host_io.specs.Host.{Closed};
 ghost use Rattle.picc_cli.specs.Command.{Generate};
 ghost use Rattle.picc_cli.specs.Finished.{HasFaults, HasPrinted, HasStatus, HasTold, IsComplete};
-ghost use Rattle.picc_cli.specs.Generated.{generated};
-ghost use Rattle.picc_cli.specs.Summary.{AreSizes, IsSized, IsSummed, summary_line};
-ghost use Rattle.picc_core.specs.Answers.{TellsError};
-ghost use Rattle.picc_core.specs.Decided.{IsAcceptedText};
+ghost use Rattle.picc_cli.specs.Summary.{IsSize, generated_text, summary_line};
 
 use crate::generating::generate;
 use crate::refusal::push_counted;
-use crate::say::say_refusal;
 use host_io::Host;
 use host_lines::say_line;
-use picc_core::{CompileError, front};
+use picc_core::{CompileError, compile};
 use std::alloc::{AllocError, Global};
 
 /// What a program is stated to take: the words of all blocks of code, how many addresses of data memory its objects and
@@ -26,10 +23,11 @@ struct Sizes {
     depth: u8,
 }
 
-/// Prints the program of so many functions, 1 to 64, and after it a comment with its sizes; or the line of a refusal, if one
-/// holds of that program. The answer is the exit status.
+/// Compiles the program of so many functions, 1 to 64, and prints it and after it a comment with its sizes. The answer is the
+/// exit status. No such program is refused.
 pub fn print_generated<H: Host>(alloc: Global, host: &mut H, functions: u32) -> u8
     requires closed { H.open_file host.old ≡ Closed }
+    requires size { IsSize functions }
     ensures closed { H.open_file host.new ≡ Closed }
     ensures same_kind { H.kind host.new ≡ H.kind host.old }
     ensures same_contents { H.contents host.new ≡ H.contents host.old }
@@ -41,36 +39,36 @@ pub fn print_generated<H: Host>(alloc: Global, host: &mut H, functions: u32) -> 
 {
     match summed(alloc, functions) {
         Ok(text) => say_line(host, 0, &text),
-        Err(CompileError::Refused(refusal)) => say_refusal(alloc, host, "gen", &refusal),
-        Err(CompileError::NoMemory) => 9,
+        Err(_) => 9,
     }
 }
 
-/// The program and the comment, or why the program is refused.
-fn summed(alloc: Global, functions: u32) -> Result<Vec<u8>, CompileError>
-    ensures summed { IfOk result (λ text. IsSummed functions text.items) }
-    ensures sized { IfOk result (λ text. IsSized functions text.items) }
-    ensures accepted { IfOk result (λ _. IsAcceptedText (generated functions)) }
-    ensures refused { IfErr result (TellsError (generated functions)) }
+/// The program and the comment.
+fn summed(alloc: Global, functions: u32) -> Result<Vec<u8>, AllocError>
+    requires { IsSize functions }
+    ensures { IfOk result (λ text. text.items ≡ generated_text functions) }
 {
     let mut text = generate(alloc, functions)?;
-    let sizes = sizes_of(alloc, &text)?;
+    let sizes = sizes_of(alloc, functions, &text)?;
     text.extend_from_slice(&summary(alloc, functions, sizes)?)?;
     Ok(text)
 }
 
-/// The sizes of a program, or why it is refused.
-fn sizes_of(alloc: Global, text: &[u8]) -> Result<Sizes, CompileError>
-    ensures sizes { IfOk result (λ sizes. AreSizes text.now sizes.words sizes.ram sizes.depth) }
-    ensures accepted { IfOk result (λ _. IsAcceptedText text.now) }
-    ensures refused { IfErr result (TellsError text.now) }
+/// The sizes of the program of so many functions, which is compiled. It is never refused.
+fn sizes_of(alloc: Global, functions: u32, text: &[u8]) -> Result<Sizes, AllocError>
+    requires size { IsSize functions }
+    requires text { text.now ≡ generated functions }
+    ensures { IfOk result (λ sizes. (sizes.words ≡ 132 + 92 * functions) × (sizes.ram ≡ 14) × (sizes.depth ≡ 1)) }
 {
-    let known = front(alloc, text)?;
-    Ok(Sizes {
-        words: known.words,
-        ram: known.placed.ram,
-        depth: known.copies.depth,
-    })
+    match compile(alloc, text) {
+        Ok(built) => Ok(Sizes {
+            words: built.words,
+            ram: built.ram,
+            depth: built.depth,
+        }),
+        Err(CompileError::NoMemory) => Err(AllocError),
+        Err(CompileError::Refused(_)) => unreachable!(),
+    }
 }
 
 /// `/* gen K: words W ram R depth D */`, and a line feed.

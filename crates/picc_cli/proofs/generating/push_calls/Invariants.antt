@@ -1,5 +1,5 @@
 use Rattle.std.proofs.Common.{◌≡◌, ◌++◌}
-use Rattle.picc_cli.specs.Generated.{calls_text}
+use Rattle.generated_laws.specs.Generated.{calls_text}
 use Rattle.picc_cli.proofs.generating.push_calls.Given as goal
 
 abbrev pub invariant-loop-i : goal.invariant-loop-i

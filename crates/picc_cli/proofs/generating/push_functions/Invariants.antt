@@ -1,5 +1,5 @@
 use Rattle.std.proofs.Common.{◌≡◌, ◌++◌}
-use Rattle.picc_cli.specs.Generated.{functions_text}
+use Rattle.generated_laws.specs.Generated.{functions_text}
 use Rattle.picc_cli.proofs.generating.push_functions.Given as goal
 
 abbrev pub invariant-loop-i : goal.invariant-loop-i
