@@ -19,10 +19,6 @@ pub mod rows;
 pub use access::{Access, Accesses, StepEnd};
 pub use chip::Chip;
 pub use image::Image;
-/// What the chip and its users speak of: roots, registers and their bits, scripts and traces.
-pub use pic_world::{
-    Arrival, Cell, Event, Flag, Root, Script, Trace, bit, register, register_name,
-};
 pub use processor::Processor;
 pub use profile::Profile;
 
