@@ -18,7 +18,7 @@ use Rattle.sym_code.specs.Effect.{Setting, Thread}
 use Rattle.sym_code.specs.Layout.{owner, Nobody}
 use Rattle.sym_code.specs.Machine.{Machine, Entry, Goes, Stops, Still, Made, made, made_write, checked, moved, act, settled, sym_step_at, sym_step, sym_run, lands_at, value_by, read_by, is_forbidden}
 use Rattle.sym_code.specs.Programs.{Position, lands}
-use Rattle.chip_trace.specs.Arriving.{is_kept}
+use Rattle.chip_trace.specs.Context.{HasRegisters, IsBack, is_context, is_handlers}
 use Rattle.chip_trace.proofs.Addresses.{saved_nobody}
 use Rattle.chip_trace.proofs.Fetch.{Ordinary, performs, accesses_are}
 use Rattle.chip_trace.proofs.Image.{nobody_put, Same, IsImage, after, elsewhere, again, words_length, same_length}
@@ -26,8 +26,9 @@ use Rattle.pic_chip.proofs.Ranges.{IsRanged, executed_ranged}
 use Rattle.chip_trace.proofs.Relations.{Ground, Sees, IsAt, words, spot}
 use Rattle.chip_trace.proofs.Runs.{inside_steps, due_steps, enters, isr_leaves, isr_cost, due_cost, leave_cost, comes_silent, over, raised, exactly, raised_none}
 use Rattle.chip_trace.proofs.Sound.{IsGood, is_out, is_copy, stand_block}
-use Rattle.chip_trace.proofs.Stands.{IsMain, Mode, InMain, Saving, Selecting, InHandler, Leaving, IsEntered, IsLeft, IsSaved, IsSelected, Vector, main_words, saved, given, like, found, cell, status, saving_ins, restoring_ins, ram_1, ram_2, ram_3, ram_4, IsThere, IsSince}
+use Rattle.chip_trace.proofs.Stands.{Trail, Stays, IsMain, Mode, InMain, Saving, Selecting, InHandler, Leaving, IsEntered, IsLeft, IsSaved, IsSelected, Vector, main_words, saved, given, like, found, cell, status, saving_ins, restoring_ins, ram_1, ram_2, ram_3, ram_4, IsThere, IsSince}
 use Rattle.chip_trace.proofs.MainStep.{dear_prices, St, IsClean, Stepped, not_stuck}
+use Rattle.chip_trace.proofs.Trails.{context_apart, mains_spared, same_in_use, seen_as}
 use Rattle.pic_isa.specs.declared.Ins.{Ins}
 use Rattle.pic_chip.specs.Changes.{pushed, popped}
 use Rattle.pic_chip.specs.Interrupts.{enter}
@@ -41,7 +42,7 @@ use Rattle.pic_world.proofs.ControlLaws.{raised_entered, raised_left, raised_due
 use Rattle.sym_code.specs.Machine.{at_front, with_entry}
 use Rattle.sym_code.specs.Machine as sym'
 use Rattle.sym_code.specs.Programs.{front, position}
-use Rattle.sym_code.specs.Registers.{Registers, Fits, bank}
+use Rattle.sym_code.specs.Registers.{Registers, bank}
 use Rattle.sym_code.specs.declared.code.BlockName.TheVariants.{Copy}
 use Rattle.sym_code.specs.declared.code.PageBit.{PageBit}
 use Rattle.sym_code.specs.declared.code.PageBit.TheVariants.{Low, High}
@@ -53,7 +54,7 @@ use Rattle.pic_chip.proofs.Stack.{IsOn, on_push, on_pop}
 use Rattle.chip_trace.proofs.StatusBits.{packed, unpack}
 
 module _ (g : Setting) (h : Ground) (image input : List ℕ) (hd : ℕ) (x : IsImage g h image input hd) (watch : Watch) (halt_is : watch.halt ≡ h.halt) (e : Entry) (t0 : Machine) (start from to : ℕ) where
-  module _ (s : Schedule) (runs n : ℕ) (c : Moment) (debt : ℕ) (st : St g h image input hd x watch halt_is e t0 start from to s runs n c debt) where
+  module _ (s : Schedule) (runs n : ℕ) (c : Moment) (debt : ℕ) (trail : Trail) (st : St g h image input hd x watch halt_is e t0 start from to s runs n c debt trail) where
     abbrev t : Machine
     t = st.early
 
@@ -70,11 +71,11 @@ module _ (g : Setting) (h : Ground) (image input : List ℕ) (hd : ℕ) (x : IsI
     T = perform (execute image input) S
 
     abbrev Result : Type 0
-    Result = Stepped g h image input hd x watch halt_is e t0 start from to s runs (suc n) c true S (observed watch d) debt
+    Result = Stepped g h image input hd x watch halt_is e t0 start from to s runs (suc n) c true S (observed watch d) debt trail
 
-    -- no byte of main's changes
-    abbrev Keeps : List ℕ → Type 0
-    Keeps ram = (b : ℕ) → is_kept true (owner g.program.layout b) ≡ true → slice_index ram b ≡ slice_index S.ram b
+    -- only bytes change that the handler may write
+    abbrev Spares : List ℕ → Type 0
+    Spares ram = (b : ℕ) → is_handlers b (owner g.program.layout b) ≡ false → slice_index ram b ≡ slice_index S.ram b
 
     pub since_in : (control.is_due t.world.control ≡ true) ⊎ (t.world.inside ≡ true) → st.ahead + st.idle ≤ debt
     since_in q = by st.since q where
@@ -89,17 +90,20 @@ module _ (g : Setting) (h : Ground) (image input : List ℕ) (hd : ℕ) (x : IsI
       T_is = performs image input S i decoded
 
       context_on : (done' : ℕ) → st.done + 1 ≤ done' → events_of ranges (accesses (row input S.pc i) S) ≡ [] → control_of (perform (row input S.pc i) S) ≡ control_of S → (perform (row input S.pc i) S).taken ≡ S.taken
-          → (perform (row input S.pc i) S).pc ≢ h.halt → Same g h image input hd x (perform (row input S.pc i) S).ram st.memory → Keeps (perform (row input S.pc i) S).ram → Mode g h image hd x.vector t st.thread (perform (row input S.pc i) S) done' → Result
-      context_on done' le silent same taken pc bytes keep mode =
+          → (perform (row input S.pc i) S).pc ≢ h.halt → Same g h image input hd x (perform (row input S.pc i) S).ram st.memory → Spares (perform (row input S.pc i) S).ram → Mode g h image hd x.vector t st.thread trail.context (perform (row input S.pc i) S) done' → Result
+      context_on done' le silent same taken pc bytes spare mode =
           let there : observed watch d ≡ d = elsewhere watch d st.met (ne_eqb T.pc watch.halt (λ q. pc (sym (ap (λ (z : State). z.pc) T_is) ∙ q ∙ halt_is))) in
           record {
             modelled = ap is_modelled decoded ∙ ordinary.0;
-            keeps = λ b q. ap (λ (z : Moment). slice_index z.state.ram b) there ∙ ap (λ (z : State). slice_index z.ram b) T_is ∙ keep b q;
+            keeps = λ b q. ap (λ (z : Moment). slice_index z.state.ram b) there ∙ ap (λ (z : State). slice_index z.ram b) T_is ∙ spare b (mains_spared b (owner g.program.layout b) q);
+            spares = λ on b q. ap (λ (z : Moment). slice_index z.state.ram b) there ∙ ap (λ (z : State). slice_index z.ram b) T_is ∙ spare b q;
+            trail_then = trail;
+            onward = Stays refl refl;
             ground = h;
             image_then = x;
             halt_then = halt_is;
             below_then = λ end b. b;
-            stands = subst (λ z. St g h image input hd x watch halt_is e t0 start from to s runs (suc n) z debt) (sym there) (record {
+            stands = subst (λ z. St g h image input hd x watch halt_is e t0 start from to s runs (suc n) z debt trail) (sym there) (record {
               index = st.index;
               ahead = st.ahead;
               early = t;
@@ -130,7 +134,8 @@ module _ (g : Setting) (h : Ground) (image input : List ℕ) (hd : ℕ) (x : IsI
               met = st.met;
               going = st.going;
               ranged = executed_ranged input x.small S st.ranged image;
-              mode = subst (λ (q : State). Mode g h image hd x.vector t st.thread q done') (sym T_is) mode;
+              mode = subst (λ (q : State). Mode g h image hd x.vector t st.thread trail.context q done') (sym T_is) mode;
+              traced = st.traced;
             });
           } where
             and_true : (b : Bool) → (b && true) ≡ b
@@ -154,21 +159,18 @@ module _ (g : Setting) (h : Ground) (image input : List ℕ) (hd : ℕ) (x : IsI
     saved_bytes (suc (suc (suc (suc (suc (suc zero)))))) a lt q = put 91 a.pclath (ram_3 a) (omega arith) (omega arith) q
     saved_bytes (suc (suc (suc (suc (suc (suc (suc k))))))) a lt q = absurd (omega arith)
 
-    other : (j v : ℕ) (ram : List ℕ) → 0x58 ≤ j → j < 0x60 → (b : ℕ) → is_kept true (owner g.program.layout b) ≡ true → slice_index (slice_set ram j v) b ≡ slice_index ram b
-    other j v ram lo hi b q = set_there ram j v b (λ f. differ (is_kept true (owner g.program.layout b)) q (ap (λ z. is_kept true (owner g.program.layout z)) f ∙ ap (is_kept true) (nobody j lo hi))) where
-      differ : (y : Bool) → y ≡ true → y ≡ false → ⊥
-      differ true e f = cc
-      differ false e f = cc
+    other : (j v : ℕ) (ram : List ℕ) → 0x58 ≤ j → j < 0x60 → is_context j ≡ true → (b : ℕ) → is_handlers b (owner g.program.layout b) ≡ false → slice_index (slice_set ram j v) b ≡ slice_index ram b
+    other j v ram lo hi own b q = set_there ram j v b (context_apart g.program.layout j b (nobody j lo hi) own q)
 
-    saved_keeps : (k : ℕ) (a : State) → k < 7 → (b : ℕ) → is_kept true (owner g.program.layout b) ≡ true → slice_index (saved (suc k) a).ram b ≡ slice_index (saved k a).ram b
-    saved_keeps zero a lt b q = other 88 a.w a.ram (omega arith) (omega arith) b q
-    saved_keeps (suc zero) a lt b q = refl
-    saved_keeps (suc (suc zero)) a lt b q = other 89 (swap (status a)) (ram_1 a) (omega arith) (omega arith) b q
-    saved_keeps (suc (suc (suc zero))) a lt b q = refl
-    saved_keeps (suc (suc (suc (suc zero)))) a lt b q = other 90 a.fsr (ram_2 a) (omega arith) (omega arith) b q
-    saved_keeps (suc (suc (suc (suc (suc zero))))) a lt b q = refl
-    saved_keeps (suc (suc (suc (suc (suc (suc zero)))))) a lt b q = other 91 a.pclath (ram_3 a) (omega arith) (omega arith) b q
-    saved_keeps (suc (suc (suc (suc (suc (suc (suc k))))))) a lt b q = absurd (omega arith)
+    saved_spares : (k : ℕ) (a : State) → k < 7 → (b : ℕ) → is_handlers b (owner g.program.layout b) ≡ false → slice_index (saved (suc k) a).ram b ≡ slice_index (saved k a).ram b
+    saved_spares zero a lt b q = other 88 a.w a.ram (omega arith) (omega arith) refl b q
+    saved_spares (suc zero) a lt b q = refl
+    saved_spares (suc (suc zero)) a lt b q = other 89 (swap (status a)) (ram_1 a) (omega arith) (omega arith) refl b q
+    saved_spares (suc (suc (suc zero))) a lt b q = refl
+    saved_spares (suc (suc (suc (suc zero)))) a lt b q = other 90 a.fsr (ram_2 a) (omega arith) (omega arith) refl b q
+    saved_spares (suc (suc (suc (suc (suc zero))))) a lt b q = refl
+    saved_spares (suc (suc (suc (suc (suc (suc zero)))))) a lt b q = other 91 a.pclath (ram_3 a) (omega arith) (omega arith) refl b q
+    saved_spares (suc (suc (suc (suc (suc (suc (suc k))))))) a lt b q = absurd (omega arith)
 
     saved_taken : (k : ℕ) (a : State) → (saved k a).taken ≡ a.taken
     saved_taken zero a = refl
@@ -189,7 +191,7 @@ module _ (g : Setting) (h : Ground) (image input : List ℕ) (hd : ℕ) (x : IsI
     saving_ordinary (suc (suc (suc (suc (suc zero))))) = (refl, refl)
     saving_ordinary (suc (suc (suc (suc (suc (suc k)))))) = (refl, refl)
 
-    pub saves : (has : g.program.handler ≡ Some hd) (k : ℕ) (a : State) → 1 ≤ k → k < 7 → st.done ≡ k → IsEntered g h image hd x.vector t st.thread a → S ≡ like (saved k a) S → Result
+    pub saves : (has : g.program.handler ≡ Some hd) (k : ℕ) (a : State) → 1 ≤ k → k < 7 → st.done ≡ k → IsEntered g h image hd x.vector t st.thread trail.context a → S ≡ like (saved k a) S → Result
     saves has k a le lt dn en is =
         let vec = x.vector has in
         let pc : S.pc ≡ 4 + k = ap (λ (z : State). z.pc) is ∙ saved_pc input k a (omega arith) in
@@ -201,9 +203,9 @@ module _ (g : Setting) (h : Ground) (image input : List ℕ) (hd : ℕ) (x : IsI
         (ap (λ (z : State). z.taken) on ∙ saved_taken (suc k) a ∙ sym (ap (λ (z : State). z.taken) is ∙ saved_taken k a))
         (λ q. vec.clear (suc k) (omega arith) (sym pc' ∙ q))
         (subst (λ (m : List ℕ). Same g h image input hd x m st.memory) (sym (ap (λ (z : State). z.ram) on)) (saved_bytes k a lt (subst (λ (m : List ℕ). Same g h image input hd x m st.memory) (ap (λ (z : State). z.ram) is) st.bytes)))
-        (λ b q. ap (λ (z : State). slice_index z.ram b) on ∙ saved_keeps k a lt b q ∙ sym (ap (λ (z : State). slice_index z.ram b) is))
+        (λ b q. ap (λ (z : State). slice_index z.ram b) on ∙ saved_spares k a lt b q ∙ sym (ap (λ (z : State). slice_index z.ram b) is))
         (next (nat_eq k 6) refl on) where
-          next : (b : Bool) → nat_eq k 6 ≡ b → perform (row input S.pc (saving_ins k)) S ≡ like (saved (suc k) a) (perform (row input S.pc (saving_ins k)) S) → Mode g h image hd x.vector t st.thread (perform (row input S.pc (saving_ins k)) S) (suc k)
+          next : (b : Bool) → nat_eq k 6 ≡ b → perform (row input S.pc (saving_ins k)) S ≡ like (saved (suc k) a) (perform (row input S.pc (saving_ins k)) S) → Mode g h image hd x.vector t st.thread trail.context (perform (row input S.pc (saving_ins k)) S) (suc k)
           next true q on =
               let f : k ≡ 6 = eqb-true k 6 q in
               Selecting has 0 a.pclath a (omega arith) (omega arith) en (record { small = en.ranged.pclath; low = λ j lt. absurd (omega arith); high = λ j lt. absurd (omega arith) }) (on ∙ ap (λ z. like (saved (suc z) a) (perform (row input S.pc (saving_ins k)) S)) f)
@@ -238,7 +240,7 @@ module _ (g : Setting) (h : Ground) (image input : List ℕ) (hd : ℕ) (x : IsI
         by true f = let q : High ≡ Low = sym is ∙ ap b (sym (eqb-true i j f)) ∙ bi in absurd (cc)
         by false f = let q = eqb-false i j f in omega (arith, q)
 
-    module _ (has : g.program.handler ≡ Some hd) (j p : ℕ) (a : State) (le : j ≤ (x.vector has).count) (dn : st.done ≡ 7 + j) (en : IsEntered g h image hd x.vector t st.thread a)
+    module _ (has : g.program.handler ≡ Some hd) (j p : ℕ) (a : State) (le : j ≤ (x.vector has).count) (dn : st.done ≡ 7 + j) (en : IsEntered g h image hd x.vector t st.thread trail.context a)
         (sel : IsSelected g h image hd x.vector (x.vector has).bit j p) (is : S ≡ record (like (saved 7 a) S) { pc = 11 + j; pclath = p }) where
       abbrev vec : Vector g h image hd
       vec = x.vector has
@@ -268,15 +270,6 @@ module _ (g : Setting) (h : Ground) (image input : List ℕ) (hd : ℕ) (x : IsI
           (Selecting has (suc j) p2 a (omega arith) refl en (select_bits vec.bit j p b refl sel) all)
 
       -- the bytes of main's context
-      fits : Fits st.thread.registers
-      fits = record {
-        w = subst (λ v. v < 256) en.sees.w en.ranged.w;
-        flags = (subst (λ v. v < 2) en.sees.z en.ranged.z, subst (λ v. v < 2) en.sees.dc en.ranged.dc, subst (λ v. v < 2) en.sees.c en.ranged.c);
-        pointer = subst (λ v. v < 256) en.sees.fsr en.ranged.fsr;
-        banks = en.sees.banks;
-        pages = en.sees.pages;
-      }
-
       l1 : length (ram_1 a) ≡ 368
       l1 = length-set a.ram 88 a.w ∙ en.ranged.count
 
@@ -289,21 +282,20 @@ module _ (g : Setting) (h : Ground) (image input : List ℕ) (hd : ℕ) (x : IsI
       abbrev m : List ℕ
       m = ram_4 a
 
-      kept : IsSaved g h image hd x.vector st.thread.registers m
+      abbrev k : State
+      k = trail.context
+
+      kept : IsSaved g h image hd x.vector k m
       kept =
           let a3 = l3 in let a2 = l2 in let a1 = l1 in let a0 = en.ranged.count in
-          let c91 : slice_index m 91 ≡ a.pclath = set_here (ram_3 a) 91 a.pclath (omega arith) in
           record {
-            fits = fits;
             w = set_there (ram_3 a) 91 a.pclath 88 (λ q. absurd (omega arith)) ∙ set_there (ram_2 a) 90 a.fsr 88 (λ q. absurd (omega arith)) ∙ set_there (ram_1 a) 89 (swap (status a)) 88 (λ q. absurd (omega arith))
-                ∙ set_here a.ram 88 a.w (omega arith) ∙ en.sees.w;
+                ∙ set_here a.ram 88 a.w (omega arith) ∙ en.same.w;
             status = set_there (ram_3 a) 91 a.pclath 89 (λ q. absurd (omega arith)) ∙ set_there (ram_2 a) 90 a.fsr 89 (λ q. absurd (omega arith)) ∙ set_here (ram_1 a) 89 (swap (status a)) (omega arith)
-                ∙ ap (λ v. swap (packed v a.z a.dc a.c)) en.sees.bank ∙ ap (λ v. swap (packed (4 * st.thread.registers.irp + bank st.thread.registers) v a.dc a.c)) en.sees.z
-                ∙ ap (λ v. swap (packed (4 * st.thread.registers.irp + bank st.thread.registers) st.thread.registers.z v a.c)) en.sees.dc
-                ∙ ap (λ v. swap (packed (4 * st.thread.registers.irp + bank st.thread.registers) st.thread.registers.z st.thread.registers.dc v)) en.sees.c;
-            fsr = set_there (ram_3 a) 91 a.pclath 90 (λ q. absurd (omega arith)) ∙ set_here (ram_2 a) 90 a.fsr (omega arith) ∙ en.sees.fsr;
-            pclath = subst (λ v. v < 32) (sym c91) en.ranged.pclath;
-            page = ap (λ v. v / 8) c91 ∙ en.sees.page;
+                ∙ ap (λ v. swap (packed v a.z a.dc a.c)) en.same.bank ∙ ap (λ v. swap (packed k.bank v a.dc a.c)) en.same.z ∙ ap (λ v. swap (packed k.bank k.z v a.c)) en.same.dc
+                ∙ ap (λ v. swap (packed k.bank k.z k.dc v)) en.same.c;
+            fsr = set_there (ram_3 a) 91 a.pclath 90 (λ q. absurd (omega arith)) ∙ set_here (ram_2 a) 90 a.fsr (omega arith) ∙ en.same.fsr;
+            pclath = set_here (ram_3 a) 91 a.pclath (omega arith) ∙ en.same.pclath;
           }
 
       -- the handler's first instruction is next
@@ -347,7 +339,8 @@ module _ (g : Setting) (h : Ground) (image input : List ℕ) (hd : ℕ) (x : IsI
             inside = en.inside;
             gie = en.gie;
             at = subst (λ (z : Thread). IsAt g h z words' T') (sym isr) at';
-            saved = subst (IsSaved g h image hd x.vector st.thread.registers) (sym ram_is) kept;
+            held = en.held;
+            saved = subst (IsSaved g h image hd x.vector trail.context) (sym ram_is) kept;
             lands = ap (λ (z : Thread). lands_at g.program z.at) isr ∙ en.lands;
             rest = ap (λ (z : Thread). z.rest) isr;
             good = subst (IsGood g true) (sym isr) (record { deep = omega arith; at = ap is_copy (stand_block g.program (position (Copy hd) 0)); stack = refl; left = tt; low = λ n. let l = st.good.low n in let b = en.sees.bank in let r0 = en.sees.banks.0 in let l0 = l.0 in let l1 = l.1 in (omega (arith, b, r0, l0, l1), omega (arith, b, r0, l0, l1)) });
@@ -371,16 +364,16 @@ module _ (g : Setting) (h : Ground) (image input : List ℕ) (hd : ℕ) (x : IsI
     given_bytes r (suc (suc (suc (suc (suc (suc (suc zero))))))) a lt q = q
     given_bytes r (suc (suc (suc (suc (suc (suc (suc (suc k)))))))) a lt q = absurd (omega arith)
 
-    given_keeps : (r k : ℕ) (a : State) → k < 8 → (b : ℕ) → is_kept true (owner g.program.layout b) ≡ true → slice_index (given r (suc k) a).ram b ≡ slice_index (given r k a).ram b
-    given_keeps r zero a lt b q = refl
-    given_keeps r (suc zero) a lt b q = refl
-    given_keeps r (suc (suc zero)) a lt b q = refl
-    given_keeps r (suc (suc (suc zero))) a lt b q = refl
-    given_keeps r (suc (suc (suc (suc zero)))) a lt b q = refl
-    given_keeps r (suc (suc (suc (suc (suc zero))))) a lt b q = refl
-    given_keeps r (suc (suc (suc (suc (suc (suc zero)))))) a lt b q = other 88 (swap (cell a 88)) a.ram (omega arith) (omega arith) b q
-    given_keeps r (suc (suc (suc (suc (suc (suc (suc zero))))))) a lt b q = refl
-    given_keeps r (suc (suc (suc (suc (suc (suc (suc (suc k)))))))) a lt b q = absurd (omega arith)
+    given_spares : (r k : ℕ) (a : State) → k < 8 → (b : ℕ) → is_handlers b (owner g.program.layout b) ≡ false → slice_index (given r (suc k) a).ram b ≡ slice_index (given r k a).ram b
+    given_spares r zero a lt b q = refl
+    given_spares r (suc zero) a lt b q = refl
+    given_spares r (suc (suc zero)) a lt b q = refl
+    given_spares r (suc (suc (suc zero))) a lt b q = refl
+    given_spares r (suc (suc (suc (suc zero)))) a lt b q = refl
+    given_spares r (suc (suc (suc (suc (suc zero))))) a lt b q = refl
+    given_spares r (suc (suc (suc (suc (suc (suc zero)))))) a lt b q = other 88 (swap (cell a 88)) a.ram (omega arith) (omega arith) refl b q
+    given_spares r (suc (suc (suc (suc (suc (suc (suc zero))))))) a lt b q = refl
+    given_spares r (suc (suc (suc (suc (suc (suc (suc (suc k)))))))) a lt b q = absurd (omega arith)
 
     given_taken : (r k : ℕ) (a : State) → (given r k a).taken ≡ a.taken
     given_taken r zero a = refl
@@ -404,7 +397,7 @@ module _ (g : Setting) (h : Ground) (image input : List ℕ) (hd : ℕ) (x : IsI
     restoring_ordinary (suc (suc (suc (suc (suc (suc (suc zero))))))) lt = (refl, refl)
     restoring_ordinary (suc (suc (suc (suc (suc (suc (suc (suc k)))))))) lt = absurd (omega arith)
 
-    pub gives : (has : g.program.handler ≡ Some hd) (k : ℕ) (a : State) → k < 8 → st.done ≡ 101 + k → IsLeft g h image hd x.vector t st.thread a → S ≡ like (given h.restore k a) S → Result
+    pub gives : (has : g.program.handler ≡ Some hd) (k : ℕ) (a : State) → k < 8 → st.done ≡ 101 + k → IsLeft g h image hd x.vector t st.thread trail.context a → S ≡ like (given h.restore k a) S → Result
     gives has k a lt dn lf is =
         let vec = x.vector has in
         let pc : S.pc ≡ h.restore + k = ap (λ (z : State). z.pc) is ∙ given_pc input h.restore k a (omega arith) in
@@ -416,7 +409,7 @@ module _ (g : Setting) (h : Ground) (image input : List ℕ) (hd : ℕ) (x : IsI
         (ap (λ (z : State). z.taken) on ∙ given_taken h.restore (suc k) a ∙ sym (ap (λ (z : State). z.taken) is ∙ given_taken h.restore k a))
         (λ q. vec.clear_back (suc k) (omega arith) (sym pc' ∙ q))
         (subst (λ (m : List ℕ). Same g h image input hd x m st.memory) (sym (ap (λ (z : State). z.ram) on)) (given_bytes h.restore k a lt (subst (λ (m : List ℕ). Same g h image input hd x m st.memory) (ap (λ (z : State). z.ram) is) st.bytes)))
-        (λ b q. ap (λ (z : State). slice_index z.ram b) on ∙ given_keeps h.restore k a lt b q ∙ sym (ap (λ (z : State). slice_index z.ram b) is))
+        (λ b q. ap (λ (z : State). slice_index z.ram b) on ∙ given_spares h.restore k a lt b q ∙ sym (ap (λ (z : State). slice_index z.ram b) is))
         (Leaving has (suc k) a (omega arith) refl lf on)
 
     -- ---- RETFIE
@@ -426,11 +419,12 @@ module _ (g : Setting) (h : Ground) (image input : List ℕ) (hd : ℕ) (x : IsI
     abbrev o : Outside
     o = over input s
 
-    pub returns : (has : g.program.handler ≡ Some hd) (a : State) → st.done ≡ 109 → IsLeft g h image hd x.vector t st.thread a → S ≡ like (given h.restore 8 a) S → Result
+    pub returns : (has : g.program.handler ≡ Some hd) (a : State) → st.done ≡ 109 → IsLeft g h image hd x.vector t st.thread trail.context a → S ≡ like (given h.restore 8 a) S → Result
     unfolding left
     returns has a dn lf is =
         let vec = x.vector has in
-        let fs = lf.saved.fits in
+        let k = trail.context in
+        let rk = lf.held.ranged in
         let le = vec.fits in
         let pc : S.pc ≡ h.restore + 8 = ap (λ (z : State). z.pc) is in
         let dec : row_of (slice_index image S.pc) ≡ Some isa.Retfie = ap (λ z. row_of (slice_index image z)) pc ∙ vec.restores 8 (omega arith) in
@@ -445,27 +439,32 @@ module _ (g : Setting) (h : Ground) (image input : List ℕ) (hd : ℕ) (x : IsI
         let spot_small = spot_below st.there in
         let count = lf.ranged.count in
         let m : List ℕ = slice_set a.ram 88 (swap (cell a 88)) in
-        let w1 : S.w ≡ lowr.w = ap (λ (z : State). z.w) is ∙ ap swap (set_here a.ram 88 (swap (cell a 88)) (omega arith)) ∙ ap (λ v. swap (swap v)) lf.saved.w ∙ swap_twice lowr.w fs.w in
+        let w1 : S.w ≡ k.w = ap (λ (z : State). z.w) is ∙ ap swap (set_here a.ram 88 (swap (cell a 88)) (omega arith)) ∙ ap (λ v. swap (swap v)) lf.saved.w ∙ swap_twice k.w rk.w in
         let v : ℕ = swap (cell a 89) in
-        let full : packed (4 * lowr.irp + bank lowr) lowr.z lowr.dc lowr.c < 256 = let q1 = fs.flags.0 in let q2 = fs.flags.1 in let q3 = fs.flags.2 in let q4 = fs.banks.0 in let q5 = fs.banks.1 in let q6 = fs.banks.2 in omega arith in
-        let v_is : v ≡ packed (4 * lowr.irp + bank lowr) lowr.z lowr.dc lowr.c = ap swap lf.saved.status ∙ swap_twice (packed (4 * lowr.irp + bank lowr) lowr.z lowr.dc lowr.c) full in
-        let parts = unpack 0 0 lowr.z lowr.dc lowr.c fs.flags.0 fs.flags.1 fs.flags.2 (4 * lowr.irp + bank lowr) in
-        let sees : Sees T' lowr = record {
+        let full : status k < 256 = let q1 = rk.bank in let q2 = rk.z in let q3 = rk.dc in let q4 = rk.c in omega arith in
+        let v_is : v ≡ status k = ap swap lf.saved.status ∙ swap_twice (status k) full in
+        let parts = unpack 0 0 k.z k.dc k.c rk.z rk.dc rk.c k.bank in
+        let has_k : HasRegisters k T' = record {
           w = w1;
+          bank = ap (λ (z : State). z.bank) is ∙ ap (λ y. y / 32) v_is ∙ parts.bank;
           z = ap (λ (z : State). z.z) is ∙ ap (λ y. bit y 2) v_is ∙ parts.z;
           dc = ap (λ (z : State). z.dc) is ∙ ap (λ y. bit y 1) v_is ∙ parts.dc;
           c = ap (λ (z : State). z.c) is ∙ ap (λ y. bit y 0) v_is ∙ parts.c;
           fsr = ap (λ (z : State). z.fsr) is ∙ lf.saved.fsr;
-          bank = ap (λ (z : State). z.bank) is ∙ ap (λ y. y / 32) v_is ∙ parts.bank;
-          page = ap (λ (z : State). z.pclath / 8) is ∙ (let q = lf.saved.pclath in let q2 = lf.saved.page in omega arith);
-          banks = fs.banks;
-          pages = fs.pages;
+          pclath = ap (λ (z : State). z.pclath) is ∙ (let q = lf.saved.pclath in let q2 = rk.pclath in omega arith);
         } in
+        let sees : Sees T' lowr = seen_as k T' lowr has_k lf.held.at.sees in
         let at' : IsAt g h st.thread [] T' = record {
           pc = stack'.0 ∙ (omega arith);
           sees = sees;
           stack = on_pop S.stack (spot g h st.thread.at % 8192) (words g h st.thread.stack []) (omega arith) stack';
           depth = omega arith;
+        } in
+        let back' : IsBack k T' = record {
+          registers = has_k;
+          pc = at'.pc ∙ sym lf.held.at.pc;
+          depth = let d1 = at'.depth in let d2 = lf.held.at.depth in omega arith;
+          stack = λ j lt. let d2 = lf.held.at.depth in same_in_use (words g h st.thread.stack []) T'.stack k.stack j at'.stack lf.held.at.stack (omega arith);
         } in
         let control' : control_of (perform (execute image input) S) ≡ control.left (control_of S) = ap control_of (performs image input S isa.Retfie dec) ∙ control_left input S.pc S in
         let goes : (s' : Schedule) (more : ℕ) → sym_step_at g e (over input s') (raised more t) ≡ Goes (raised more t2) = λ s' more.
@@ -477,11 +476,14 @@ module _ (g : Setting) (h : Ground) (image input : List ℕ) (hd : ℕ) (x : IsI
         record {
           modelled = ap is_modelled dec;
           keeps = λ b q. ap (λ (z : Moment). slice_index z.state.ram b) there ∙ ap (λ (z : State). slice_index z.ram b) T_is;
+          spares = λ on' b q. ap (λ (z : Moment). slice_index z.state.ram b) there ∙ ap (λ (z : State). slice_index z.ram b) T_is;
+          trail_then = trail;
+          onward = Stays refl refl;
           ground = h;
           image_then = x;
           halt_then = halt_is;
           below_then = λ end b. b;
-          stands = subst (λ z. St g h image input hd x watch halt_is e t0 start from to s runs (suc n) z debt) (sym there) (record {
+          stands = subst (λ z. St g h image input hd x watch halt_is e t0 start from to s runs (suc n) z debt trail) (sym there) (record {
             index = suc st.index;
             ahead = st.ahead;
             early = t2;
@@ -514,7 +516,8 @@ module _ (g : Setting) (h : Ground) (image input : List ℕ) (hd : ℕ) (x : IsI
             met = st.met;
             going = st.going;
             ranged = executed_ranged input x.small S st.ranged image;
-            mode = InMain refl (record { inside = refl; at = subst (IsAt g h st.thread []) (sym T_is) at' });
+            mode = InMain refl (record { inside = refl; at = subst (IsAt g h st.thread []) (sym T_is) at'; held = lf.held; back = subst (IsBack k) (sym T_is) back' });
+            traced = st.traced;
           });
         } where
           and_false : (b : Bool) → (b && false) ≡ false
@@ -546,7 +549,7 @@ module _ (g : Setting) (h : Ground) (image input : List ℕ) (hd : ℕ) (x : IsI
     dt = after image input ranges c taken_state true
 
     module _ (clean : IsClean g h image input hd x watch halt_is e t0 start from to s n (length c.trace)) (only : (k : ℕ) → g.program.handler ≡ Some k → g.program.handler ≡ Some hd)
-        (oracle : e runs ≡ found taken_state pg) (a : IsMain g h image hd x.vector t st.thread S) (dn : st.done ≡ 100) (due : control.is_due (control_of S) ≡ true) where
+        (oracle : e runs ≡ found taken_state pg) (a : IsMain g h image hd x.vector t st.thread trail.context S) (dn : st.done ≡ 100) (due : control.is_due (control_of S) ≡ true) where
       on : control.is_due t.world.control ≡ true
       on = ap control.is_due (sym st.shows.control) ∙ due
 
@@ -572,7 +575,7 @@ module _ (g : Setting) (h : Ground) (image input : List ℕ) (hd : ℕ) (x : IsI
       isr_is : e t.entries ≡ found taken_state pg
       isr_is = ap e st.entries ∙ oracle
 
-      pub interrupts : Stepped g h image input hd x watch halt_is e t0 start from to s (suc runs) (suc n) c true taken_state (observed watch dt) debt
+      pub interrupts : Stepped g h image input hd x watch halt_is e t0 start from to s (suc runs) (suc n) c true taken_state (observed watch dt) debt trail
       unfolding entered
       interrupts =
           let vec = x.vector has in
@@ -595,11 +598,13 @@ module _ (g : Setting) (h : Ground) (image input : List ℕ) (hd : ℕ) (x : IsI
           let depth' : entered_state.pushes ≡ entered_state.pops + length words' = subst (λ (z : State). z.pushes ≡ z.pops + length words') entered_is (let q = a.at.depth in omega arith) in
           let sees' : Sees entered_state lowr = subst (λ (z : State). Sees z lowr) entered_is (record { w = a.at.sees.w; z = a.at.sees.z; dc = a.at.sees.dc; c = a.at.sees.c; fsr = a.at.sees.fsr; bank = a.at.sees.bank; page = a.at.sees.page; banks = a.at.sees.banks; pages = a.at.sees.pages }) in
           let ranged' : IsRanged entered_state = entered_ranged input x.small S st.ranged in
-          let entered' : IsEntered g h image hd x.vector t2 st.thread entered_state = record {
+          let entered' : IsEntered g h image hd x.vector t2 st.thread trail.context entered_state = record {
             inside = refl;
             gie = entered_disabled t.world.control;
             isr = ap (at_front g.program hd) isr_is;
             lands = ok;
+            held = a.held;
+            same = subst (HasRegisters trail.context) entered_is (record { w = a.back.registers.w; bank = a.back.registers.bank; z = a.back.registers.z; dc = a.back.registers.dc; c = a.back.registers.c; fsr = a.back.registers.fsr; pclath = a.back.registers.pclath });
             sees = sees';
             stack = stack';
             depth = depth';
@@ -615,12 +620,15 @@ module _ (g : Setting) (h : Ground) (image input : List ℕ) (hd : ℕ) (x : IsI
           let there : observed watch dt ≡ dt = elsewhere watch dt st.met (ne_eqb (perform (execute image input) entered_state).pc watch.halt (λ q. vec.clear 1 (omega arith) (sym pc_behind ∙ q ∙ halt_is))) in
           record {
             modelled = ap is_modelled dec;
-            keeps = λ b q. ap (λ (z : Moment). slice_index z.state.ram b) there ∙ ap (λ (z : State). slice_index z.ram b) perform_is ∙ ap (λ (z : State). slice_index z.ram b) onn ∙ saved_keeps 0 entered_state (omega arith) b q;
+            keeps = λ b q. ap (λ (z : Moment). slice_index z.state.ram b) there ∙ ap (λ (z : State). slice_index z.ram b) perform_is ∙ ap (λ (z : State). slice_index z.ram b) onn ∙ saved_spares 0 entered_state (omega arith) b (mains_spared b (owner g.program.layout b) q);
+            spares = λ on' b q. ap (λ (z : Moment). slice_index z.state.ram b) there ∙ ap (λ (z : State). slice_index z.ram b) perform_is ∙ ap (λ (z : State). slice_index z.ram b) onn ∙ saved_spares 0 entered_state (omega arith) b q;
+            trail_then = trail;
+            onward = Stays refl refl;
             ground = h;
             image_then = x;
             halt_then = halt_is;
             below_then = λ end b. b;
-            stands = subst (λ z. St g h image input hd x watch halt_is e t0 start from to s (suc runs) (suc n) z debt) (sym there) (record {
+            stands = subst (λ z. St g h image input hd x watch halt_is e t0 start from to s (suc runs) (suc n) z debt trail) (sym there) (record {
               index = suc st.index;
               ahead = st.ahead;
               early = t2;
@@ -653,7 +661,8 @@ module _ (g : Setting) (h : Ground) (image input : List ℕ) (hd : ℕ) (x : IsI
               met = st.met;
               going = st.going;
               ranged = executed_ranged input x.small entered_state ranged' image;
-              mode = subst (λ (q : State). Mode g h image hd x.vector t2 st.thread q 1) (sym perform_is) (Saving has 1 entered_state (omega arith) (omega arith) refl entered' onn);
+              mode = subst (λ (q : State). Mode g h image hd x.vector t2 st.thread trail.context q 1) (sym perform_is) (Saving has 1 entered_state (omega arith) (omega arith) refl entered' onn);
+              traced = st.traced;
             });
           } where
             spot_below : IsThere g h image hd x.vector st.thread c.ended → spot g h st.thread.at < 8192

@@ -212,7 +212,7 @@ module _ (reaches : ℕ → ℕ → Bool) (g : Setting) (h : Ground) (o : Outsid
   moved : (n : Ins) (t' : State) (ev' : List Shown) (y : Effect) → perform (row o.input s.pc n) s ≡ t' → events_of l.objects (accesses (row o.input s.pc n) s) ≡ ev' → By t' ev' y → Row n y
   moved n t' ev' y a b k = moved_to g h o m below s (perform (row o.input s.pc n) s) t' w (events_of l.objects (accesses (row o.input s.pc n) s)) ev' y a b k
 
-  quiet_by : (t : State) (p' : Position) (r' : Registers) (x : Option Write) → (lands q p' ≡ true → t.pc ≡ h.place p') → Sees t r' → t.stack ≡ s.stack → t.pushes ≡ s.pushes → t.pops ≡ s.pops → t.ram ≡ put_in x s.ram
+  quiet_by : (t : State) (p' : Position) (r' : Registers) (x : Option Write) → (lands q p' ≡ true → t.pc ≡ h.place p') → Sees t r' → t.pclath % 8 ≡ s.pclath % 8 → t.stack ≡ s.stack → t.pushes ≡ s.pushes → t.pops ≡ s.pops → t.ram ≡ put_in x s.ram
       → control_of t ≡ control_of s → t.taken ≡ s.taken → By t [] (Quiet (goes th p' r') x)
   quiet_by = silent g h o image placed th p m below s w here is none at same taken
 
@@ -240,7 +240,7 @@ module _ (reaches : ℕ → ℕ → Bool) (g : Setting) (h : Ground) (o : Outsid
       let sw = sees_w op v xh ex in
       moved (file_row op (low_of l x) false) _ [] (file_to_w q p th m op Pointer) (w_state false x Pointer e refl a op) (w_events false x Pointer e refl a op)
       (quiet_by _ (onward q p (skips_with r op xh)) _ None (on_by (skp op v) (skips_with r op xh) (s_eq op v xh ex))
-      (record { w = sw.w; z = sw.z; dc = sw.dc; c = sw.c; fsr = sw.fsr; bank = sw.bank; page = sw.page; banks = sw.banks; pages = sw.pages }) refl refl refl refl refl refl)
+      (record { w = sw.w; z = sw.z; dc = sw.dc; c = sw.c; fsr = sw.fsr; bank = sw.bank; page = sw.page; banks = sw.banks; pages = sw.pages }) refl refl refl refl refl refl refl)
   w_locked op x (Silent k) e a =
       let xh = m k in
       let ex = xe false x (Silent k) e refl a in
@@ -248,7 +248,7 @@ module _ (reaches : ℕ → ℕ → Bool) (g : Setting) (h : Ground) (o : Outsid
       let sw = sees_w op v xh ex in
       moved (file_row op (low_of l x) false) _ [] (file_to_w q p th m op (Silent k)) (w_state false x (Silent k) e refl a op) (w_events false x (Silent k) e refl a op)
       (quiet_by _ (onward q p (skips_with r op xh)) _ None (on_by (skp op v) (skips_with r op xh) (s_eq op v xh ex))
-      (record { w = sw.w; z = sw.z; dc = sw.dc; c = sw.c; fsr = sw.fsr; bank = sw.bank; page = sw.page; banks = sw.banks; pages = sw.pages }) refl refl refl refl refl refl)
+      (record { w = sw.w; z = sw.z; dc = sw.dc; c = sw.c; fsr = sw.fsr; bank = sw.bank; page = sw.page; banks = sw.banks; pages = sw.pages }) refl refl refl refl refl refl refl)
   w_locked op x (Event b) e a =
       let xh = value_by o m w b in
       let ex = xe false x (Event b) e refl a in
@@ -268,7 +268,7 @@ module _ (reaches : ℕ → ℕ → Bool) (g : Setting) (h : Ground) (o : Outsid
       let sw = sees_p op v xh ex in
       moved (file_row op (low_of l x) true) _ [] (file_to_file q p th m op Pointer) (f_state true x Pointer e refl a op) (f_events true x Pointer e refl a op)
       (quiet_by _ (onward q p (skips_with r op xh)) _ None (on_by (skp op v) (skips_with r op xh) (s_eq op v xh ex))
-      (record { w = sw.w; z = sw.z; dc = sw.dc; c = sw.c; fsr = sw.fsr; bank = sw.bank; page = sw.page; banks = sw.banks; pages = sw.pages }) refl refl refl refl refl refl)
+      (record { w = sw.w; z = sw.z; dc = sw.dc; c = sw.c; fsr = sw.fsr; bank = sw.bank; page = sw.page; banks = sw.banks; pages = sw.pages }) refl refl refl refl refl refl refl)
   f_locked op x (Silent k) e a =
       let xh = m k in
       let ex = xe true x (Silent k) e refl a in
@@ -276,7 +276,7 @@ module _ (reaches : ℕ → ℕ → Bool) (g : Setting) (h : Ground) (o : Outsid
       let sw = sees_f op v xh ex in
       moved (file_row op (low_of l x) true) _ [] (file_to_file q p th m op (Silent k)) (f_state true x (Silent k) e refl a op) (f_events true x (Silent k) e refl a op)
       (quiet_by _ (onward q p (skips_with r op xh)) _ (write k (result_with r op xh)) (on_by (skp op v) (skips_with r op xh) (s_eq op v xh ex))
-      (record { w = sw.w; z = sw.z; dc = sw.dc; c = sw.c; fsr = sw.fsr; bank = sw.bank; page = sw.page; banks = sw.banks; pages = sw.pages }) refl refl refl (ap (slice_set s.ram k) (v_eq op v xh ex)) refl refl)
+      (record { w = sw.w; z = sw.z; dc = sw.dc; c = sw.c; fsr = sw.fsr; bank = sw.bank; page = sw.page; banks = sw.banks; pages = sw.pages }) refl refl refl refl (ap (slice_set s.ram k) (v_eq op v xh ex)) refl refl)
   f_locked op x (Event b) e a =
       let xh = value_by o m w b in
       let ex = xe true x (Event b) e refl a in
@@ -297,13 +297,13 @@ module _ (reaches : ℕ → ℕ → Bool) (g : Setting) (h : Ground) (o : Outsid
       let v = xv true x Pointer e refl a in
       moved n _ [] (change q p th m ch Pointer) (ap (λ z. perform z s) is' ∙ c_state true x Pointer e refl a ch) (ap (λ z. events_of l.objects (accesses z s)) is' ∙ c_events true x Pointer e refl a ch)
       (quiet_by _ (behind q p) _ None next_by
-      (record { w = at.sees.w; z = at.sees.z; dc = at.sees.dc; c = at.sees.c; fsr = ap ch ex; bank = at.sees.bank; page = at.sees.page; banks = at.sees.banks; pages = at.sees.pages }) refl refl refl refl refl refl)
+      (record { w = at.sees.w; z = at.sees.z; dc = at.sees.dc; c = at.sees.c; fsr = ap ch ex; bank = at.sees.bank; page = at.sees.page; banks = at.sees.banks; pages = at.sees.pages }) refl refl refl refl refl refl refl)
   change_locked ch n x (Silent k) is' e a =
       let ex = xe true x (Silent k) e refl a in
       let v = xv true x (Silent k) e refl a in
       moved n _ [] (change q p th m ch (Silent k)) (ap (λ z. perform z s) is' ∙ c_state true x (Silent k) e refl a ch) (ap (λ z. events_of l.objects (accesses z s)) is' ∙ c_events true x (Silent k) e refl a ch)
       (quiet_by _ (behind q p) _ (write k (ch (m k))) next_by
-      (record { w = at.sees.w; z = at.sees.z; dc = at.sees.dc; c = at.sees.c; fsr = at.sees.fsr; bank = at.sees.bank; page = at.sees.page; banks = at.sees.banks; pages = at.sees.pages }) refl refl refl (ap (λ z. slice_set s.ram k (ch z)) ex) refl refl)
+      (record { w = at.sees.w; z = at.sees.z; dc = at.sees.dc; c = at.sees.c; fsr = at.sees.fsr; bank = at.sees.bank; page = at.sees.page; banks = at.sees.banks; pages = at.sees.pages }) refl refl refl refl (ap (λ z. slice_set s.ram k (ch z)) ex) refl refl)
   change_locked ch n x (Event b) is' e a =
       let xh = value_by o m w b in
       let ex = xe true x (Event b) e refl a in
@@ -322,12 +322,12 @@ module _ (reaches : ℕ → ℕ → Bool) (g : Setting) (h : Ground) (o : Outsid
       let ex = xe false x Pointer e refl a in
       moved n _ [] (test q p th m (λ z. nat_eq (bit z b) v) Pointer) (ap (λ z. perform z s) is' ∙ t_state false x Pointer e refl a b v) (ap (λ z. events_of l.objects (accesses z s)) is' ∙ t_events false x Pointer e refl a b v)
       (quiet_by _ (onward q p (nat_eq (bit r.fsr b) v)) _ None (on_by _ (nat_eq (bit r.fsr b) v) (ap (λ z. nat_eq (bit z b) v) ex))
-      (record { w = at.sees.w; z = at.sees.z; dc = at.sees.dc; c = at.sees.c; fsr = at.sees.fsr; bank = at.sees.bank; page = at.sees.page; banks = at.sees.banks; pages = at.sees.pages }) refl refl refl refl refl refl)
+      (record { w = at.sees.w; z = at.sees.z; dc = at.sees.dc; c = at.sees.c; fsr = at.sees.fsr; bank = at.sees.bank; page = at.sees.page; banks = at.sees.banks; pages = at.sees.pages }) refl refl refl refl refl refl refl)
   test_locked b v n x (Silent k) is' e a =
       let ex = xe false x (Silent k) e refl a in
       moved n _ [] (test q p th m (λ z. nat_eq (bit z b) v) (Silent k)) (ap (λ z. perform z s) is' ∙ t_state false x (Silent k) e refl a b v) (ap (λ z. events_of l.objects (accesses z s)) is' ∙ t_events false x (Silent k) e refl a b v)
       (quiet_by _ (onward q p (nat_eq (bit (m k) b) v)) _ None (on_by _ (nat_eq (bit (m k) b) v) (ap (λ z. nat_eq (bit z b) v) ex))
-      (record { w = at.sees.w; z = at.sees.z; dc = at.sees.dc; c = at.sees.c; fsr = at.sees.fsr; bank = at.sees.bank; page = at.sees.page; banks = at.sees.banks; pages = at.sees.pages }) refl refl refl refl refl refl)
+      (record { w = at.sees.w; z = at.sees.z; dc = at.sees.dc; c = at.sees.c; fsr = at.sees.fsr; bank = at.sees.bank; page = at.sees.page; banks = at.sees.banks; pages = at.sees.pages }) refl refl refl refl refl refl refl)
   test_locked b v n x (Event c) is' e a =
       let xh = value_by o m w c in
       let ex = xe false x (Event c) e refl a in
@@ -344,10 +344,10 @@ module _ (reaches : ℕ → ℕ → Bool) (g : Setting) (h : Ground) (o : Outsid
   store_locked n v vh zz r' x Denied e a ev y ps es = tt
   store_locked n v vh zz r' x Pointer e a ev y ps es =
       moved n _ [] (store q p th r' vh Pointer) (ps refl) (es refl)
-      (quiet_by _ (behind q p) _ None next_by (record { w = y.w; z = y.z; dc = y.dc; c = y.c; fsr = ev; bank = y.bank; page = y.page; banks = y.banks; pages = y.pages }) refl refl refl refl refl refl)
+      (quiet_by _ (behind q p) _ None next_by (record { w = y.w; z = y.z; dc = y.dc; c = y.c; fsr = ev; bank = y.bank; page = y.page; banks = y.banks; pages = y.pages }) refl refl refl refl refl refl refl)
   store_locked n v vh zz r' x (Silent k) e a ev y ps es =
       moved n _ [] (store q p th r' vh (Silent k)) (ps refl) (es refl)
-      (quiet_by _ (behind q p) _ (write k vh) next_by (record { w = y.w; z = y.z; dc = y.dc; c = y.c; fsr = y.fsr; bank = y.bank; page = y.page; banks = y.banks; pages = y.pages }) refl refl refl (ap (slice_set s.ram k) ev) refl refl)
+      (quiet_by _ (behind q p) _ (write k vh) next_by (record { w = y.w; z = y.z; dc = y.dc; c = y.c; fsr = y.fsr; bank = y.bank; page = y.page; banks = y.banks; pages = y.pages }) refl refl refl refl (ap (slice_set s.ram k) ev) refl refl)
   store_locked n v vh zz r' x (Event b) e a ev y ps es =
       moved n _ (event_at true v (cell_for (Event b))) (store q p th r' vh (Event b)) (ps refl ∙ kept_fields b v zz _) (es refl)
       (write_event g h o image placed th p m below s w here is none at same taken b ((s.pc + 1) % 8192) v vh zz s.dc s.c (behind q p) r' ev next_by

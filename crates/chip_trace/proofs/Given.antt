@@ -126,31 +126,31 @@ module _ (g : Setting) (h : Ground) (c : chip.Setting) (hd : ℕ) (x : IsImage g
     meets = ⊎_elim at_first (λ ge. let k = stands N ge (omega arith) in met_at_index 100 A k.0 0 k.1 (omega arith)) (cases_lt N A)
 
     -- ---- the return stack
-    depth_by : (h' : Ground) (x' : IsImage g h' c.image c.inputs hd) (t : Machine) (u : Thread) (s : State) (done : ℕ) → length u.stack ≤ g.limit false → Mode g h' c.image hd x'.vector t u s done → (s.pops ≤ s.pushes) × (s.pushes ≤ s.pops + 8)
-    depth_by h' x' t u s done le (InMain q a) = let d = a.at.depth in let l = words_length g h' c.image c.inputs hd x' u.stack [] in let k = x'.main_depth in (omega arith, omega arith)
-    depth_by h' x' t u s done le (Saving has k a lo hi q en is) =
+    depth_by : (h' : Ground) (x' : IsImage g h' c.image c.inputs hd) (t : Machine) (u : Thread) (v s : State) (done : ℕ) → length u.stack ≤ g.limit false → Mode g h' c.image hd x'.vector t u v s done → (s.pops ≤ s.pushes) × (s.pushes ≤ s.pops + 8)
+    depth_by h' x' t u v s done le (InMain q a) = let d = a.at.depth in let l = words_length g h' c.image c.inputs hd x' u.stack [] in let k = x'.main_depth in (omega arith, omega arith)
+    depth_by h' x' t u v s done le (Saving has k a lo hi q en is) =
         let d = en.depth in let l = words_length g h' c.image c.inputs hd x' u.stack [] in let z = x'.depth has in
         let p : s.pushes ≡ a.pushes = ap (λ (y : State). y.pushes) is ∙ (saved_stack k a).0 in
         let p2 : s.pops ≡ a.pops = ap (λ (y : State). y.pops) is ∙ (saved_stack k a).1 in (omega arith, omega arith)
-    depth_by h' x' t u s done le (Selecting has j p a lj q en sel is) =
+    depth_by h' x' t u v s done le (Selecting has j p a lj q en sel is) =
         let d = en.depth in let l = words_length g h' c.image c.inputs hd x' u.stack [] in let z = x'.depth has in
         let p1 : s.pushes ≡ a.pushes = ap (λ (y : State). y.pushes) is in
         let p2 : s.pops ≡ a.pops = ap (λ (y : State). y.pops) is in (omega arith, omega arith)
-    depth_by h' x' t u s done le (InHandler has q a) =
+    depth_by h' x' t u v s done le (InHandler has q a) =
         let d = a.at.depth in let l = words_length g h' c.image c.inputs hd x' u.stack [] in let z = x'.depth has in
         let w = words_length g h' c.image c.inputs hd x' t.isr.stack (main_words g h' c.image hd x'.vector u) in let b = a.good.deep in (omega arith, omega arith)
-    depth_by h' x' t u s done le (Leaving has k a lk q lf is) =
+    depth_by h' x' t u v s done le (Leaving has k a lk q lf is) =
         let d = lf.depth in let l = words_length g h' c.image c.inputs hd x' u.stack [] in let z = x'.depth has in
         let p : s.pushes ≡ a.pushes = ap (λ (y : State). y.pushes) is ∙ (given_stack h'.restore k a).0 in
         let p2 : s.pops ≡ a.pops = ap (λ (y : State). y.pops) is ∙ (given_stack h'.restore k a).1 in (omega arith, omega arith)
 
     pub depth : (k : ℕ) → k ≤ N → ((moment c k).state.pops ≤ (moment c k).state.pushes) × ((moment c k).state.pushes ≤ (moment c k).state.pops + 8)
-    depth k le = ⊎_elim (λ lt. let q = started.level k (omega arith) in (omega arith, omega arith)) (λ ge. let z = (stands k ge le).1 in let y = z.stands in depth_by z.ground z.image_then y.early y.thread (moment c k).state y.done y.good.deep y.mode) (cases_lt k A)
+    depth k le = ⊎_elim (λ lt. let q = started.level k (omega arith) in (omega arith, omega arith)) (λ ge. let z = (stands k ge le).1 in let y = z.stands in depth_by z.ground z.image_then y.early y.thread z.trail.context (moment c k).state y.done y.good.deep y.mode) (cases_lt k A)
 
     pub low : (k : ℕ) → k ≤ N → (moment c k).met ≡ true → all_near g.program.layout ≡ true → (moment c k).state.bank < 2
     low k le met near =
         ⊎_elim (λ early'. let f = sym met ∙ started.first_met k early' in absurd (cc))
-        (λ ge. let z = (stands k ge le).1 in let y = z.stands in low_by g z.ground c.image c.inputs hd z.image_then near y.early y.thread (moment c k).state y.done y.good y.mode) (cases_lt k A)
+        (λ ge. let z = (stands k ge le).1 in let y = z.stands in low_by g z.ground c.image c.inputs hd z.image_then near y.early y.thread z.trail.context (moment c k).state y.done y.good y.mode) (cases_lt k A)
 
     pub touches : (k : ℕ) → k ≤ N → (moment c k).met ≡ true → TouchesThere g.program c.image (begun (arriving c.arrivals k) (moment c k).state)
     touches k le met =

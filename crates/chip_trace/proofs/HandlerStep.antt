@@ -1,5 +1,5 @@
 -- An instruction of the handler.
-use Rattle.std.proofs.Common.{◌≡◌, ◌≢◌, ℕ, suc, ◌+◌, ◌/◌, ◌<◌, ◌≤◌, ◌⊎◌, inl, inr, Bool, true, false, List, [], ◌++◌, length, Option, Some, None, refl, sym, ap, ◌∙◌, subst, arith, append-nil, length-append}
+use Rattle.std.proofs.Common.{◌≡◌, ◌≢◌, ℕ, suc, ◌+◌, ◌<◌, ◌≤◌, ◌⊎◌, inl, inr, Bool, true, false, List, [], ◌++◌, length, Option, Some, None, refl, sym, ap, ◌∙◌, subst, arith, append-nil, length-append}
 use Rattle.std.specs.Prelude.{not, ◌&&◌, if◌then◌else◌, slice_index}
 use Rattle.std.proofs.lemmas.Bool.{ne_eqb}
 use Rattle.pic_chip.specs.Act.{perform, accesses}
@@ -28,7 +28,8 @@ use Rattle.pic_chip.proofs.Stack.{IsOn}
 use Rattle.chip_trace.proofs.Relations.{Ground, words, spot}
 use Rattle.chip_trace.proofs.Runs.{inside_steps, isr_makes, isr_made, isr_cost, comes_silent, over, raised, Extends, exactly, Comes, settled_is, raised_none, step_from, cost_from, makes, same_made, one_cost, rest_cost, comes_loud}
 use Rattle.chip_trace.proofs.Sound.{IsGood, IsSound, IsLeft as IsLeftOver, is_out, sound}
-use Rattle.chip_trace.proofs.Stands.{InHandler, Leaving, IsHandling, IsSaved, main_words, IsSince}
+use Rattle.chip_trace.proofs.Stands.{Trail, Stays, InHandler, Leaving, IsHandling, IsSaved, main_words, IsSince}
+use Rattle.chip_trace.proofs.Trails.{traced_past, spared_apart}
 use Rattle.chip_trace.proofs.MainStep.{dear_prices, St, IsClean, IsCleanThen, Stepped, not_stuck}
 use Rattle.pic_world.specs.Control.{is_enabled}
 use Rattle.pic_world.specs.declared.Root.TheVariants.{Main, Isr}
@@ -42,8 +43,8 @@ isr_not_main (Of Isr) e = refl
 isr_not_main Nobody e = refl
 
 module _ (g : Setting) (h : Ground) (image input : List ℕ) (hd : ℕ) (x : IsImage g h image input hd) (watch : Watch) (halt_is : watch.halt ≡ h.halt) (e : Entry) (t0 : Machine) (start from to : ℕ) where
-  module _ (s : Schedule) (runs n : ℕ) (c : Moment) (debt : ℕ) (st : St g h image input hd x watch halt_is e t0 start from to s runs n c debt) (clean : IsClean g h image input hd x watch halt_is e t0 start from to s n (length c.trace))
-      (has : g.program.handler ≡ Some hd) (a : IsHandling g h image hd x.vector st.early st.thread c.state) (dn : st.done ≡ 100) where
+  module _ (s : Schedule) (runs n : ℕ) (c : Moment) (debt : ℕ) (trail : Trail) (st : St g h image input hd x watch halt_is e t0 start from to s runs n c debt trail) (clean : IsClean g h image input hd x watch halt_is e t0 start from to s n (length c.trace))
+      (has : g.program.handler ≡ Some hd) (a : IsHandling g h image hd x.vector st.early st.thread trail.context c.state) (dn : st.done ≡ 100) where
     abbrev t : Machine
     t = st.early
 
@@ -66,7 +67,7 @@ module _ (g : Setting) (h : Ground) (image input : List ℕ) (hd : ℕ) (x : IsI
     below = main_words g h image hd x.vector st.thread
 
     abbrev Result : Type 0
-    Result = Stepped g h image input hd x watch halt_is e t0 start from to s runs (suc n) c true S (observed watch d) debt
+    Result = Stepped g h image input hd x watch halt_is e t0 start from to s runs (suc n) c true S (observed watch d) debt trail
 
     abbrev Then : Type 0
     Then = is_modelled (fetched image S) ≡ true → IsCleanThen g h image input hd x watch halt_is e t0 start from to s (suc n) (length (observed watch d).trace)
@@ -167,11 +168,14 @@ module _ (g : Setting) (h : Ground) (image input : List ℕ) (hd : ℕ) (x : IsI
           record {
             modelled = models y is ne;
             keeps = λ b q. ap (λ (z : Moment). slice_index z.state.ram b) there ∙ ap (λ (m : List ℕ). slice_index m b) k.ram ∙ put_apart r.write S.ram b (near_apart g.program.layout true r.write b close q);
+            spares = λ on b q. ap (λ (z : Moment). slice_index z.state.ram b) there ∙ ap (λ (m : List ℕ). slice_index m b) k.ram ∙ put_apart r.write S.ram b (spared_apart g.program.layout r.write b far whose q);
+            trail_then = trail;
+            onward = Stays refl refl;
             ground = h;
             image_then = x;
             halt_then = halt_is;
             below_then = λ end b. b;
-            stands = subst (λ z. St g h image input hd x watch halt_is e t0 start from to s runs (suc n) z debt) (sym there) (record {
+            stands = subst (λ z. St g h image input hd x watch halt_is e t0 start from to s runs (suc n) z debt trail) (sym there) (record {
               index = index;
               ahead = st.ahead;
               early = record t { isr = r.thread; memory = written r.write t.memory; world = r.world };
@@ -206,18 +210,18 @@ module _ (g : Setting) (h : Ground) (image input : List ℕ) (hd : ℕ) (x : IsI
                 inside = in' ∙ a.inside;
                 gie = off';
                 at = k.at;
+                held = a.held;
                 saved = record {
-                  fits = a.saved.fits;
                   w = cell 88 (omega arith) (omega arith) ∙ a.saved.w;
                   status = cell 89 (omega arith) (omega arith) ∙ a.saved.status;
                   fsr = cell 90 (omega arith) (omega arith) ∙ a.saved.fsr;
-                  pclath = subst (λ v. v < 32) (sym (cell 91 (omega arith) (omega arith))) a.saved.pclath;
-                  page = ap (λ v. v / 8) (cell 91 (omega arith) (omega arith)) ∙ a.saved.page;
+                  pclath = cell 91 (omega arith) (omega arith) ∙ a.saved.pclath;
                 };
                 lands = ok;
                 rest = rest';
                 good = good';
               });
+              traced = traced_past g h image input hd x trail c.ended st.thread st.memory r.write far st.traced;
             });
           }
 
@@ -365,11 +369,14 @@ module _ (g : Setting) (h : Ground) (image input : List ℕ) (hd : ℕ) (x : IsI
           record {
             modelled = models Leaves is none;
             keeps = λ b q. ap (λ (z : Moment). slice_index z.state.ram b) there ∙ ap (λ (z : State). slice_index z.ram b) same;
+            spares = λ on b q. ap (λ (z : Moment). slice_index z.state.ram b) there ∙ ap (λ (z : State). slice_index z.ram b) same;
+            trail_then = trail;
+            onward = Stays refl refl;
             ground = h;
             image_then = x;
             halt_then = halt_is;
             below_then = λ end b. b;
-            stands = subst (λ z. St g h image input hd x watch halt_is e t0 start from to s runs (suc n) z debt) (sym there) (record {
+            stands = subst (λ z. St g h image input hd x watch halt_is e t0 start from to s runs (suc n) z debt trail) (sym there) (record {
               index = st.index;
               ahead = st.ahead;
               early = t;
@@ -409,10 +416,12 @@ module _ (g : Setting) (h : Ground) (image input : List ℕ) (hd : ℕ) (x : IsI
                 at = at;
                 stack = subst (λ (q : State). IsOn q.stack 0 below) (sym same) (subst (λ z. IsOn S.stack 0 (words g h z below)) so.1 a.at.stack);
                 depth = subst (λ (q : State). q.pushes ≡ q.pops + length below) (sym same) (subst (λ z. S.pushes ≡ S.pops + length (words g h z below)) so.1 a.at.depth);
-                saved = subst (λ (q : State). IsSaved g h image hd x.vector st.thread.registers q.ram) (sym same) a.saved;
+                held = a.held;
+                saved = subst (λ (q : State). IsSaved g h image hd x.vector trail.context q.ram) (sym same) a.saved;
                 ranged = executed_ranged input x.small S st.ranged image;
                 low = λ n. let l = a.good.low n in let l0 = l.0 in let l1 = l.1 in let b = a.at.sees.bank in let r0 = a.at.sees.banks.0 in subst (λ (q : State). q.bank < 2) (sym same) (let z : S.bank < 2 = omega (arith, l0, l1, b, r0) in z);
               }) (same ∙ sym (ap (λ (q : State). record q { pc = h.restore }) same));
+              traced = st.traced;
             });
           }
 

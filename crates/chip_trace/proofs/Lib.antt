@@ -15,6 +15,7 @@ pub mod Stands
 pub mod Context
 pub mod Fetch
 pub mod Image
+pub mod Trails
 pub mod Rested
 pub mod MainStep
 pub mod Resting
@@ -45,3 +46,7 @@ pub mod StartFinal
 pub mod Touched
 pub mod Low
 pub mod Now
+pub mod Returned
+pub mod Walking
+pub mod Behind
+pub mod ContextFinal

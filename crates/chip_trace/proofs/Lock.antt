@@ -77,7 +77,7 @@ module _ (reaches : ℕ → ℕ → Bool) (g : Setting) (h : Ground) (o : Outsid
   moved : (n : Ins) (t' : State) (ev' : List Shown) (y : Effect) → perform (row o.input s.pc n) s ≡ t' → events_of l.objects (accesses (row o.input s.pc n) s) ≡ ev' → By t' ev' y → Row n y
   moved n t' ev' y a b k = moved_to g h o m below s (perform (row o.input s.pc n) s) t' w (events_of l.objects (accesses (row o.input s.pc n) s)) ev' y a b k
 
-  quiet_by : (t : State) (p' : Position) (r' : Registers) (x : Option Write) → (lands q p' ≡ true → t.pc ≡ h.place p') → Sees t r' → t.stack ≡ s.stack → t.pushes ≡ s.pushes → t.pops ≡ s.pops → t.ram ≡ put_in x s.ram
+  quiet_by : (t : State) (p' : Position) (r' : Registers) (x : Option Write) → (lands q p' ≡ true → t.pc ≡ h.place p') → Sees t r' → t.pclath % 8 ≡ s.pclath % 8 → t.stack ≡ s.stack → t.pushes ≡ s.pushes → t.pops ≡ s.pops → t.ram ≡ put_in x s.ram
       → control_of t ≡ control_of s → t.taken ≡ s.taken → By t [] (Quiet (goes th p' r') x)
   quiet_by = silent g h o image placed th p m below s w here is none at same taken
 
@@ -99,14 +99,14 @@ module _ (reaches : ℕ → ℕ → Bool) (g : Setting) (h : Ground) (o : Outsid
       (ap (λ a. perform a s) e ∙ change_done o.input s 3 Status (λ next. refl) ch ∙ (λ j. record s { pc = (s.pc + 1) % 8192; bank = ps.bank j; z = ps.z j; dc = ps.dc j; c = ps.c j }))
       (ap (λ a. events_of l.objects (accesses a s)) e ∙ ev)
       (quiet_by (record s { pc = (s.pc + 1) % 8192; bank = bank'; z = z'; dc = dc'; c = c' }) (behind q p) r' None next_by
-      (record { w = y.w; z = y.z; dc = y.dc; c = y.c; fsr = y.fsr; bank = y.bank; page = y.page; banks = y.banks; pages = y.pages }) refl refl refl refl refl refl)
+      (record { w = y.w; z = y.z; dc = y.dc; c = y.c; fsr = y.fsr; bank = y.bank; page = y.page; banks = y.banks; pages = y.pages }) refl refl refl refl refl refl refl)
 
   status_test : (n : Ins) (b v x' : ℕ) → row o.input s.pc n ≡ test_row o.input s.pc 3 b v → events_of l.objects (accesses (test_row o.input s.pc 3 b v) s) ≡ [] → bit S b ≡ x' → Row n (quiet (goes th (onward q p (nat_eq x' v)) r))
   status_test n b v x' e ev is' =
       moved n (record s { pc = (s.pc + (if nat_eq (bit S b) v then 2 else 1)) % 8192 }) [] (quiet (goes th (onward q p (nat_eq x' v)) r))
       (ap (λ a. perform a s) e ∙ test_done o.input s 3 Status (λ next. refl) b v) (ap (λ a. events_of l.objects (accesses a s)) e ∙ ev)
       (quiet_by (record s { pc = (s.pc + (if nat_eq (bit S b) v then 2 else 1)) % 8192 }) (onward q p (nat_eq x' v)) r None (on_by (nat_eq (bit S b) v) (nat_eq x' v) (ap (λ z. nat_eq z v) is'))
-      (record { w = at.sees.w; z = at.sees.z; dc = at.sees.dc; c = at.sees.c; fsr = at.sees.fsr; bank = at.sees.bank; page = at.sees.page; banks = at.sees.banks; pages = at.sees.pages }) refl refl refl refl refl refl)
+      (record { w = at.sees.w; z = at.sees.z; dc = at.sees.dc; c = at.sees.c; fsr = at.sees.fsr; bank = at.sees.bank; page = at.sees.page; banks = at.sees.banks; pages = at.sees.pages }) refl refl refl refl refl refl refl)
 
   -- core registers of the chip are no events
   core_cell : (a : ℕ) → a < 0x20 → is_register a ≡ false → cell_at l.objects a ≡ None
@@ -225,12 +225,12 @@ module _ (reaches : ℕ → ℕ → Bool) (g : Setting) (h : Ground) (o : Outsid
       (with_parts (4 * 0 + bank r) s.z s.dc s.c (record r { irp = 0 }) refl refl refl refl at.sees.z at.sees.dc at.sees.c refl (at.sees.banks.0, at.sees.banks.1, omega arith))
 
   -- a bit of PCLATH that is changed
-  page_changed : (n : Ins) (change' : ℕ → ℕ) (r' : Registers) → row o.input s.pc n ≡ bit_row o.input s.pc 10 change' → Sees (record s { pclath = change' s.pclath % 32 }) r' → Row n (quiet (goes th (behind q p) r'))
-  page_changed n ch r' e y =
+  page_changed : (n : Ins) (change' : ℕ → ℕ) (r' : Registers) → row o.input s.pc n ≡ bit_row o.input s.pc 10 change' → Sees (record s { pclath = change' s.pclath % 32 }) r' → change' s.pclath % 32 % 8 ≡ s.pclath % 8 → Row n (quiet (goes th (behind q p) r'))
+  page_changed n ch r' e y low =
       moved n (record s { pc = (s.pc + 1) % 8192; pclath = ch s.pclath % 32 }) [] (quiet (goes th (behind q p) r'))
       (ap (λ a. perform a s) e ∙ change_done o.input s 10 Pclath (λ next. refl) ch) (ap (λ a. events_of l.objects (accesses a s)) e ∙ pclath_silent ch)
       (quiet_by (record s { pc = (s.pc + 1) % 8192; pclath = ch s.pclath % 32 }) (behind q p) r' None next_by
-      (record { w = y.w; z = y.z; dc = y.dc; c = y.c; fsr = y.fsr; bank = y.bank; page = y.page; banks = y.banks; pages = y.pages }) refl refl refl refl refl refl)
+      (record { w = y.w; z = y.z; dc = y.dc; c = y.c; fsr = y.fsr; bank = y.bank; page = y.page; banks = y.banks; pages = y.pages }) low refl refl refl refl refl refl)
 
   with_page : (v : ℕ) (r' : Registers) → r'.w ≡ r.w → r'.z ≡ r.z → r'.dc ≡ r.dc → r'.c ≡ r.c → r'.fsr ≡ r.fsr → 4 * r'.irp + bank r' ≡ 4 * r.irp + bank r → (r'.rp0 < 2) × (r'.rp1 < 2) × (r'.irp < 2)
       → v / 8 ≡ page r' → (r'.page_low < 2) × (r'.page_high < 2) → Sees (record s { pclath = v }) r'
@@ -251,25 +251,25 @@ module _ (reaches : ℕ → ℕ → Bool) (g : Setting) (h : Ground) (o : Outsid
 
   low_case : (v : ℕ) (b : Bool) → v < 2 → nat_eq v 1 ≡ b → Row (bit_set 0x0a 3 b) (quiet (goes th (behind q p) (record r { page_low = v })))
   low_case v true lt e = subst (λ k. Row (isa.Bsf 10 3) (quiet (goes th (behind q p) (record r { page_low = k })))) (sym (eqb-true v 1 e))
-      (page_changed (isa.Bsf 10 3) (set_bit 3) (record r { page_low = 1 }) refl (with_page (set_bit 3 s.pclath % 32) (record r { page_low = 1 }) refl refl refl refl refl refl at.sees.banks (low_set s.pclath r.page_high r.page_low x.pclath at.sees.pages.0 at.sees.page) (omega arith, at.sees.pages.1)))
+      (page_changed (isa.Bsf 10 3) (set_bit 3) (record r { page_low = 1 }) refl (with_page (set_bit 3 s.pclath % 32) (record r { page_low = 1 }) refl refl refl refl refl refl at.sees.banks (low_set s.pclath r.page_high r.page_low x.pclath at.sees.pages.0 at.sees.page) (omega arith, at.sees.pages.1)) (let f = x.pclath in omega arith))
   low_case v false lt e = subst (λ k. Row (isa.Bcf 10 3) (quiet (goes th (behind q p) (record r { page_low = k })))) (zero_of v lt e)
-      (page_changed (isa.Bcf 10 3) (clear_bit 3) (record r { page_low = 0 }) refl (with_page (clear_bit 3 s.pclath % 32) (record r { page_low = 0 }) refl refl refl refl refl refl at.sees.banks (low_clear s.pclath r.page_high r.page_low x.pclath at.sees.pages.0 at.sees.page) (omega arith, at.sees.pages.1)))
+      (page_changed (isa.Bcf 10 3) (clear_bit 3) (record r { page_low = 0 }) refl (with_page (clear_bit 3 s.pclath % 32) (record r { page_low = 0 }) refl refl refl refl refl refl at.sees.banks (low_clear s.pclath r.page_high r.page_low x.pclath at.sees.pages.0 at.sees.page) (omega arith, at.sees.pages.1)) (let f = x.pclath in omega arith))
 
   high_case : (v : ℕ) (b : Bool) → v < 2 → nat_eq v 1 ≡ b → Row (bit_set 0x0a 4 b) (quiet (goes th (behind q p) (record r { page_high = v })))
   high_case v true lt e = subst (λ k. Row (isa.Bsf 10 4) (quiet (goes th (behind q p) (record r { page_high = k })))) (sym (eqb-true v 1 e))
-      (page_changed (isa.Bsf 10 4) (set_bit 4) (record r { page_high = 1 }) refl (with_page (set_bit 4 s.pclath % 32) (record r { page_high = 1 }) refl refl refl refl refl refl at.sees.banks (high_set s.pclath r.page_high r.page_low x.pclath at.sees.pages.0 at.sees.pages.1 at.sees.page) (at.sees.pages.0, omega arith)))
+      (page_changed (isa.Bsf 10 4) (set_bit 4) (record r { page_high = 1 }) refl (with_page (set_bit 4 s.pclath % 32) (record r { page_high = 1 }) refl refl refl refl refl refl at.sees.banks (high_set s.pclath r.page_high r.page_low x.pclath at.sees.pages.0 at.sees.pages.1 at.sees.page) (at.sees.pages.0, omega arith)) (let f = x.pclath in omega arith))
   high_case v false lt e = subst (λ k. Row (isa.Bcf 10 4) (quiet (goes th (behind q p) (record r { page_high = k })))) (zero_of v lt e)
-      (page_changed (isa.Bcf 10 4) (clear_bit 4) (record r { page_high = 0 }) refl (with_page (clear_bit 4 s.pclath % 32) (record r { page_high = 0 }) refl refl refl refl refl refl at.sees.banks (high_clear s.pclath r.page_high r.page_low x.pclath at.sees.pages.0 at.sees.pages.1 at.sees.page) (at.sees.pages.0, omega arith)))
+      (page_changed (isa.Bcf 10 4) (clear_bit 4) (record r { page_high = 0 }) refl (with_page (clear_bit 4 s.pclath % 32) (record r { page_high = 0 }) refl refl refl refl refl refl at.sees.banks (high_clear s.pclath r.page_high r.page_low x.pclath at.sees.pages.0 at.sees.pages.1 at.sees.page) (at.sees.pages.0, omega arith)) (let f = x.pclath in omega arith))
 
   page_locked : (which : PageBit) (pg : ℕ) → Row (page_row which pg) (quiet (goes th (behind q p) (with_page_bit r which (page_bit which pg))))
   page_locked Low pg = low_case (pg % 2) (nat_eq (pg % 2) 1) (omega arith) refl
   page_locked High pg = high_case (pg / 2 % 2) (nat_eq (pg / 2 % 2) 1) (omega arith) refl
 
   -- ---- the return stack
-  back_locked : (t : State) (r' : Registers) → t.pc ≡ slice_index s.stack 0 → t.stack ≡ after_pop s.stack → t.pushes ≡ s.pushes → t.pops ≡ s.pops + 1 → Sees t r' → t.ram ≡ s.ram → control_of t ≡ control_of s → t.taken ≡ s.taken
+  back_locked : (t : State) (r' : Registers) → t.pc ≡ slice_index s.stack 0 → t.stack ≡ after_pop s.stack → t.pushes ≡ s.pushes → t.pops ≡ s.pops + 1 → Sees t r' → t.pclath % 8 ≡ s.pclath % 8 → t.ram ≡ s.ram → control_of t ≡ control_of s → t.taken ≡ s.taken
       → (st : List Position) → th.stack ≡ st → By t [] (back (record th { registers = r' }) st)
-  back_locked t r' ep es eu eo y em ec et [] e = tt
-  back_locked t r' ep es eu eo y em ec et (p' ∷ st) e = λ ok.
+  back_locked t r' ep es eu eo y el em ec et [] e = tt
+  back_locked t r' ep es eu eo y el em ec et (p' ∷ st) e = λ ok.
       let on : IsOn s.stack 0 (h.place p' % 8192 ∷ words g h st below) = subst (λ z. IsOn s.stack 0 (words g h z below)) e at.stack in
       let few : length (h.place p' % 8192 ∷ words g h st below) ≤ 8 = subst (λ z. length (words g h z below) ≤ 8) e deep in
       let dep : s.pushes ≡ s.pops + length (h.place p' % 8192 ∷ words g h st below) = subst (λ z. s.pushes ≡ s.pops + length (words g h z below)) e at.depth in
@@ -281,6 +281,7 @@ module _ (reaches : ℕ → ℕ → Bool) (g : Setting) (h : Ground) (o : Outsid
           stack = subst (λ z. IsOn z 0 (words g h st below)) (sym es) (on_pop s.stack (h.place p' % 8192) (words g h st below) (omega arith) on);
           depth = omega arith;
         };
+        low = el;
         ram = em;
         control = ec ∙ same;
         taken = et ∙ taken;
@@ -290,7 +291,7 @@ module _ (reaches : ℕ → ℕ → Bool) (g : Setting) (h : Ground) (o : Outsid
   return_locked : Row isa.Return (back th th.stack)
   return_locked =
       moved isa.Return (popped s) [] (back th th.stack) (sym (pop_done s s.w s.intcon x.stack)) refl
-      (back_locked (popped s) r refl refl refl refl (record { w = at.sees.w; z = at.sees.z; dc = at.sees.dc; c = at.sees.c; fsr = at.sees.fsr; bank = at.sees.bank; page = at.sees.page; banks = at.sees.banks; pages = at.sees.pages }) refl refl refl th.stack refl)
+      (back_locked (popped s) r refl refl refl refl (record { w = at.sees.w; z = at.sees.z; dc = at.sees.dc; c = at.sees.c; fsr = at.sees.fsr; bank = at.sees.bank; page = at.sees.page; banks = at.sees.banks; pages = at.sees.pages }) refl refl refl refl th.stack refl)
 
   -- ---- literals
   abbrev n1 : ℕ
@@ -301,41 +302,41 @@ module _ (reaches : ℕ → ℕ → Bool) (g : Setting) (h : Ground) (o : Outsid
   literal_locked Addlw k =
       moved (isa.Addlw k) (record s { pc = n1; w = sum s.w k; c = truth (nat_le 256 (k + s.w)); dc = truth (nat_le 16 (k % 16 + s.w % 16)); z = truth (nat_eq (sum s.w k) 0) }) [] (quiet (goes th (behind q p) (after_row (isa.Addlw k) r))) refl refl
       (quiet_by _ (behind q p) (after_row (isa.Addlw k) r) None next_by
-      (record { w = ap (λ a. sum a k) at.sees.w; z = ap (λ a. truth (nat_eq (sum a k) 0)) at.sees.w; dc = ap (λ a. truth (nat_le 16 (k % 16 + a % 16))) at.sees.w; c = ap (λ a. truth (nat_le 256 (k + a))) at.sees.w; fsr = at.sees.fsr; bank = at.sees.bank; page = at.sees.page; banks = at.sees.banks; pages = at.sees.pages }) refl refl refl refl refl refl)
+      (record { w = ap (λ a. sum a k) at.sees.w; z = ap (λ a. truth (nat_eq (sum a k) 0)) at.sees.w; dc = ap (λ a. truth (nat_le 16 (k % 16 + a % 16))) at.sees.w; c = ap (λ a. truth (nat_le 256 (k + a))) at.sees.w; fsr = at.sees.fsr; bank = at.sees.bank; page = at.sees.page; banks = at.sees.banks; pages = at.sees.pages }) refl refl refl refl refl refl refl)
   literal_locked Andlw k =
       moved (isa.Andlw k) (record s { pc = n1; w = bit_and k s.w; z = truth (nat_eq (bit_and k s.w) 0) }) [] (quiet (goes th (behind q p) (after_row (isa.Andlw k) r))) refl refl
       (quiet_by _ (behind q p) (after_row (isa.Andlw k) r) None next_by
-      (record { w = ap (bit_and k) at.sees.w; z = ap (λ a. truth (nat_eq (bit_and k a) 0)) at.sees.w; dc = at.sees.dc; c = at.sees.c; fsr = at.sees.fsr; bank = at.sees.bank; page = at.sees.page; banks = at.sees.banks; pages = at.sees.pages }) refl refl refl refl refl refl)
+      (record { w = ap (bit_and k) at.sees.w; z = ap (λ a. truth (nat_eq (bit_and k a) 0)) at.sees.w; dc = at.sees.dc; c = at.sees.c; fsr = at.sees.fsr; bank = at.sees.bank; page = at.sees.page; banks = at.sees.banks; pages = at.sees.pages }) refl refl refl refl refl refl refl)
   literal_locked Iorlw k =
       moved (isa.Iorlw k) (record s { pc = n1; w = bit_or k s.w; z = truth (nat_eq (bit_or k s.w) 0) }) [] (quiet (goes th (behind q p) (after_row (isa.Iorlw k) r))) refl refl
       (quiet_by _ (behind q p) (after_row (isa.Iorlw k) r) None next_by
-      (record { w = ap (bit_or k) at.sees.w; z = ap (λ a. truth (nat_eq (bit_or k a) 0)) at.sees.w; dc = at.sees.dc; c = at.sees.c; fsr = at.sees.fsr; bank = at.sees.bank; page = at.sees.page; banks = at.sees.banks; pages = at.sees.pages }) refl refl refl refl refl refl)
+      (record { w = ap (bit_or k) at.sees.w; z = ap (λ a. truth (nat_eq (bit_or k a) 0)) at.sees.w; dc = at.sees.dc; c = at.sees.c; fsr = at.sees.fsr; bank = at.sees.bank; page = at.sees.page; banks = at.sees.banks; pages = at.sees.pages }) refl refl refl refl refl refl refl)
   literal_locked Xorlw k =
       moved (isa.Xorlw k) (record s { pc = n1; w = bit_xor k s.w; z = truth (nat_eq (bit_xor k s.w) 0) }) [] (quiet (goes th (behind q p) (after_row (isa.Xorlw k) r))) refl refl
       (quiet_by _ (behind q p) (after_row (isa.Xorlw k) r) None next_by
-      (record { w = ap (bit_xor k) at.sees.w; z = ap (λ a. truth (nat_eq (bit_xor k a) 0)) at.sees.w; dc = at.sees.dc; c = at.sees.c; fsr = at.sees.fsr; bank = at.sees.bank; page = at.sees.page; banks = at.sees.banks; pages = at.sees.pages }) refl refl refl refl refl refl)
+      (record { w = ap (bit_xor k) at.sees.w; z = ap (λ a. truth (nat_eq (bit_xor k a) 0)) at.sees.w; dc = at.sees.dc; c = at.sees.c; fsr = at.sees.fsr; bank = at.sees.bank; page = at.sees.page; banks = at.sees.banks; pages = at.sees.pages }) refl refl refl refl refl refl refl)
   literal_locked Movlw k =
       moved (isa.Movlw k) (record s { pc = n1; w = k }) [] (quiet (goes th (behind q p) (after_row (isa.Movlw k) r))) refl refl
       (quiet_by _ (behind q p) (after_row (isa.Movlw k) r) None next_by
-      (record { w = refl; z = at.sees.z; dc = at.sees.dc; c = at.sees.c; fsr = at.sees.fsr; bank = at.sees.bank; page = at.sees.page; banks = at.sees.banks; pages = at.sees.pages }) refl refl refl refl refl refl)
+      (record { w = refl; z = at.sees.z; dc = at.sees.dc; c = at.sees.c; fsr = at.sees.fsr; bank = at.sees.bank; page = at.sees.page; banks = at.sees.banks; pages = at.sees.pages }) refl refl refl refl refl refl refl)
   literal_locked Sublw k =
       moved (isa.Sublw k) (record s { pc = n1; w = difference s.w k; c = truth (nat_le s.w k); dc = truth (nat_le (s.w % 16) (k % 16)); z = truth (nat_eq (difference s.w k) 0) }) [] (quiet (goes th (behind q p) (after_row (isa.Sublw k) r))) refl refl
       (quiet_by _ (behind q p) (after_row (isa.Sublw k) r) None next_by
-      (record { w = ap (λ a. difference a k) at.sees.w; z = ap (λ a. truth (nat_eq (difference a k) 0)) at.sees.w; dc = ap (λ a. truth (nat_le (a % 16) (k % 16))) at.sees.w; c = ap (λ a. truth (nat_le a k)) at.sees.w; fsr = at.sees.fsr; bank = at.sees.bank; page = at.sees.page; banks = at.sees.banks; pages = at.sees.pages }) refl refl refl refl refl refl)
+      (record { w = ap (λ a. difference a k) at.sees.w; z = ap (λ a. truth (nat_eq (difference a k) 0)) at.sees.w; dc = ap (λ a. truth (nat_le (a % 16) (k % 16))) at.sees.w; c = ap (λ a. truth (nat_le a k)) at.sees.w; fsr = at.sees.fsr; bank = at.sees.bank; page = at.sees.page; banks = at.sees.banks; pages = at.sees.pages }) refl refl refl refl refl refl refl)
   literal_locked Retlw k =
       moved (isa.Retlw k) (popped (record s { w = k })) [] (back (record th { registers = record r { w = k } }) th.stack) (sym (pop_done s k s.intcon x.stack)) refl
-      (back_locked (popped (record s { w = k })) (record r { w = k }) refl refl refl refl (record { w = refl; z = at.sees.z; dc = at.sees.dc; c = at.sees.c; fsr = at.sees.fsr; bank = at.sees.bank; page = at.sees.page; banks = at.sees.banks; pages = at.sees.pages }) refl refl refl th.stack refl)
+      (back_locked (popped (record s { w = k })) (record r { w = k }) refl refl refl refl (record { w = refl; z = at.sees.z; dc = at.sees.dc; c = at.sees.c; fsr = at.sees.fsr; bank = at.sees.bank; page = at.sees.page; banks = at.sees.banks; pages = at.sees.pages }) refl refl refl refl th.stack refl)
 
   plain_locked : (op : PlainOperation) → Row (plain_row op) (plain q p th op)
   unfolding after_row
   plain_locked Clrw =
       moved isa.Clrw (record s { pc = n1; w = 0; z = 1 }) [] (quiet (goes th (behind q p) (after_row isa.Clrw r))) refl refl
       (quiet_by _ (behind q p) (after_row isa.Clrw r) None next_by
-      (record { w = refl; z = refl; dc = at.sees.dc; c = at.sees.c; fsr = at.sees.fsr; bank = at.sees.bank; page = at.sees.page; banks = at.sees.banks; pages = at.sees.pages }) refl refl refl refl refl refl)
+      (record { w = refl; z = refl; dc = at.sees.dc; c = at.sees.c; fsr = at.sees.fsr; bank = at.sees.bank; page = at.sees.page; banks = at.sees.banks; pages = at.sees.pages }) refl refl refl refl refl refl refl)
   plain_locked Nop =
       moved isa.Nop (record s { pc = n1 }) [] (quiet (goes th (behind q p) r)) refl refl
       (quiet_by _ (behind q p) r None next_by
-      (record { w = at.sees.w; z = at.sees.z; dc = at.sees.dc; c = at.sees.c; fsr = at.sees.fsr; bank = at.sees.bank; page = at.sees.page; banks = at.sees.banks; pages = at.sees.pages }) refl refl refl refl refl refl)
+      (record { w = at.sees.w; z = at.sees.z; dc = at.sees.dc; c = at.sees.c; fsr = at.sees.fsr; bank = at.sees.bank; page = at.sees.page; banks = at.sees.banks; pages = at.sees.pages }) refl refl refl refl refl refl refl)
   plain_locked Retfie = tt
   plain_locked Return = return_locked
 
@@ -354,7 +355,7 @@ module _ (reaches : ℕ → ℕ → Bool) (g : Setting) (h : Ground) (o : Outsid
   jump_locked k None e = tt
   jump_locked k (Some p') e =
       quiet_by (record s { pc = there k }) p' r None (e p' refl)
-      (record { w = at.sees.w; z = at.sees.z; dc = at.sees.dc; c = at.sees.c; fsr = at.sees.fsr; bank = at.sees.bank; page = at.sees.page; banks = at.sees.banks; pages = at.sees.pages }) refl refl refl refl refl refl
+      (record { w = at.sees.w; z = at.sees.z; dc = at.sees.dc; c = at.sees.c; fsr = at.sees.fsr; bank = at.sees.bank; page = at.sees.page; banks = at.sees.banks; pages = at.sees.pages }) refl refl refl refl refl refl refl
 
   halt_locked : (k : ℕ) (b : Bool) (st : List Position) → k < 2048 → there k ≡ h.halt → By (record s { pc = there k }) [] (halt b th st)
   halt_locked k false [] lt e = (ap (λ z. record s { pc = z }) e, refl, (let a = at.sees.page in let b = x.pclath in omega arith))
@@ -391,6 +392,7 @@ module _ (reaches : ℕ → ℕ → Bool) (g : Setting) (h : Ground) (o : Outsid
           stack = (behind_word, on.1);
           depth = let a = at.depth in omega arith;
         };
+        low = refl;
         ram = refl;
         control = same;
         taken = taken;

@@ -19,6 +19,8 @@ module _ (g : Setting) (h : Ground) (o : Outside) where
   -- t: the chip's state s after the instruction; w: the world before it; ev: its events
   pub record Locked (below : List ℕ) (s t : State) (w : World ℕ) (ev : List Shown) (r : Made) : Type 0 where
     pub at : IsAt g h r.thread below t
+    -- the low three bits of PCLATH, which no thread's registers have
+    pub low : t.pclath % 8 ≡ s.pclath % 8
     pub ram : t.ram ≡ put_in r.write s.ram
     pub control : control_of t ≡ r.world.control
     pub taken : t.taken ≡ r.world.taken
@@ -94,10 +96,11 @@ module _ (g : Setting) (h : Ground) (o : Outside) where
     }
 
     -- what has no event
-    pub silent : (t : State) (p' : Position) (r : Registers) (x : Option Write) → (lands q p' ≡ true → t.pc ≡ h.place p') → Sees t r → t.stack ≡ s.stack → t.pushes ≡ s.pushes → t.pops ≡ s.pops → t.ram ≡ put_in x s.ram
+    pub silent : (t : State) (p' : Position) (r : Registers) (x : Option Write) → (lands q p' ≡ true → t.pc ≡ h.place p') → Sees t r → t.pclath % 8 ≡ s.pclath % 8 → t.stack ≡ s.stack → t.pushes ≡ s.pushes → t.pops ≡ s.pops → t.ram ≡ put_in x s.ram
         → control_of t ≡ control_of s → t.taken ≡ s.taken → LockedBy m below s t w [] (Quiet (goes th p' r) x)
-    silent t p' r x e y es eu eo em ec et ok = record {
+    silent t p' r x e y el es eu eo em ec et ok = record {
       at = at_of t p' r (e ok) y es eu eo;
+      low = el;
       ram = em;
       control = ec ∙ same;
       taken = et ∙ taken;
@@ -121,6 +124,7 @@ module _ (g : Setting) (h : Ground) (o : Outside) where
         let t : State = record s { pc = n; taken = taken_after (Event b) s.taken; w = w'; z = z'; dc = d'; c = c' } in
         subst (LockedRead m below s t w (event_at false xv (cell_for (Event b))) b (goes th p' r)) (sym none) (λ ok. record {
           at = at_of t p' r (e ok) (sees_like t (record s { w = w'; z = z'; dc = d'; c = c' }) r refl refl refl refl refl refl refl y) refl refl refl;
+          low = refl;
           ram = refl;
           control = same ∙ sym (read_control o m w b);
           taken = ap (taken_after (Event b)) taken ∙ sym (read_taken o m w b);
@@ -153,6 +157,7 @@ module _ (g : Setting) (h : Ground) (o : Outside) where
           wrote_if below s t w _ (is_forbidden (read_by o m w (Port a)) (Port a) vh) _ (λ ok.
               let there = at_of t p' r (e ok) (sees_like t (record s { z = z'; dc = d'; c = c' }) r refl refl refl refl refl refl refl y) refl refl refl in record {
                 at = record { pc = there.pc; sees = there.sees; stack = there.stack; depth = there.depth };
+                low = refl;
                 ram = refl;
                 control = both_control (Port a) v vh ev;
                 taken = both_taken (Port a) vh;
@@ -165,6 +170,7 @@ module _ (g : Setting) (h : Ground) (o : Outside) where
           wrote_if below s t w _ (is_forbidden (read_by o m w (Shared k cell)) (Shared k cell) vh) _ (λ ok.
               let there = at_of t p' r (e ok) (sees_like t (record s { z = z'; dc = d'; c = c' }) r refl refl refl refl refl refl refl y) refl refl refl in record {
                 at = record { pc = there.pc; sees = there.sees; stack = there.stack; depth = there.depth };
+                low = refl;
                 ram = ap (slice_set s.ram k) ev;
                 control = both_control (Shared k cell) v vh ev;
                 taken = both_taken (Shared k cell) vh;
@@ -186,6 +192,7 @@ module _ (g : Setting) (h : Ground) (o : Outside) where
         let t : State = record (state_stored (Event (Port a)) v (record s { pc = n })) { z = z'; dc = d'; c = c' } in
         wrote_if below s t w _ (is_forbidden w (Port a) vh) _ (λ ok. record {
           at = at_of t p' r (e ok) (sees_like t (record s { z = z'; dc = d'; c = c' }) r refl refl refl refl refl refl refl y) refl refl refl;
+          low = refl;
           ram = refl;
           control = write_control (Port a) v vh ev;
           taken = taken ∙ sym (wrote_taken w (Port a) vh);
@@ -195,6 +202,7 @@ module _ (g : Setting) (h : Ground) (o : Outside) where
         let t : State = record (state_stored (Event (Shared k cell)) v (record s { pc = n })) { z = z'; dc = d'; c = c' } in
         wrote_if below s t w _ (is_forbidden w (Shared k cell) vh) _ (λ ok. record {
           at = at_of t p' r (e ok) (sees_like t (record s { z = z'; dc = d'; c = c' }) r refl refl refl refl refl refl refl y) refl refl refl;
+          low = refl;
           ram = ap (slice_set s.ram k) ev;
           control = write_control (Shared k cell) v vh ev;
           taken = taken ∙ sym (wrote_taken w (Shared k cell) vh);

@@ -1,5 +1,5 @@
 -- In a near layout RP1 and IRP are 0 at each moment.
-use Rattle.std.proofs.Common.{◌≡◌, ℕ, zero, suc, ◌+◌, ◌*◌, ◌/◌, ◌<◌, ◌≤◌, true, false, List, refl, sym, ap, ◌∙◌, subst, arith}
+use Rattle.std.proofs.Common.{◌≡◌, ℕ, zero, suc, ◌/◌, ◌<◌, true, false, List, refl, sym, ap, ◌∙◌, subst, arith}
 use Rattle.std.specs.Prelude.{slice_index}
 use Rattle.pic_chip.specs.Instructions.{swap}
 use Rattle.pic_chip.specs.State.{State}
@@ -11,8 +11,7 @@ use Rattle.chip_trace.proofs.Context.{swap_twice}
 use Rattle.chip_trace.proofs.Image.{IsImage}
 use Rattle.chip_trace.proofs.Relations.{Ground, Sees}
 use Rattle.chip_trace.proofs.Sound.{IsGood, IsLow}
-use Rattle.chip_trace.proofs.Stands.{Mode, InMain, Saving, Selecting, InHandler, Leaving, IsSaved, saved, given, cell}
-use Rattle.chip_trace.proofs.StatusBits.{packed}
+use Rattle.chip_trace.proofs.Stands.{Mode, InMain, Saving, Selecting, InHandler, Leaving, IsHeld, IsSaved, saved, given, cell, status}
 
 saved_bank : (k : ℕ) (a : State) → (saved k a).bank ≡ a.bank
 saved_bank zero a = refl
@@ -40,21 +39,21 @@ seen_low s r sees low = let l0 = low.0 in let l1 = low.1 in let b = sees.bank in
 
 module _ (g : Setting) (h : Ground) (image input : List ℕ) (hd : ℕ) (x : IsImage g h image input hd) (near : all_near g.program.layout ≡ true) where
   -- what was saved of STATUS
-  saved_low : (r : Registers) (ram : List ℕ) → IsSaved g h image hd x.vector r ram → IsLow r → swap (slice_index ram 89) / 32 < 2
-  saved_low r ram s low =
-      let f = s.fits in
-      let q1 = f.flags.0 in let q2 = f.flags.1 in let q3 = f.flags.2 in let q4 = f.banks.0 in let q5 = f.banks.1 in let q6 = f.banks.2 in
-      let full : packed (4 * r.irp + bank r) r.z r.dc r.c < 256 = omega (arith, q1, q2, q3, q4, q5, q6) in
-      let is : swap (slice_index ram 89) ≡ packed (4 * r.irp + bank r) r.z r.dc r.c = ap swap s.status ∙ swap_twice (packed (4 * r.irp + bank r) r.z r.dc r.c) full in
-      let l0 = low.0 in let l1 = low.1 in
-      omega (arith, is, l0, l1, q1, q2, q3, q4)
+  saved_low : (u : Thread) (k : State) (ram : List ℕ) → IsHeld g h image hd x.vector u k → IsSaved g h image hd x.vector k ram → IsLow u.registers → swap (slice_index ram 89) / 32 < 2
+  saved_low u k ram held s low =
+      let r = held.ranged in
+      let q1 = r.bank in let q2 = r.z in let q3 = r.dc in let q4 = r.c in
+      let full : status k < 256 = omega (arith, q1, q2, q3, q4) in
+      let is : swap (slice_index ram 89) ≡ status k = ap swap s.status ∙ swap_twice (status k) full in
+      let b = seen_low k u.registers held.at.sees low in
+      omega (arith, is, b, q2, q3, q4)
 
-  pub low_by : (t : Machine) (u : Thread) (s : State) (done : ℕ) → IsGood g false u → Mode g h image hd x.vector t u s done → s.bank < 2
-  low_by t u s done good (InMain q a) = seen_low s u.registers a.at.sees (good.low near)
-  low_by t u s done good (Saving has k a lo hi q en is) =
-      subst (λ b. b < 2) (sym (ap (λ (y : State). y.bank) is ∙ saved_bank k a)) (seen_low a u.registers en.sees (good.low near))
-  low_by t u s done good (Selecting has j p a lj q en sel is) =
+  pub low_by : (t : Machine) (u : Thread) (k s : State) (done : ℕ) → IsGood g false u → Mode g h image hd x.vector t u k s done → s.bank < 2
+  low_by t u k s done good (InMain q a) = seen_low s u.registers a.at.sees (good.low near)
+  low_by t u k s done good (Saving has i a lo hi q en is) =
+      subst (λ b. b < 2) (sym (ap (λ (y : State). y.bank) is ∙ saved_bank i a)) (seen_low a u.registers en.sees (good.low near))
+  low_by t u k s done good (Selecting has j p a lj q en sel is) =
       subst (λ b. b < 2) (sym (ap (λ (y : State). y.bank) is)) (seen_low a u.registers en.sees (good.low near))
-  low_by t u s done good (InHandler has q a) = seen_low s t.isr.registers a.at.sees (a.good.low near)
-  low_by t u s done good (Leaving has k a lk q lf is) =
-      subst (λ b. b < 2) (sym (ap (λ (y : State). y.bank) is)) (given_bank h.restore k a (lf.low near) (saved_low u.registers a.ram lf.saved (good.low near)))
+  low_by t u k s done good (InHandler has q a) = seen_low s t.isr.registers a.at.sees (a.good.low near)
+  low_by t u k s done good (Leaving has i a lk q lf is) =
+      subst (λ b. b < 2) (sym (ap (λ (y : State). y.bank) is)) (given_bank h.restore i a (lf.low near) (saved_low u k a.ram lf.held lf.saved (good.low near)))

@@ -1,5 +1,5 @@
 -- An instruction of main, at a boundary where flags were raised and no interrupt is due.
-use Rattle.std.proofs.Common.{◌≡◌, ◌≢◌, ℕ, suc, ◌+◌, ◌/◌, ◌<◌, ◌≤◌, ◌⊎◌, inl, inr, Bool, true, false, List, [], ◌∷◌, ◌++◌, length, Option, Some, None, refl, sym, ap, ◌∙◌, subst, arith, append-nil, length-append}
+use Rattle.std.proofs.Common.{◌≡◌, ◌≢◌, ℕ, suc, ◌+◌, ◌/◌, ◌%◌, ◌<◌, ◌≤◌, ◌⊎◌, inl, inr, Bool, true, false, List, [], ◌∷◌, ◌++◌, length, map, Option, Some, None, refl, sym, ap, ◌∙◌, subst, arith, append-nil, length-append}
 use Rattle.std.specs.Prelude.{not, ◌&&◌, if◌then◌else◌, slice_index}
 use Rattle.std.proofs.lemmas.Bool.{ne_eqb}
 use Rattle.std.proofs.lemmas.List.{map-append}
@@ -22,6 +22,7 @@ use Rattle.sym_code.specs.Programs.{Position, lands}
 use Rattle.sym_code.specs.Registers.{page}
 use Rattle.sym_code.specs.declared.code.BlockName.{BlockName}
 use Rattle.chip_trace.specs.Arriving.{is_kept}
+use Rattle.chip_trace.specs.Context.{is_handlers}
 use Rattle.chip_trace.specs.Keeping.{file_in, TouchesThere}
 use Rattle.chip_trace.proofs.Fetch.{LockedAt, locked_at, Ordinary}
 use Rattle.chip_trace.proofs.Image.{IsImage, after, elsewhere, ending, observed_long, put_written, put_apart, words_length, same_length}
@@ -29,11 +30,12 @@ use Rattle.chip_trace.proofs.Locked.{Locked, LockedIf, LockedRead, LockedBy}
 use Rattle.chip_trace.proofs.Past.{IsNear, near, near_apart, MadeIf, made_case, is_event, longer, inside, good, read_long, read_control, read_inside, silent_somebody, watched_somebody}
 use Rattle.pic_chip.proofs.Ranges.{executed_ranged}
 use Rattle.pic_chip.proofs.Stack.{IsOn}
-use Rattle.chip_trace.proofs.Relations.{Ground, IsBelow, Sees, words, spot}
+use Rattle.chip_trace.proofs.Relations.{Ground, IsAt, IsBelow, Sees, words, spot}
 use Rattle.chip_trace.proofs.Rested.{rested, words_at, image_at}
 use Rattle.chip_trace.proofs.Runs.{over, raised, Extends, exactly, Comes, settled_is, raised_none, step_from, cost_from, off_steps, main_makes, main_made, main_ends, makes, same_made, main_cost, one_cost, rest_cost, end_cost, comes_main, comes_loud}
 use Rattle.chip_trace.proofs.Sound.{IsGood, IsSound, IsLeft, is_out, sound}
-use Rattle.chip_trace.proofs.Stands.{Stands, IsMain, InMain, IsThere, IsSince}
+use Rattle.chip_trace.proofs.Stands.{Stands, Trail, Onward, Further, Anew, Rested, IsMain, InMain, IsThere, IsSince}
+use Rattle.chip_trace.proofs.Trails.{back_here, from_here, further, traced_here}
 
 -- each instruction is one where no table is read
 abbrev pub one_each : BlockName → ℕ → ℕ
@@ -43,8 +45,8 @@ abbrev pub dear_prices : Prices
 dear_prices = most_prices one_each
 
 module _ (g : Setting) (h : Ground) (image input : List ℕ) (hd : ℕ) (x : IsImage g h image input hd) (watch : Watch) (halt_is : watch.halt ≡ h.halt) (e : Entry) (t0 : Machine) (start from to : ℕ) where
-  abbrev pub St : Schedule → ℕ → ℕ → Moment → ℕ → Type 0
-  St s runs n c debt = Stands g h image hd x.vector e input t0 least_prices dear_prices s start from to runs n c debt
+  abbrev pub St : Schedule → ℕ → ℕ → Moment → ℕ → Trail → Type 0
+  St s runs n c debt trail = Stands g h image hd x.vector e input t0 least_prices dear_prices s start from to runs n c debt trail
 
   -- no step of the early run is stuck that comes after so many instructions, while the trace is no longer
   abbrev pub IsClean : Schedule → ℕ → ℕ → Type 0
@@ -58,14 +60,17 @@ module _ (g : Setting) (h : Ground) (image input : List ℕ) (hd : ℕ) (x : IsI
   abbrev pub ranges : List Range
   ranges = g.program.layout.objects
 
-  pub record Stepped (s : Schedule) (runs n : ℕ) (c : Moment) (hand : Bool) (a : State) (d : Moment) (debt : ℕ) : Type 0 where
+  pub record Stepped (s : Schedule) (runs n : ℕ) (c : Moment) (hand : Bool) (a : State) (d : Moment) (debt : ℕ) (trail : Trail) : Type 0 where
     pub modelled : is_modelled (fetched image a) ≡ true
     pub keeps : (b : ℕ) → is_kept hand (owner g.program.layout b) ≡ true → slice_index d.state.ram b ≡ slice_index c.state.ram b
+    pub spares : hand ≡ true → (b : ℕ) → is_handlers b (owner g.program.layout b) ≡ false → slice_index d.state.ram b ≡ slice_index c.state.ram b
+    pub trail_then : Trail
+    pub onward : Onward hand trail trail_then c.trace d
     pub ground : Ground
     pub image_then : IsImage g ground image input hd
     pub halt_then : watch.halt ≡ ground.halt
     pub below_then : (end : ℕ) → IsBelow g h end → IsBelow g ground end
-    pub stands : Stands g ground image hd image_then.vector e input t0 least_prices dear_prices s start from to runs n d debt
+    pub stands : Stands g ground image hd image_then.vector e input t0 least_prices dear_prices s start from to runs n d debt trail_then
 
   -- the early run isn't stuck there
   pub not_stuck : (s : Schedule) (n long k : ℕ) (u : Machine) → IsClean s n long → cost_by g least_prices e (over input s) k t0 ≤ n → settled (over input s) (sym_run g e (over input s) k t0) ≡ u
@@ -78,7 +83,7 @@ module _ (g : Setting) (h : Ground) (image input : List ℕ) (hd : ℕ) (x : IsI
         settled_trace : (r : Machine) → settled (over input s) r ≡ raised (s (length r.world.trace)) r
         settled_trace r = settled_is input s r
 
-  module _ (s : Schedule) (runs n : ℕ) (c : Moment) (debt : ℕ) (st : St s runs n c debt) (clean : IsClean s n (length c.trace)) where
+  module _ (s : Schedule) (runs n : ℕ) (c : Moment) (debt : ℕ) (trail : Trail) (st : St s runs n c debt trail) (clean : IsClean s n (length c.trace)) where
     abbrev t : Machine
     t = st.early
 
@@ -97,7 +102,7 @@ module _ (g : Setting) (h : Ground) (image input : List ℕ) (hd : ℕ) (x : IsI
     abbrev pub d : Moment
     d = after image input ranges c S c.handling
 
-    module _ (a : IsMain g h image hd x.vector t st.thread S) (dn : st.done ≡ 100) (off : control.is_due (control_of S) ≡ false) where
+    module _ (a : IsMain g h image hd x.vector t st.thread trail.context S) (dn : st.done ≡ 100) (off : control.is_due (control_of S) ≡ false) where
       off_early : control.is_due t.world.control ≡ false
       off_early = ap control.is_due (sym st.shows.control) ∙ off
 
@@ -190,19 +195,27 @@ module _ (g : Setting) (h : Ground) (image input : List ℕ) (hd : ℕ) (x : IsI
         behind_event : (y : Effect) (r : Made) (index lo hi : ℕ) → IsNear g.program.layout false r.write → effect g false st.thread st.memory ≡ y → y ≢ Stuck → is_resting y ≡ false → lands_at g.program r.thread.at ≡ true → IsGood g false r.thread → r.thread.rest ≡ None
             → r.world.inside ≡ t.world.inside → L < length r.world.trace → Locked g h o [] S T t.world EV r → lo ≤ st.lo + st.ahead + 1 → hi ≡ st.hi + st.ahead + 1
             → Comes g e input t0 least_prices dear_prices s index (record t { main = r.thread; memory = written r.write st.memory; world = r.world }) lo hi
-            → Stepped s runs (suc n) c false S (observed watch d) debt
+            → Stepped s runs (suc n) c false S (observed watch d) debt trail
         behind_event y r index lo hi close is ne re ok good' rest' in' long k cheap' dear' comes =
             let p' = somewhere r.thread ok in
             let there = seen r.thread p'.0 p'.1 p'.2 good' k.at.pc in
             let little = idle_little y re is in
+            let bytes' = subst (λ (m : List ℕ). (k : ℕ) → owner g.program.layout k ≢ Nobody → slice_index m k ≡ written r.write st.memory k) (sym k.ram) (put_written g h image input hd x r.write S.ram st.memory st.ranged.count st.bytes) in
+            let shown : d.trace ≡ map event_of r.world.trace = ap (λ z. z ++ EV) st.shows.trace ∙ sym k.trace in
+            let grown = same_length d.trace r.world.trace shown in
+            let grows = observed_long watch d in
+            let l = long_is in
             record {
               modelled = models y is ne;
               keeps = λ b q. ap (λ (z : Moment). slice_index z.state.ram b) there ∙ ap (λ (m : List ℕ). slice_index m b) k.ram ∙ put_apart r.write S.ram b (near_apart g.program.layout false r.write b close q);
+              spares = λ q. absurd (cc);
+              trail_then = from_here T;
+              onward = Anew refl (omega arith);
               ground = h;
               image_then = x;
               halt_then = halt_is;
               below_then = λ end b. b;
-              stands = subst (λ z. St s runs (suc n) z debt) (sym there) (record {
+              stands = subst (λ z. St s runs (suc n) z debt (from_here T)) (sym there) (record {
                 index = index;
                 ahead = 0;
                 early = record t { main = r.thread; memory = written r.write st.memory; world = r.world };
@@ -222,24 +235,25 @@ module _ (g : Setting) (h : Ground) (image input : List ℕ) (hd : ℕ) (x : IsI
                 main_good = good';
                 good = good';
                 rest = rest';
-                bytes = subst (λ (m : List ℕ). (k : ℕ) → owner g.program.layout k ≢ Nobody → slice_index m k ≡ written r.write st.memory k) (sym k.ram) (put_written g h image input hd x r.write S.ram st.memory st.ranged.count st.bytes);
+                bytes = bytes';
                 shows = record {
                   control = k.control;
                   taken = k.taken;
-                  trace = ap (λ z. z ++ EV) st.shows.trace ∙ sym k.trace;
+                  trace = shown;
                   handling = hands y is ne ∙ st.shows.handling ∙ sym in';
                 };
                 there = inl (ok, open');
                 met = st.met;
                 going = st.going;
                 ranged = executed_ranged input x.small S st.ranged image;
-                mode = InMain refl (record { inside = in' ∙ a.inside; at = k.at });
+                mode = InMain refl (record { inside = in' ∙ a.inside; at = k.at; held = record { at = k.at; ranged = executed_ranged input x.small S st.ranged image }; back = back_here T });
+                traced = traced_here g h image input hd x T c.ended r.thread (written r.write st.memory) good' (λ q. ok) (λ q. k.at) bytes';
               });
             }
 
         -- one event
         loud : (y : Effect) → is_event y ≡ true → makes g e input t0 y ≡ true → is_resting y ≡ false → y ≢ Stuck → ((r : Made) → made o st.memory t.world y ≡ Some r → r.thread.rest ≡ None) → IsSound g false st.thread y
-            → effect g false st.thread st.memory ≡ y → (q : Option Made) → made o st.memory t.world y ≡ q → LockedIf g h o [] S T t.world EV q → Stepped s runs (suc n) c false S (observed watch d) debt
+            → effect g false st.thread st.memory ≡ y → (q : Option Made) → made o st.memory t.world y ≡ q → LockedIf g h o [] S T t.world EV q → Stepped s runs (suc n) c false S (observed watch d) debt trail
         loud y ev mk re ne rest' so is None m k = absurd (main_goes (main_acts y mk is ∙ ap (λ z. moved t1 (checked g.program z)) m))
         loud y ev mk re ne rest' so is (Some r) m k =
             let ok = main_lands y mk is r m (lands_at g.program r.thread.at) refl in
@@ -311,7 +325,7 @@ module _ (g : Setting) (h : Ground) (image input : List ℕ) (hd : ℕ) (x : IsI
             made_thread : (q : Option Made) → made_write w1 z.to z.byte u' ≡ q → MadeIf (λ r. r.thread ≡ u') q
             made_thread q f = subst (MadeIf (λ r. r.thread ≡ u')) f (made_case (λ r. r.thread ≡ u') (is_forbidden w1 z.to z.byte) _ (λ _. refl))
 
-            both : (q : Option Made) → made_write w1 z.to z.byte u' ≡ q → length EV ≡ 2 → LockedIf g h o [] S T t.world EV q → (is_modelled (fetched image S) ≡ true → IsCleanThen s (suc n) (length (observed watch d).trace)) → Stepped s runs (suc n) c false S (observed watch d) debt
+            both : (q : Option Made) → made_write w1 z.to z.byte u' ≡ q → length EV ≡ 2 → LockedIf g h o [] S T t.world EV q → (is_modelled (fetched image S) ≡ true → IsCleanThen s (suc n) (length (observed watch d).trace)) → Stepped s runs (suc n) c false S (observed watch d) debt trail
             both None m two k' next =
                 let nx = next (models (Reads b k) is (λ q. absurd (cc))) in
                 let s' = nx.0 in let ext = nx.2 in
@@ -342,7 +356,7 @@ module _ (g : Setting) (h : Ground) (image input : List ℕ) (hd : ℕ) (x : IsI
                 )))
 
         -- no event
-        silent : (u : Thread) (wr : Option Write) → effect g false st.thread st.memory ≡ Quiet u wr → IsSound g false st.thread (Quiet u wr) → LockedIf g h o [] S T t.world EV (Some (record { thread = u; write = wr; world = t.world })) → Stepped s runs (suc n) c false S (observed watch d) debt
+        silent : (u : Thread) (wr : Option Write) → effect g false st.thread st.memory ≡ Quiet u wr → IsSound g false st.thread (Quiet u wr) → LockedIf g h o [] S T t.world EV (Some (record { thread = u; write = wr; world = t.world })) → Stepped s runs (suc n) c false S (observed watch d) debt trail
         silent u wr is so k =
             let r : Made = record { thread = u; write = wr; world = t.world } in
             let ok = main_lands (Quiet u wr) refl is r refl (lands_at g.program u.at) refl in
@@ -353,11 +367,14 @@ module _ (g : Setting) (h : Ground) (image input : List ℕ) (hd : ℕ) (x : IsI
             record {
               modelled = models (Quiet u wr) is none;
               keeps = λ b q. ap (λ (z : Moment). slice_index z.state.ram b) there ∙ ap (λ (m : List ℕ). slice_index m b) kk.ram ∙ put_apart wr S.ram b (near_apart g.program.layout false wr b (near o st.memory t.world g false st.thread (Quiet u wr) so) q);
+              spares = λ q. absurd (cc);
+              trail_then = further trail T;
+              onward = Further refl refl refl;
               ground = h;
               image_then = x;
               halt_then = halt_is;
               below_then = λ end b. b;
-              stands = subst (λ z. St s runs (suc n) z debt) (sym there) (record {
+              stands = subst (λ z. St s runs (suc n) z debt (further trail T)) (sym there) (record {
                 index = st.index;
                 ahead = suc st.ahead;
                 early = t;
@@ -388,12 +405,22 @@ module _ (g : Setting) (h : Ground) (image input : List ℕ) (hd : ℕ) (x : IsI
                 met = st.met;
                 going = st.going;
                 ranged = executed_ranged input x.small S st.ranged image;
-                mode = InMain refl (record { inside = a.inside; at = kk.at });
+                mode = InMain refl (record { inside = a.inside; at = kk.at; held = record { at = kk.at; ranged = executed_ranged input x.small S st.ranged image }; back = back_here T });
+                traced = record {
+                  thread = st.traced.thread;
+                  memory = st.traced.memory;
+                  good = st.traced.good;
+                  lands = st.traced.lands;
+                  at = st.traced.at;
+                  bytes = st.traced.bytes;
+                  acts = λ q. (st.thread, st.memory, wr, st.traced.acts q, is, refl, ok, st.rest, p, at);
+                  low = kk.low ∙ ap (λ v. v % 8) a.back.registers.pclath ∙ st.traced.low;
+                };
               });
             }
 
         -- main ends
-        ends_on : (u : Thread) → effect g false st.thread st.memory ≡ Ends u → IsSound g false st.thread (Ends u) → LockedBy g h o st.memory [] S T t.world EV (Ends u) → Stepped s runs (suc n) c false S (observed watch d) debt
+        ends_on : (u : Thread) → effect g false st.thread st.memory ≡ Ends u → IsSound g false st.thread (Ends u) → LockedBy g h o st.memory [] S T t.world EV (Ends u) → Stepped s runs (suc n) c false S (observed watch d) debt trail
         ends_on u is so k =
             let none : Ends u ≢ Stuck = λ q. absurd (cc) in
             let v = record st.thread { at = None } in
@@ -408,14 +435,24 @@ module _ (g : Setting) (h : Ground) (image input : List ℕ) (hd : ℕ) (x : IsI
             let h1 = rested h h.halt in
             let x1 = image_at g h h.halt image input hd x 0 (omega arith) (let z : h.halt ≡ h.halt + 0 = omega arith in z) in
             let ws : words g h1 st.thread.stack [] ≡ words g h st.thread.stack [] = words_at g h h.halt st.thread.stack [] in
+            let bytes' = subst (λ (q : State). (k : ℕ) → owner g.program.layout k ≢ Nobody → slice_index q.ram k ≡ st.memory k) (sym same) st.bytes in
+            let at' : IsAt g h1 v [] T = record {
+              pc = ap (λ (q : State). q.pc) same;
+              sees = subst (λ (q : State). Sees q st.thread.registers) (sym same) (record { w = a.at.sees.w; z = a.at.sees.z; dc = a.at.sees.dc; c = a.at.sees.c; fsr = a.at.sees.fsr; bank = a.at.sees.bank; page = a.at.sees.page; banks = a.at.sees.banks; pages = a.at.sees.pages });
+              stack = subst (λ z. IsOn T.stack 0 z) (sym ws) (subst (λ (q : State). IsOn q.stack 0 (words g h st.thread.stack [])) (sym same) a.at.stack);
+              depth = subst (λ z. T.pushes ≡ T.pops + length z) (sym ws) (subst (λ (q : State). q.pushes ≡ q.pops + length (words g h st.thread.stack [])) (sym same) a.at.depth);
+            } in
             record {
               modelled = models (Ends u) is none;
               keeps = λ b q. ap (λ (z : Moment). slice_index z.state.ram b) there ∙ ap (λ (z : State). slice_index z.ram b) same;
+              spares = λ q. absurd (cc);
+              trail_then = from_here T;
+              onward = Rested refl (ap (λ (z : Moment). z.ended) there);
               ground = h1;
               image_then = x1;
               halt_then = halt_is;
               below_then = λ end b. record { code = b.code; start = b.start };
-              stands = subst (λ z. Stands g h1 image hd x1.vector e input t0 least_prices dear_prices s start from to runs (suc n) z debt) (sym there) (record {
+              stands = subst (λ z. Stands g h1 image hd x1.vector e input t0 least_prices dear_prices s start from to runs (suc n) z debt (from_here T)) (sym there) (record {
                 index = suc (st.index + st.ahead);
                 ahead = 0;
                 early = t2;
@@ -441,7 +478,7 @@ module _ (g : Setting) (h : Ground) (image input : List ℕ) (hd : ℕ) (x : IsI
                 main_good = good';
                 good = good';
                 rest = st.rest;
-                bytes = subst (λ (q : State). (k : ℕ) → owner g.program.layout k ≢ Nobody → slice_index q.ram k ≡ st.memory k) (sym same) st.bytes;
+                bytes = bytes';
                 shows = record {
                   control = ap control_of same ∙ st.shows.control;
                   taken = ap (λ (q : State). q.taken) same ∙ st.shows.taken;
@@ -452,20 +489,13 @@ module _ (g : Setting) (h : Ground) (image input : List ℕ) (hd : ℕ) (x : IsI
                 met = st.met;
                 going = st.going;
                 ranged = executed_ranged input x.small S st.ranged image;
-                mode = InMain refl (record {
-                  inside = a.inside;
-                  at = record {
-                    pc = ap (λ (q : State). q.pc) same;
-                    sees = subst (λ (q : State). Sees q st.thread.registers) (sym same) (record { w = a.at.sees.w; z = a.at.sees.z; dc = a.at.sees.dc; c = a.at.sees.c; fsr = a.at.sees.fsr; bank = a.at.sees.bank; page = a.at.sees.page; banks = a.at.sees.banks; pages = a.at.sees.pages });
-                    stack = subst (λ z. IsOn T.stack 0 z) (sym ws) (subst (λ (q : State). IsOn q.stack 0 (words g h st.thread.stack [])) (sym same) a.at.stack);
-                    depth = subst (λ z. T.pushes ≡ T.pops + length z) (sym ws) (subst (λ (q : State). q.pushes ≡ q.pops + length (words g h st.thread.stack [])) (sym same) a.at.depth);
-                  };
-                });
+                mode = InMain refl (record { inside = a.inside; at = at'; held = record { at = at'; ranged = executed_ranged input x.small S st.ranged image }; back = back_here T });
+                traced = traced_here g h1 image input hd x1 T true v st.memory good' (λ q. absurd (cc)) (λ q. absurd (cc)) bytes';
               });
             }
 
         reads_on : (b : Loud) (k : ℕ → Thread) → effect g false st.thread st.memory ≡ Reads b k → IsSound g false st.thread (Reads b k) → (z : Option Rest) → (k (value_by o st.memory t.world b)).rest ≡ z
-            → LockedRead g h o st.memory [] S T t.world EV b (k (value_by o st.memory t.world b)) z → (is_modelled (fetched image S) ≡ true → IsCleanThen s (suc n) (length (observed watch d).trace)) → Stepped s runs (suc n) c false S (observed watch d) debt
+            → LockedRead g h o st.memory [] S T t.world EV b (k (value_by o st.memory t.world b)) z → (is_modelled (fetched image S) ≡ true → IsCleanThen s (suc n) (length (observed watch d).trace)) → Stepped s runs (suc n) c false S (observed watch d) debt trail
         reads_on b k is so None left lk next =
             loud (Reads b k) refl refl refl (λ q. absurd (cc)) (λ r m. ap (λ (v : Made). v.thread.rest) (sym (some_same m)) ∙ left) so is _ refl lk where
               some_same : {p q : Made} → Some p ≡ Some q → p ≡ q
@@ -475,7 +505,7 @@ module _ (g : Setting) (h : Ground) (image input : List ℕ) (hd : ℕ) (x : IsI
         writes_rest_none : (b : Loud) (v : ℕ) (u : Thread) → IsSound g false st.thread (Writes b v u) → (q : Option Made) → made_write t.world b v u ≡ q → MadeIf (λ r. r.thread.rest ≡ None) q
         writes_rest_none b v u so q f = subst (MadeIf (λ r. r.thread.rest ≡ None)) f (made_case (λ r. r.thread.rest ≡ None) (is_forbidden t.world b v) _ (λ _. so.2))
 
-        main_by : (y : Effect) → effect g false st.thread st.memory ≡ y → IsSound g false st.thread y → LockedBy g h o st.memory [] S T t.world EV y → (is_modelled (fetched image S) ≡ true → IsCleanThen s (suc n) (length (observed watch d).trace)) → Stepped s runs (suc n) c false S (observed watch d) debt
+        main_by : (y : Effect) → effect g false st.thread st.memory ≡ y → IsSound g false st.thread y → LockedBy g h o st.memory [] S T t.world EV y → (is_modelled (fetched image S) ≡ true → IsCleanThen s (suc n) (length (observed watch d).trace)) → Stepped s runs (suc n) c false S (observed watch d) debt trail
         main_by Stuck is so k next = absurd (main_goes (main_acts Stuck refl is))
         main_by Leaves is so k next = let f = so.0 in absurd (cc)
         main_by (Ends u) is so k next = ends_on u is so k
@@ -485,16 +515,16 @@ module _ (g : Setting) (h : Ground) (image input : List ℕ) (hd : ℕ) (x : IsI
             loud (Writes b v u) refl refl refl (λ q. absurd (cc)) (λ r m. writes_rest_none b v u so (Some r) m) so is (made_write t.world b v u) refl k
         main_by (Reads b f) is so k next = reads_on b f is so (f (value_by o st.memory t.world b)).rest refl k next
 
-        pub runs_on : (is_modelled (fetched image S) ≡ true → IsCleanThen s (suc n) (length (observed watch d).trace)) → Stepped s runs (suc n) c false S (observed watch d) debt
+        pub runs_on : (is_modelled (fetched image S) ≡ true → IsCleanThen s (suc n) (length (observed watch d).trace)) → Stepped s runs (suc n) c false S (observed watch d) debt trail
         runs_on next = main_by (effect g false st.thread st.memory) refl (sound g false x.outside st.thread st.memory st.good) lock.locked next
 
-      pub main_step : (st.thread.at ≡ None → c.ended ≡ true → page st.thread.registers ≡ h.halt / 2048 → Stepped s runs (suc n) c false S (observed watch d) debt)
-          → (is_modelled (fetched image S) ≡ true → IsCleanThen s (suc n) (length (observed watch d).trace)) → Stepped s runs (suc n) c false S (observed watch d) debt
+      pub main_step : (st.thread.at ≡ None → c.ended ≡ true → page st.thread.registers ≡ h.halt / 2048 → Stepped s runs (suc n) c false S (observed watch d) debt trail)
+          → (is_modelled (fetched image S) ≡ true → IsCleanThen s (suc n) (length (observed watch d).trace)) → Stepped s runs (suc n) c false S (observed watch d) debt trail
       main_step rests_on next = by st.there where
-        by_at : (z : Option Position) → st.thread.at ≡ z → lands_at g.program z ≡ true → c.ended ≡ false → Stepped s runs (suc n) c false S (observed watch d) debt
+        by_at : (z : Option Position) → st.thread.at ≡ z → lands_at g.program z ≡ true → c.ended ≡ false → Stepped s runs (suc n) c false S (observed watch d) debt trail
         by_at None is ok open' = absurd (cc)
         by_at (Some p) is ok open' = runs_on p is ok open' next
 
-        by : IsThere g h image hd x.vector st.thread c.ended → Stepped s runs (suc n) c false S (observed watch d) debt
+        by : IsThere g h image hd x.vector st.thread c.ended → Stepped s runs (suc n) c false S (observed watch d) debt trail
         by (inl q) = by_at st.thread.at refl q.0 q.1
         by (inr q) = rests_on q.0 q.1 q.2

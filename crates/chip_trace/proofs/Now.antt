@@ -27,7 +27,7 @@ use Rattle.chip_trace.proofs.Image.{IsImage, same_length}
 use Rattle.chip_trace.proofs.MainStep.{St, IsClean, not_stuck, main_touches}
 use Rattle.chip_trace.proofs.Relations.{Ground, IsBelow, spot, page_row}
 use Rattle.chip_trace.proofs.Runs.{due_steps, over, exactly, raised_none}
-use Rattle.chip_trace.proofs.Stands.{Mode, InMain, Saving, Selecting, InHandler, Leaving, IsMain, IsHandling, IsThere, saved, given, saving_ins, restoring_ins}
+use Rattle.chip_trace.proofs.Stands.{Trail, Mode, InMain, Saving, Selecting, InHandler, Leaving, IsMain, IsHandling, IsThere, saved, given, saving_ins, restoring_ins}
 
 -- ---- the words of saving and restoring
 at_place : (l : Program) (s : State) (a : ℕ) (p : Place) → ((next : Place → Act) → effect (operand a next) s ≡ effect (next p) s) → IsTouched l (not (nat_eq a 0)) p → (f : ℕ) → Some a ≡ Some f → Touches l f s
@@ -65,7 +65,7 @@ select_touches l s Low pg f q = set_touches l s 3 (nat_eq (pg % 2) 1) f q
 select_touches l s High pg f q = set_touches l s 4 (nat_eq (pg / 2 % 2) 1) f q
 
 module _ (g : Setting) (h : Ground) (image input : List ℕ) (hd : ℕ) (x : IsImage g h image input hd) (watch : Watch) (halt_is : watch.halt ≡ h.halt) (e : Entry) (t0 : Machine) (start from to : ℕ) where
-  module _ (s : Schedule) (runs n : ℕ) (c : Moment) (debt : ℕ) (st : St g h image input hd x watch halt_is e t0 start from to s runs n c debt) (clean : IsClean g h image input hd x watch halt_is e t0 start from to s n (length c.trace))
+  module _ (s : Schedule) (runs n : ℕ) (c : Moment) (debt : ℕ) (trail : Trail) (st : St g h image input hd x watch halt_is e t0 start from to s runs n c debt trail) (clean : IsClean g h image input hd x watch halt_is e t0 start from to s n (length c.trace))
       (only : (k : ℕ) → g.program.handler ≡ Some k → g.program.handler ≡ Some hd) where
     abbrev t : Machine
     t = st.early
@@ -84,7 +84,7 @@ module _ (g : Setting) (h : Ground) (image input : List ℕ) (hd : ℕ) (x : IsI
     differ false e f = cc
 
     -- an interrupt is taken: there is a handler
-    module _ (a : IsMain g h image hd x.vector t st.thread S) (due : control.is_due (control_of S) ≡ true) where
+    module _ (a : IsMain g h image hd x.vector t st.thread trail.context S) (due : control.is_due (control_of S) ≡ true) where
       goes_in : sym_step_at g e o t ≢ Stops
       goes_in =
           let p = (st.comes s 0 (exactly s (length t.world.trace))).1 in let q = st.cheap in let l = same_length c.trace t.world.trace st.shows.trace in
@@ -104,7 +104,7 @@ module _ (g : Setting) (h : Ground) (image input : List ℕ) (hd : ℕ) (x : IsI
     somewhere None is q = absurd (cc)
     somewhere (Some p) is q = (p, is, q)
 
-    resting : IsMain g h image hd x.vector t st.thread S → st.thread.at ≡ None → TouchesThere ll image S
+    resting : IsMain g h image hd x.vector t st.thread trail.context S → st.thread.at ≡ None → TouchesThere ll image S
     resting a nowhere f q = ⊎_elim
         (λ lt. select_touches ll S (x.bit x.turn) (h.halt / 2048) f (sym (ap file_in (ap (λ z. row_of (slice_index image z)) at_turn ∙ x.selects x.turn lt)) ∙ q))
         (λ ge.
@@ -117,24 +117,24 @@ module _ (g : Setting) (h : Ground) (image input : List ℕ) (hd : ℕ) (x : IsI
           none : None ≡ Some f → Touches ll f S
           none q = absurd (cc)
 
-    main_by : IsMain g h image hd x.vector t st.thread S → st.done ≡ 100 → control.is_due (control_of S) ≡ false → IsThere g h image hd x.vector st.thread c.ended → TouchesThere ll image S
+    main_by : IsMain g h image hd x.vector t st.thread trail.context S → st.done ≡ 100 → control.is_due (control_of S) ≡ false → IsThere g h image hd x.vector st.thread c.ended → TouchesThere ll image S
     main_by a dn off (inl y) =
         let p = somewhere st.thread.at refl y.0 in
-        main_touches g h image input hd x watch halt_is e t0 start from to s runs n c debt st clean a dn off p.0 p.1 p.2 y.1
+        main_touches g h image input hd x watch halt_is e t0 start from to s runs n c debt trail st clean a dn off p.0 p.1 p.2 y.1
     main_by a dn off (inr y) = resting a y.0
 
-    in_handler : (has : g.program.handler ≡ Some hd) (a : IsHandling g h image hd x.vector t st.thread S) → st.done ≡ 100 → TouchesThere ll image S
+    in_handler : (has : g.program.handler ≡ Some hd) (a : IsHandling g h image hd x.vector t st.thread trail.context S) → st.done ≡ 100 → TouchesThere ll image S
     in_handler has a dn = by t.isr.at refl a.lands where
       by : (z : Option Position) → t.isr.at ≡ z → lands_at g.program z ≡ true → TouchesThere ll image S
       by None is ok = absurd (cc)
-      by (Some p) is ok = handler_touches g h image input hd x watch halt_is e t0 start from to s runs n c debt st clean has a dn p is ok
+      by (Some p) is ok = handler_touches g h image input hd x watch halt_is e t0 start from to s runs n c debt trail st clean has a dn p is ok
 
     not_due : is_enabled t.world.control ≡ false → control.is_due (control_of S) ≡ false
     not_due q = ap control.is_due st.shows.control ∙ disabled_not_due t.world.control q
 
     pub touches_now : (b : Bool) → control.is_due (control_of S) ≡ b → TouchesThere ll image (if b then perform enter S else S)
     touches_now b due = by_mode st.mode b due where
-      by_mode : Mode g h image hd x.vector t st.thread S st.done → (b : Bool) → control.is_due (control_of S) ≡ b → TouchesThere ll image (if b then perform enter S else S)
+      by_mode : Mode g h image hd x.vector t st.thread trail.context S st.done → (b : Bool) → control.is_due (control_of S) ≡ b → TouchesThere ll image (if b then perform enter S else S)
       by_mode (InMain q a) true due = entered_touches a due
       by_mode (InMain q a) false due = main_by a q due st.there
       by_mode (Saving has k a le lt q en is) true due = absurd (differ (control.is_due (control_of S)) due (not_due en.gie))
@@ -168,13 +168,13 @@ module _ (g : Setting) (h : Ground) (image input : List ℕ) (hd : ℕ) (x : IsI
       place_by None s e ok = absurd (cc)
       place_by (Some p) s e ok = let k = below.code p ok in omega arith
 
-      main_below : IsMain g h image hd x.vector t st.thread S → IsThere g h image hd x.vector st.thread c.ended → S.pc < end
+      main_below : IsMain g h image hd x.vector t st.thread trail.context S → IsThere g h image hd x.vector st.thread c.ended → S.pc < end
       main_below a (inl y) = place_by st.thread.at S a.at.pc y.0
       main_below a (inr y) = let l = x.within in let b = below.start in let p = a.at.pc ∙ ap (spot g h) y.0 ∙ x.rests in let q = x.turn_small in omega arith
 
       pub below_now : (b : Bool) → control.is_due (control_of S) ≡ b → (if b then perform enter S else S).pc < end
       below_now b due = by_mode st.mode b due where
-        by_mode : Mode g h image hd x.vector t st.thread S st.done → (b : Bool) → control.is_due (control_of S) ≡ b → (if b then perform enter S else S).pc < end
+        by_mode : Mode g h image hd x.vector t st.thread trail.context S st.done → (b : Bool) → control.is_due (control_of S) ≡ b → (if b then perform enter S else S).pc < end
         by_mode (InMain q a) true due =
             let vec = x.vector (has_case a due g.program.handler refl) in let l = vec.within in let b = below.start in
             let four : (perform enter S).pc ≡ 4 = refl in omega arith

@@ -82,7 +82,7 @@ foreign_isr Nobody e = refl
 
 -- ---- acts of main
 module _ (g : Setting) (outside : (copy n : ℕ) (s : Sym) → slice_get (g.program.block (Copy copy)) n ≡ Some s → keeps_out s ≡ true) where
-  quiet_sound : (th u : Thread) (m : Memory) (x : Option Write) → IsGood g false th → effect g false th m ≡ Quiet u x → IsOwn g false x × IsGood g false u
+  pub quiet_sound : (th u : Thread) (m : Memory) (x : Option Write) → IsGood g false th → effect g false th m ≡ Quiet u x → IsOwn g false x × IsGood g false u
   quiet_sound th u m x d e = let r : IsSound g false th (Quiet u x) = subst (IsSound g false th) e (sound g false outside th m d) in (r.0, r.1)
 
   pub ahead_good : (j : ℕ) (th : Thread) (m : Memory) (u : Thread) (k : Memory) → IsGood g false th → Ahead g j th m u k → IsGood g false u

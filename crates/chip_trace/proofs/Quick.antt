@@ -151,6 +151,7 @@ module _ (g : Setting) (h : Ground) (c : chip.Setting) (hd : ℕ) (x : IsImage g
       image_then = X.image_then;
       halt_then = X.halt_then;
       below = X.below;
+      trail = X.trail;
       stands = record {
         index = X.stands.index;
         ahead = X.stands.ahead;
@@ -178,6 +179,7 @@ module _ (g : Setting) (h : Ground) (c : chip.Setting) (hd : ℕ) (x : IsImage g
         going = X.stands.going;
         ranged = X.stands.ranged;
         mode = X.stands.mode;
+        traced = X.stands.traced;
       };
     }
 
@@ -243,19 +245,19 @@ module _ (g : Setting) (h : Ground) (c : chip.Setting) (hd : ℕ) (x : IsImage g
         abbrev Y : at' from' t N debt'
         Y = after_t d N later (omega arith)
 
-        done_little : (h' : Ground) (x' : IsImage g h' c.image c.inputs hd) (u : Machine) (th : Thread) (s : State) (done : ℕ) → Mode g h' c.image hd x'.vector u th s done → done ≤ 109
-        done_little h' x' u th s done (InMain q a) = omega arith
-        done_little h' x' u th s done (Saving has k a lo hi q en is) = omega arith
-        done_little h' x' u th s done (Selecting has jj p a lj q en sel is) = let f = (x'.vector has).few in omega arith
-        done_little h' x' u th s done (InHandler has q a) = omega arith
-        done_little h' x' u th s done (Leaving has k a lk q lf is) = omega arith
+        done_little : (h' : Ground) (x' : IsImage g h' c.image c.inputs hd) (u : Machine) (th : Thread) (v s : State) (done : ℕ) → Mode g h' c.image hd x'.vector u th v s done → done ≤ 109
+        done_little h' x' u th v s done (InMain q a) = omega arith
+        done_little h' x' u th v s done (Saving has k a lo hi q en is) = omega arith
+        done_little h' x' u th v s done (Selecting has jj p a lj q en sel is) = let f = (x'.vector has).few in omega arith
+        done_little h' x' u th v s done (InHandler has q a) = omega arith
+        done_little h' x' u th v s done (Leaving has k a lk q lf is) = omega arith
 
-        done_main : (h' : Ground) (x' : IsImage g h' c.image c.inputs hd) (u : Machine) (th : Thread) (s : State) (done : ℕ) → u.world.inside ≡ false → Mode g h' c.image hd x'.vector u th s done → done ≡ 100
-        done_main h' x' u th s done out (InMain q a) = q
-        done_main h' x' u th s done out (Saving has k a lo hi q en is) = let f = sym out ∙ en.inside in absurd (cc)
-        done_main h' x' u th s done out (Selecting has jj p a lj q en sel is) = let f = sym out ∙ en.inside in absurd (cc)
-        done_main h' x' u th s done out (InHandler has q a) = q
-        done_main h' x' u th s done out (Leaving has k a lk q lf is) = let f = sym out ∙ lf.inside in absurd (cc)
+        done_main : (h' : Ground) (x' : IsImage g h' c.image c.inputs hd) (u : Machine) (th : Thread) (v s : State) (done : ℕ) → u.world.inside ≡ false → Mode g h' c.image hd x'.vector u th v s done → done ≡ 100
+        done_main h' x' u th v s done out (InMain q a) = q
+        done_main h' x' u th v s done out (Saving has k a lo hi q en is) = let f = sym out ∙ en.inside in absurd (cc)
+        done_main h' x' u th v s done out (Selecting has jj p a lj q en sel is) = let f = sym out ∙ en.inside in absurd (cc)
+        done_main h' x' u th v s done out (InHandler has q a) = q
+        done_main h' x' u th v s done out (Leaving has k a lk q lf is) = let f = sym out ∙ lf.inside in absurd (cc)
 
         y_long : length (tr N) ≡ length Y.stands.early.world.trace
         y_long = same_length (tr N) Y.stands.early.world.trace Y.stands.shows.trace
@@ -265,7 +267,7 @@ module _ (g : Setting) (h : Ground) (c : chip.Setting) (hd : ℕ) (x : IsImage g
 
         by_index : (Y.stands.ahead + Y.stands.idle ≤ debt') → IsMet g c ee rr mm N j
         by_index le' =
-            let dl = done_little Y.ground Y.image_then Y.stands.early Y.stands.thread (moment c N).state Y.stands.done Y.stands.mode in
+            let dl = done_little Y.ground Y.image_then Y.stands.early Y.stands.thread Y.trail.context (moment c N).state Y.stands.done Y.stands.mode in
             let ac = Y.stands.account in let yc = y_costs in
             met_at_index g h c hd x halt_is ranges_is start only main_is first started N running from' t debt' j Y (behind_it Y.stands.index (omega arith))
 
@@ -295,7 +297,7 @@ module _ (g : Setting) (h : Ground) (c : chip.Setting) (hd : ℕ) (x : IsImage g
 
           by_ahead : Y.stands.idle ≤ debt' → IsMet g c ee rr mm N j
           by_ahead le' =
-              let dm = done_main Y.ground Y.image_then Y.stands.early Y.stands.thread (moment c N).state Y.stands.done out Y.stands.mode in
+              let dm = done_main Y.ground Y.image_then Y.stands.early Y.stands.thread Y.trail.context (moment c N).state Y.stands.done out Y.stands.mode in
               let ac = Y.stands.account in let tc = there.2 in
               met_there (behind_it k0 (omega arith))
 

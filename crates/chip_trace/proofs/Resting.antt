@@ -25,12 +25,13 @@ use Rattle.chip_trace.proofs.Image.{IsImage, after, again}
 use Rattle.chip_trace.proofs.MainStep.{dear_prices, St, Stepped}
 use Rattle.pic_chip.proofs.Ranges.{executed_ranged}
 use Rattle.pic_chip.proofs.Stack.{IsOn}
-use Rattle.chip_trace.proofs.Relations.{Ground, Sees, words, spot, page_row}
+use Rattle.chip_trace.proofs.Relations.{Ground, IsAt, Sees, words, spot, page_row}
 use Rattle.chip_trace.proofs.Rested.{rested, words_at, image_at}
-use Rattle.chip_trace.proofs.Stands.{Stands, IsMain, InMain}
+use Rattle.chip_trace.proofs.Stands.{Stands, Trail, Rested, IsMain, InMain}
+use Rattle.chip_trace.proofs.Trails.{back_here, from_here, traced_here}
 
 module _ (g : Setting) (h : Ground) (image input : List ℕ) (hd : ℕ) (x : IsImage g h image input hd) (watch : Watch) (halt_is : watch.halt ≡ h.halt) (e : Entry) (t0 : Machine) (start from to : ℕ) where
-  module _ (s : Schedule) (runs n : ℕ) (c : Moment) (debt : ℕ) (st : St g h image input hd x watch halt_is e t0 start from to s runs n c debt) (a : IsMain g h image hd x.vector st.early st.thread c.state)
+  module _ (s : Schedule) (runs n : ℕ) (c : Moment) (debt : ℕ) (trail : Trail) (st : St g h image input hd x watch halt_is e t0 start from to s runs n c debt trail) (a : IsMain g h image hd x.vector st.early st.thread trail.context c.state)
       (dn : st.done ≡ 100) (off : control.is_due (control_of c.state) ≡ false) (nowhere : st.thread.at ≡ None) (ended : c.ended ≡ true) (pages : page st.thread.registers ≡ h.halt / 2048) where
     abbrev t : Machine
     t = st.early
@@ -48,7 +49,7 @@ module _ (g : Setting) (h : Ground) (image input : List ℕ) (hd : ℕ) (x : IsI
     T = perform (execute image input) S
 
     abbrev Result : Type 0
-    Result = Stepped g h image input hd x watch halt_is e t0 start from to s runs (suc n) c false S (observed watch d) debt
+    Result = Stepped g h image input hd x watch halt_is e t0 start from to s runs (suc n) c false S (observed watch d) debt trail
 
     off_early : control.is_due t.world.control ≡ false
     off_early = ap control.is_due (sym st.shows.control) ∙ off
@@ -68,14 +69,24 @@ module _ (g : Setting) (h : Ground) (image input : List ℕ) (hd : ℕ) (x : IsI
         let x1 = image_at g h (h.halt + j) image input hd x j le refl in
         let there : observed watch d ≡ d = again watch d st.met ended in
         let ws : words g h1 st.thread.stack [] ≡ words g h st.thread.stack [] = words_at g h (h.halt + j) st.thread.stack [] in
+        let bytes' = subst (λ (q : State). (k : ℕ) → owner g.program.layout k ≢ Nobody → slice_index q.ram k ≡ st.memory k) (sym is) st.bytes in
+        let at' : IsAt g h1 st.thread [] T = record {
+          pc = ap (λ (q : State). q.pc) is ∙ sym (ap (spot g h1) nowhere);
+          sees = subst (λ (q : State). Sees q st.thread.registers) (sym is) (record { w = a.at.sees.w; z = a.at.sees.z; dc = a.at.sees.dc; c = a.at.sees.c; fsr = a.at.sees.fsr; bank = a.at.sees.bank; page = seen; banks = a.at.sees.banks; pages = a.at.sees.pages });
+          stack = subst (λ z. IsOn T.stack 0 z) (sym ws) (subst (λ (q : State). IsOn q.stack 0 (words g h st.thread.stack [])) (sym is) a.at.stack);
+          depth = subst (λ z. T.pushes ≡ T.pops + length z) (sym ws) (subst (λ (q : State). q.pushes ≡ q.pops + length (words g h st.thread.stack [])) (sym is) a.at.depth);
+        } in
         record {
           modelled = ap is_modelled decoded ∙ ordinary.0;
           keeps = λ b q. ap (λ (z : Moment). slice_index z.state.ram b) there ∙ ap (λ (z : State). slice_index z.ram b) is;
+          spares = λ q. absurd (cc);
+          trail_then = from_here T;
+          onward = Rested refl (ap (λ (z : Moment). z.ended) there ∙ ended);
           ground = h1;
           image_then = x1;
           halt_then = halt_is;
           below_then = λ end b. record { code = b.code; start = b.start };
-          stands = subst (λ z. Stands g h1 image hd x1.vector e input t0 least_prices dear_prices s start from to runs (suc n) z debt) (sym there) (record {
+          stands = subst (λ z. Stands g h1 image hd x1.vector e input t0 least_prices dear_prices s start from to runs (suc n) z debt (from_here T)) (sym there) (record {
             index = st.index;
             ahead = st.ahead;
             early = t;
@@ -95,7 +106,7 @@ module _ (g : Setting) (h : Ground) (image input : List ℕ) (hd : ℕ) (x : IsI
             main_good = st.main_good;
             good = st.good;
             rest = st.rest;
-            bytes = subst (λ (q : State). (k : ℕ) → owner g.program.layout k ≢ Nobody → slice_index q.ram k ≡ st.memory k) (sym is) st.bytes;
+            bytes = bytes';
             shows = record {
               control = ap control_of is ∙ st.shows.control;
               taken = ap (λ (q : State). q.taken) is ∙ st.shows.taken;
@@ -106,15 +117,8 @@ module _ (g : Setting) (h : Ground) (image input : List ℕ) (hd : ℕ) (x : IsI
             met = st.met;
             going = st.going;
             ranged = executed_ranged input x.small S st.ranged image;
-            mode = InMain refl (record {
-              inside = a.inside;
-              at = record {
-                pc = ap (λ (q : State). q.pc) is ∙ sym (ap (spot g h1) nowhere);
-                sees = subst (λ (q : State). Sees q st.thread.registers) (sym is) (record { w = a.at.sees.w; z = a.at.sees.z; dc = a.at.sees.dc; c = a.at.sees.c; fsr = a.at.sees.fsr; bank = a.at.sees.bank; page = seen; banks = a.at.sees.banks; pages = a.at.sees.pages });
-                stack = subst (λ z. IsOn T.stack 0 z) (sym ws) (subst (λ (q : State). IsOn q.stack 0 (words g h st.thread.stack [])) (sym is) a.at.stack);
-                depth = subst (λ z. T.pushes ≡ T.pops + length z) (sym ws) (subst (λ (q : State). q.pushes ≡ q.pops + length (words g h st.thread.stack [])) (sym is) a.at.depth);
-              };
-            });
+            mode = InMain refl (record { inside = a.inside; at = at'; held = record { at = at'; ranged = executed_ranged input x.small S st.ranged image }; back = back_here T });
+            traced = traced_here g h1 image input hd x1 T c.ended st.thread st.memory st.good (λ q. let f = sym q ∙ ended in absurd (cc)) (λ q. let f = sym q ∙ ended in absurd (cc)) bytes';
           });
         }
 

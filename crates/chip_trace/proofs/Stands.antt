@@ -12,17 +12,20 @@ use Rattle.pic_world.specs.Bits.{bit, truth}
 use Rattle.pic_world.specs.Control as control
 use Rattle.pic_world.specs.Control.{is_enabled}
 use Rattle.pic_world.specs.World.{World, Schedule, event_of}
+use Rattle.pic_world.specs.declared.Event.{Event}
 use Rattle.sym_code.specs.Cost.{Prices}
 use Rattle.sym_code.specs.Effect.{Setting, Thread, Memory, Leaves, Rests, effect}
-use Rattle.sym_code.specs.Layout.{owner, Nobody, all_near}
+use Rattle.pic_world.specs.declared.Root.TheVariants.{Main}
+use Rattle.sym_code.specs.Layout.{owner, Of, Nobody, all_near}
 use Rattle.sym_code.specs.Machine.{Machine, Entry, lands_at, at_front}
 use Rattle.sym_code.specs.Programs.{Position, lands, front}
-use Rattle.sym_code.specs.Registers.{Registers, Fits, bank, page}
+use Rattle.sym_code.specs.Registers.{Registers, page}
 use Rattle.sym_code.specs.declared.code.BlockName.TheVariants.{Copy}
 use Rattle.sym_code.specs.declared.code.PageBit.{PageBit}
 use Rattle.sym_code.specs.declared.code.PageBit.TheVariants.{Low, High}
 use Rattle.pic_chip.proofs.Ranges.{IsRanged}
 use Rattle.pic_chip.proofs.Stack.{IsOn}
+use Rattle.chip_trace.specs.Context.{HasRegisters, IsBack}
 use Rattle.chip_trace.proofs.Relations.{Sees, Ground, words, spot, IsAt, page_row}
 use Rattle.chip_trace.proofs.Runs.{Comes, Ahead}
 use Rattle.chip_trace.proofs.Sound.{IsGood}
@@ -139,6 +142,21 @@ pub record Vector (g : Setting) (h : Ground) (image : List ℕ) (hd : ℕ) : Typ
   pub clear : (k : ℕ) → k < 8 + count → (4 + k) ≢ h.halt
   pub clear_back : (k : ℕ) → k < 9 → (h.restore + k) ≢ h.halt
 
+-- ---- what is kept of moments before
+pub record Trail : Type 0 where
+  -- the chip's state when main was last to go on: now, or when the interrupt was taken whose handler runs
+  pub context : State
+  -- the state from which main's instructions without an event are counted, and how many there were since
+  pub origin : State
+  pub acts : ℕ
+
+-- How one instruction goes on from a trail. handled: it is one of the handler's run; before: the trace so far; d: the moment behind it.
+pub data Onward (handled : Bool) (trail next : Trail) (before : List Event) (d : Moment) : Type 0 where
+  Stays : handled ≡ true → next ≡ trail → Onward handled trail next before d
+  Further : handled ≡ false → next.origin ≡ trail.origin → next.acts ≡ suc trail.acts → Onward handled trail next before d
+  Anew : handled ≡ false → length before < length d.trace → Onward handled trail next before d
+  Rested : handled ≡ false → d.ended ≡ true → Onward handled trail next before d
+
 module _ (g : Setting) (h : Ground) (image : List ℕ) (hd : ℕ) (v : g.program.handler ≡ Some hd → Vector g h image hd) where
   abbrev pub pg : ℕ
   pg = g.page_of (Copy hd)
@@ -147,42 +165,50 @@ module _ (g : Setting) (h : Ground) (image : List ℕ) (hd : ℕ) (v : g.program
   abbrev pub main_words : Thread → List ℕ
   main_words u = spot g h u.at % 8192 ∷ words g h u.stack []
 
-  -- main's context is in its four bytes
-  pub record IsSaved (r : Registers) (ram : List ℕ) : Type 0 where
-    pub fits : Fits r
-    pub w : slice_index ram 88 ≡ r.w
-    pub status : slice_index ram 89 ≡ swap (packed (4 * r.irp + bank r) r.z r.dc r.c)
-    pub fsr : slice_index ram 90 ≡ r.fsr
-    pub pclath : slice_index ram 91 < 32
-    pub page : slice_index ram 91 / 8 ≡ page r
+  -- main's context is in its four bytes: k is the chip's state when the interrupt was taken
+  pub record IsSaved (k : State) (ram : List ℕ) : Type 0 where
+    pub w : slice_index ram 88 ≡ k.w
+    pub status : slice_index ram 89 ≡ swap (status k)
+    pub fsr : slice_index ram 90 ≡ k.fsr
+    pub pclath : slice_index ram 91 ≡ k.pclath
 
-  -- t: the early run; u: main, some acts ahead; s: the chip
-  pub record IsMain (t : Machine) (u : Thread) (s : State) : Type 0 where
+  -- main stands there with the chip
+  pub record IsHeld (u : Thread) (k : State) : Type 0 where
+    pub at : IsAt g h u [] k
+    pub ranged : IsRanged k
+
+  -- t: the early run; u: main, some acts ahead; k: the chip when main was to go on; s: the chip
+  pub record IsMain (t : Machine) (u : Thread) (k s : State) : Type 0 where
     pub inside : t.world.inside ≡ false
     pub at : IsAt g h u [] s
+    pub held : IsHeld u k
+    pub back : IsBack k s
 
   -- s: the chip's state when the interrupt was taken
-  pub record IsEntered (t : Machine) (u : Thread) (s : State) : Type 0 where
+  pub record IsEntered (t : Machine) (u : Thread) (k s : State) : Type 0 where
     pub inside : t.world.inside ≡ true
     pub gie : is_enabled t.world.control ≡ false
     pub isr : t.isr ≡ at_front g.program hd (found s pg)
     pub lands : lands g.program (front g.program (Copy hd)) ≡ true
+    pub held : IsHeld u k
+    pub same : HasRegisters k s
     pub sees : Sees s u.registers
     pub stack : IsOn s.stack 0 (main_words u)
     pub depth : s.pushes ≡ s.pops + length (main_words u)
     pub ranged : IsRanged s
 
-  pub record IsHandling (t : Machine) (u : Thread) (s : State) : Type 0 where
+  pub record IsHandling (t : Machine) (u : Thread) (k s : State) : Type 0 where
     pub inside : t.world.inside ≡ true
     pub gie : is_enabled t.world.control ≡ false
     pub at : IsAt g h t.isr (main_words u) s
-    pub saved : IsSaved u.registers s.ram
+    pub held : IsHeld u k
+    pub saved : IsSaved k s.ram
     pub lands : lands_at g.program t.isr.at ≡ true
     pub rest : t.isr.rest ≡ None
     pub good : IsGood g true t.isr
 
   -- s: the chip's state when it went to restoring
-  pub record IsLeft (t : Machine) (u : Thread) (s : State) : Type 0 where
+  pub record IsLeft (t : Machine) (u : Thread) (k s : State) : Type 0 where
     pub inside : t.world.inside ≡ true
     pub gie : is_enabled t.world.control ≡ false
     pub leaves : effect g true t.isr t.memory ≡ Leaves
@@ -191,7 +217,8 @@ module _ (g : Setting) (h : Ground) (image : List ℕ) (hd : ℕ) (v : g.program
     pub at : t.isr.at ≡ Some place
     pub stack : IsOn s.stack 0 (main_words u)
     pub depth : s.pushes ≡ s.pops + length (main_words u)
-    pub saved : IsSaved u.registers s.ram
+    pub held : IsHeld u k
+    pub saved : IsSaved k s.ram
     pub ranged : IsRanged s
     pub low : all_near g.program.layout ≡ true → s.bank < 2
 
@@ -202,12 +229,12 @@ module _ (g : Setting) (h : Ground) (image : List ℕ) (hd : ℕ) (v : g.program
     pub high : (k : ℕ) → k < j → bit' k ≡ High → p / 16 % 2 ≡ pg / 2 % 2
 
   -- done: instructions of the handler's frame, counted from its entry; 100 stands for none owed
-  pub data Mode (t : Machine) (u : Thread) (s : State) (done : ℕ) : Type 0 where
-    InMain : done ≡ 100 → IsMain t u s → Mode t u s done
-    Saving : g.program.handler ≡ Some hd → (k : ℕ) (a : State) → 1 ≤ k → k < 7 → done ≡ k → IsEntered t u a → s ≡ like (saved k a) s → Mode t u s done
-    Selecting : (is : g.program.handler ≡ Some hd) (j p : ℕ) (a : State) → j ≤ (v is).count → done ≡ 7 + j → IsEntered t u a → IsSelected (v is).bit j p → s ≡ record (like (saved 7 a) s) { pc = 11 + j; pclath = p } → Mode t u s done
-    InHandler : g.program.handler ≡ Some hd → done ≡ 100 → IsHandling t u s → Mode t u s done
-    Leaving : g.program.handler ≡ Some hd → (k : ℕ) (a : State) → k ≤ 8 → done ≡ 101 + k → IsLeft t u a → s ≡ like (given h.restore k a) s → Mode t u s done
+  pub data Mode (t : Machine) (u : Thread) (k s : State) (done : ℕ) : Type 0 where
+    InMain : done ≡ 100 → IsMain t u k s → Mode t u k s done
+    Saving : g.program.handler ≡ Some hd → (j : ℕ) (a : State) → 1 ≤ j → j < 7 → done ≡ j → IsEntered t u k a → s ≡ like (saved j a) s → Mode t u k s done
+    Selecting : (is : g.program.handler ≡ Some hd) (j p : ℕ) (a : State) → j ≤ (v is).count → done ≡ 7 + j → IsEntered t u k a → IsSelected (v is).bit j p → s ≡ record (like (saved 7 a) s) { pc = 11 + j; pclath = p } → Mode t u k s done
+    InHandler : g.program.handler ≡ Some hd → done ≡ 100 → IsHandling t u k s → Mode t u k s done
+    Leaving : g.program.handler ≡ Some hd → (j : ℕ) (a : State) → j ≤ 8 → done ≡ 101 + j → IsLeft t u k a → s ≡ like (given h.restore j a) s → Mode t u k s done
 
   -- the chip's bytes are these, but for those that are nobody's
   abbrev pub SameBytes : List ℕ → Memory → Type 0
@@ -226,10 +253,23 @@ module _ (g : Setting) (h : Ground) (image : List ℕ) (hd : ℕ) (v : g.program
   abbrev pub IsSince : ℕ → ℕ → ℕ → Machine → Thread → Memory → Type 0
   IsSince debt ahead idle t u m = (ahead + idle ≤ debt) ⊎ ((t.world.inside ≡ false) × (control.is_due t.world.control ≡ false) × ((idle ≤ debt) ⊎ (effect g false u m ≡ Rests)))
 
+  -- Until main has ended: from the trail's origin on, with the bytes that aren't main's as they are now, main's instructions since,
+  -- none with an event, come to where main is.
+  pub record IsTraced (trail : Trail) (ended : Bool) (u : Thread) (m : Memory) : Type 0 where
+    pub thread : Thread
+    pub memory : Memory
+    pub good : IsGood g false thread
+    pub lands : ended ≡ false → lands_at g.program thread.at ≡ true
+    pub at : ended ≡ false → IsAt g h thread [] trail.origin
+    pub bytes : (b : ℕ) → owner g.program.layout b ≡ Of Main → slice_index trail.origin.ram b ≡ memory b
+    pub acts : ended ≡ false → Ahead g trail.acts thread memory u m
+    -- no instruction changes the low bits of PCLATH
+    pub low : trail.context.pclath % 8 ≡ trail.origin.pclath % 8
+
   -- The early run from t0 comes to `early`, under every schedule that goes on from s, and the chip stands there with main
   -- `ahead` acts further. n counts the chip's instructions, of which `start` were before main; `runs` is how often the handler
   -- was entered.
-  pub record Stands (e : Entry) (input : List ℕ) (t0 : Machine) (least most : Prices) (s : Schedule) (start from to runs n : ℕ) (c : Moment) (debt : ℕ) : Type 0 where
+  pub record Stands (e : Entry) (input : List ℕ) (t0 : Machine) (least most : Prices) (s : Schedule) (start from to runs n : ℕ) (c : Moment) (debt : ℕ) (trail : Trail) : Type 0 where
     pub index : ℕ
     pub ahead : ℕ
     pub early : Machine
@@ -255,4 +295,5 @@ module _ (g : Setting) (h : Ground) (image : List ℕ) (hd : ℕ) (v : g.program
     pub met : c.met ≡ true
     pub going : c.stopped ≡ false
     pub ranged : IsRanged c.state
-    pub mode : Mode early thread c.state done
+    pub mode : Mode early thread trail.context c.state done
+    pub traced : IsTraced trail c.ended thread memory

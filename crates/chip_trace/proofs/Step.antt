@@ -16,7 +16,8 @@ use Rattle.sym_code.specs.Machine.{Machine, Entry}
 use Rattle.chip_trace.proofs.Image.{IsImage, after}
 use Rattle.chip_trace.proofs.Relations.{Ground, IsAt}
 use Rattle.chip_trace.proofs.Runs.{comes_raised, raised, Extends}
-use Rattle.chip_trace.proofs.Stands.{Mode, InMain, Saving, Selecting, InHandler, Leaving, IsEntered, IsLeft, main_words, given, like, found, IsSince}
+use Rattle.chip_trace.specs.Context.{IsBack}
+use Rattle.chip_trace.proofs.Stands.{Trail, Mode, InMain, Saving, Selecting, InHandler, Leaving, IsEntered, IsLeft, main_words, given, like, found, IsSince}
 use Rattle.chip_trace.proofs.MainStep.{main_step, dear_prices, St, IsClean, IsCleanThen, Stepped}
 use Rattle.pic_chip.specs.Interrupts.{enter}
 use Rattle.pic_chip.specs.Interrupts as chip
@@ -39,23 +40,31 @@ module _ (g : Setting) (h : Ground) (image input : List ℕ) (hd : ℕ) (x : IsI
     depth = a.depth;
   }
 
-  entered_raised : (mask : ℕ) (t : Machine) (u : Thread) (a : State) → IsEntered g h image hd x.vector t u a → IsEntered g h image hd x.vector (raised mask t) u a
-  entered_raised mask t u a y = record { inside = y.inside; gie = raised_enabled mask t.world.control ∙ y.gie; isr = y.isr; lands = y.lands; sees = y.sees; stack = y.stack; depth = y.depth; ranged = y.ranged }
+  back_raised : (mask : ℕ) (k S : State) → IsBack k S → IsBack k (chip.raised mask S)
+  back_raised mask k S b = record {
+    registers = record { w = b.registers.w; bank = b.registers.bank; z = b.registers.z; dc = b.registers.dc; c = b.registers.c; fsr = b.registers.fsr; pclath = b.registers.pclath };
+    pc = b.pc;
+    depth = b.depth;
+    stack = b.stack;
+  }
 
-  left_raised : (mask : ℕ) (t : Machine) (u : Thread) (a : State) → IsLeft g h image hd x.vector t u a → IsLeft g h image hd x.vector (raised mask t) u a
-  left_raised mask t u a y = record { inside = y.inside; gie = raised_enabled mask t.world.control ∙ y.gie; leaves = y.leaves; rest = y.rest; place = y.place; at = y.at; stack = y.stack; depth = y.depth; saved = y.saved; ranged = y.ranged; low = y.low }
+  entered_raised : (mask : ℕ) (t : Machine) (u : Thread) (k a : State) → IsEntered g h image hd x.vector t u k a → IsEntered g h image hd x.vector (raised mask t) u k a
+  entered_raised mask t u k a y = record { inside = y.inside; gie = raised_enabled mask t.world.control ∙ y.gie; isr = y.isr; lands = y.lands; held = y.held; same = y.same; sees = y.sees; stack = y.stack; depth = y.depth; ranged = y.ranged }
 
-  mode_raised : (mask : ℕ) (t : Machine) (u : Thread) (S : State) (done : ℕ) → Mode g h image hd x.vector t u S done → Mode g h image hd x.vector (raised mask t) u (chip.raised mask S) done
-  mode_raised mask t u S done (InMain q a) = InMain q (record { inside = a.inside; at = at_raised mask u [] S a.at })
-  mode_raised mask t u S done (Saving has k a le lt q en is) = Saving has k a le lt q (entered_raised mask t u a en) (ap (chip.raised mask) is)
-  mode_raised mask t u S done (Selecting has j p a le q en sel is) = Selecting has j p a le q (entered_raised mask t u a en) sel (ap (chip.raised mask) is)
-  mode_raised mask t u S done (InHandler has q a) = InHandler has q (record { inside = a.inside; gie = raised_enabled mask t.world.control ∙ a.gie; at = at_raised mask t.isr (main_words g h image hd x.vector u) S a.at; saved = a.saved; lands = a.lands; rest = a.rest; good = a.good })
-  mode_raised mask t u S done (Leaving has k a le q lf is) = Leaving has k a le q (left_raised mask t u a lf) (ap (chip.raised mask) is)
+  left_raised : (mask : ℕ) (t : Machine) (u : Thread) (k a : State) → IsLeft g h image hd x.vector t u k a → IsLeft g h image hd x.vector (raised mask t) u k a
+  left_raised mask t u k a y = record { inside = y.inside; gie = raised_enabled mask t.world.control ∙ y.gie; leaves = y.leaves; rest = y.rest; place = y.place; at = y.at; stack = y.stack; depth = y.depth; held = y.held; saved = y.saved; ranged = y.ranged; low = y.low }
 
-  pub arrives : (s s1 : Schedule) (mask runs n : ℕ) (c : Moment) (debt debt' : ℕ) (st : St g h image input hd x watch halt_is e t0 start from to s runs n c debt) → Extends s (length st.early.world.trace) mask s1
+  mode_raised : (mask : ℕ) (t : Machine) (u : Thread) (k S : State) (done : ℕ) → Mode g h image hd x.vector t u k S done → Mode g h image hd x.vector (raised mask t) u k (chip.raised mask S) done
+  mode_raised mask t u k S done (InMain q a) = InMain q (record { inside = a.inside; at = at_raised mask u [] S a.at; held = a.held; back = back_raised mask k S a.back })
+  mode_raised mask t u k S done (Saving has j a le lt q en is) = Saving has j a le lt q (entered_raised mask t u k a en) (ap (chip.raised mask) is)
+  mode_raised mask t u k S done (Selecting has j p a le q en sel is) = Selecting has j p a le q (entered_raised mask t u k a en) sel (ap (chip.raised mask) is)
+  mode_raised mask t u k S done (InHandler has q a) = InHandler has q (record { inside = a.inside; gie = raised_enabled mask t.world.control ∙ a.gie; at = at_raised mask t.isr (main_words g h image hd x.vector u) S a.at; held = a.held; saved = a.saved; lands = a.lands; rest = a.rest; good = a.good })
+  mode_raised mask t u k S done (Leaving has j a le q lf is) = Leaving has j a le q (left_raised mask t u k a lf) (ap (chip.raised mask) is)
+
+  pub arrives : (s s1 : Schedule) (mask runs n : ℕ) (c : Moment) (debt debt' : ℕ) (trail : Trail) (st : St g h image input hd x watch halt_is e t0 start from to s runs n c debt trail) → Extends s (length st.early.world.trace) mask s1
       → ((l : ℕ) → length st.early.world.trace < l → s1 l ≡ 0) → IsSince g h image hd x.vector debt' st.ahead st.idle (raised mask st.early) st.thread st.memory
-      → St g h image input hd x watch halt_is e t0 start from to s1 runs n (record c { state = chip.raised mask c.state }) debt'
-  arrives s s1 mask runs n c debt debt' st more later since = record {
+      → St g h image input hd x watch halt_is e t0 start from to s1 runs n (record c { state = chip.raised mask c.state }) debt' trail
+  arrives s s1 mask runs n c debt debt' trail st more later since = record {
     index = st.index;
     ahead = st.ahead;
     early = raised mask st.early;
@@ -81,7 +90,8 @@ module _ (g : Setting) (h : Ground) (image input : List ℕ) (hd : ℕ) (x : IsI
     met = st.met;
     going = st.going;
     ranged = raised_ranged input x.small c.state st.ranged mask;
-    mode = mode_raised mask st.early st.thread c.state st.done st.mode;
+    mode = mode_raised mask st.early st.thread trail.context c.state st.done st.mode;
+    traced = st.traced;
   }
 
   -- ---- the step
@@ -91,19 +101,19 @@ module _ (g : Setting) (h : Ground) (image input : List ℕ) (hd : ℕ) (x : IsI
   abbrev pub next_by : Moment → Bool → Moment
   next_by c b = observed watch (after image input g.program.layout.objects c (taken_if b c.state) (c.handling || b))
 
-  module _ (s : Schedule) (runs n : ℕ) (c : Moment) (debt : ℕ) (st : St g h image input hd x watch halt_is e t0 start from to s runs n c debt) (clean : IsClean g h image input hd x watch halt_is e t0 start from to s n (length c.trace))
+  module _ (s : Schedule) (runs n : ℕ) (c : Moment) (debt : ℕ) (trail : Trail) (st : St g h image input hd x watch halt_is e t0 start from to s runs n c debt trail) (clean : IsClean g h image input hd x watch halt_is e t0 start from to s n (length c.trace))
       (only : (k : ℕ) → g.program.handler ≡ Some k → g.program.handler ≡ Some hd) where
     abbrev t : Machine
     t = st.early
 
     abbrev By : Bool → Type 0
-    By b = Stepped g h image input hd x watch halt_is e t0 start from to s (if b then suc runs else runs) (suc n) c (c.handling || b) (taken_if b c.state) (next_by c b) debt
+    By b = Stepped g h image input hd x watch halt_is e t0 start from to s (if b then suc runs else runs) (suc n) c (c.handling || b) (taken_if b c.state) (next_by c b) debt trail
 
-    conv : (R : ℕ) (H HH H' : Bool) (a : State) → H ≡ H' → HH ≡ H' → Stepped g h image input hd x watch halt_is e t0 start from to s R (suc n) c H a (observed watch (after image input g.program.layout.objects c a HH)) debt
-        → Stepped g h image input hd x watch halt_is e t0 start from to s R (suc n) c H' a (observed watch (after image input g.program.layout.objects c a H')) debt
+    conv : (R : ℕ) (H HH H' : Bool) (a : State) → H ≡ H' → HH ≡ H' → Stepped g h image input hd x watch halt_is e t0 start from to s R (suc n) c H a (observed watch (after image input g.program.layout.objects c a HH)) debt trail
+        → Stepped g h image input hd x watch halt_is e t0 start from to s R (suc n) c H' a (observed watch (after image input g.program.layout.objects c a H')) debt trail
     conv R H HH H' a p q z =
-        subst (λ b. Stepped g h image input hd x watch halt_is e t0 start from to s R (suc n) c b a (observed watch (after image input g.program.layout.objects c a H')) debt) p
-        (subst (λ b. Stepped g h image input hd x watch halt_is e t0 start from to s R (suc n) c H a (observed watch (after image input g.program.layout.objects c a b)) debt) q z)
+        subst (λ b. Stepped g h image input hd x watch halt_is e t0 start from to s R (suc n) c b a (observed watch (after image input g.program.layout.objects c a H')) debt trail) p
+        (subst (λ b. Stepped g h image input hd x watch halt_is e t0 start from to s R (suc n) c H a (observed watch (after image input g.program.layout.objects c a b)) debt trail) q z)
 
     or_false : (b : Bool) → (b || false) ≡ b
     or_false true = refl
@@ -116,7 +126,7 @@ module _ (g : Setting) (h : Ground) (image input : List ℕ) (hd : ℕ) (x : IsI
     plain_then z md = subst (λ b. IsCleanThen g h image input hd x watch halt_is e t0 start from to s (suc n) (length (observed watch (after image input g.program.layout.objects c c.state b)).trace)) (or_false c.handling) (z md)
 
     -- no interrupt is taken
-    untaken : (H : Bool) → H ≡ c.handling → Stepped g h image input hd x watch halt_is e t0 start from to s runs (suc n) c H c.state (observed watch (after image input g.program.layout.objects c c.state c.handling)) debt → By false
+    untaken : (H : Bool) → H ≡ c.handling → Stepped g h image input hd x watch halt_is e t0 start from to s runs (suc n) c H c.state (observed watch (after image input g.program.layout.objects c c.state c.handling)) debt trail → By false
     untaken H p z = conv runs H c.handling (c.handling || false) c.state (p ∙ sym (or_false c.handling)) (sym (or_false c.handling)) z
 
     main_is : t.world.inside ≡ false → false ≡ c.handling
@@ -134,23 +144,23 @@ module _ (g : Setting) (h : Ground) (image input : List ℕ) (hd : ℕ) (x : IsI
 
     pub step_by : (b : Bool) → control.is_due (control_of c.state) ≡ b → (b ≡ true → e runs ≡ found (perform enter c.state) (g.page_of (Copy hd))) → Then b → By b
     step_by b due oracle next = by_mode st.mode b due oracle next where
-      by_mode : Mode g h image hd x.vector t st.thread c.state st.done → (b : Bool) → control.is_due (control_of c.state) ≡ b → (b ≡ true → e runs ≡ found (perform enter c.state) (g.page_of (Copy hd))) → Then b → By b
+      by_mode : Mode g h image hd x.vector t st.thread trail.context c.state st.done → (b : Bool) → control.is_due (control_of c.state) ≡ b → (b ≡ true → e runs ≡ found (perform enter c.state) (g.page_of (Copy hd))) → Then b → By b
       by_mode (InMain q a) true due oracle next =
           conv (suc runs) true true (c.handling || true) (perform enter c.state) (ap (λ z. z || true) (main_is a.inside)) (ap (λ z. z || true) (main_is a.inside))
-          (interrupts g h image input hd x watch halt_is e t0 start from to s runs n c debt st clean only (oracle refl) a q due)
+          (interrupts g h image input hd x watch halt_is e t0 start from to s runs n c debt trail st clean only (oracle refl) a q due)
       by_mode (InMain q a) false due oracle next =
-          untaken false (main_is a.inside) (main_step g h image input hd x watch halt_is e t0 start from to s runs n c debt st clean a q due
-          (λ nowhere ended pages. rests_on g h image input hd x watch halt_is e t0 start from to s runs n c debt st a q due nowhere ended pages) (plain_then next))
+          untaken false (main_is a.inside) (main_step g h image input hd x watch halt_is e t0 start from to s runs n c debt trail st clean a q due
+          (λ nowhere ended pages. rests_on g h image input hd x watch halt_is e t0 start from to s runs n c debt trail st a q due nowhere ended pages) (plain_then next))
       by_mode (Saving has k a le lt q en is) true due oracle next = absurd (differ (control.is_due (control_of c.state)) due (not_due en.gie))
-      by_mode (Saving has k a le lt q en is) false due oracle next = untaken true (isr_is en.inside) (saves g h image input hd x watch halt_is e t0 start from to s runs n c debt st has k a le lt q en is)
+      by_mode (Saving has k a le lt q en is) false due oracle next = untaken true (isr_is en.inside) (saves g h image input hd x watch halt_is e t0 start from to s runs n c debt trail st has k a le lt q en is)
       by_mode (Selecting has j p a le q en sel is) true due oracle next = absurd (differ (control.is_due (control_of c.state)) due (not_due en.gie))
-      by_mode (Selecting has j p a le q en sel is) false due oracle next = untaken true (isr_is en.inside) (selecting g h image input hd x watch halt_is e t0 start from to s runs n c debt st has j p a le q en sel is)
+      by_mode (Selecting has j p a le q en sel is) false due oracle next = untaken true (isr_is en.inside) (selecting g h image input hd x watch halt_is e t0 start from to s runs n c debt trail st has j p a le q en sel is)
       by_mode (InHandler has q a) true due oracle next = absurd (differ (control.is_due (control_of c.state)) due (not_due a.gie))
-      by_mode (InHandler has q a) false due oracle next = untaken true (isr_is a.inside) (handler_step g h image input hd x watch halt_is e t0 start from to s runs n c debt st clean has a q (plain_then next))
+      by_mode (InHandler has q a) false due oracle next = untaken true (isr_is a.inside) (handler_step g h image input hd x watch halt_is e t0 start from to s runs n c debt trail st clean has a q (plain_then next))
       by_mode (Leaving has k a le q lf is) true due oracle next = absurd (differ (control.is_due (control_of c.state)) due (not_due lf.gie))
       by_mode (Leaving has k a le q lf is) false due oracle next = untaken true (isr_is lf.inside) (by_last (nat_eq k 8) refl) where
-        by_last : (v : Bool) → nat_eq k 8 ≡ v → Stepped g h image input hd x watch halt_is e t0 start from to s runs (suc n) c true c.state (observed watch (after image input g.program.layout.objects c c.state c.handling)) debt
+        by_last : (v : Bool) → nat_eq k 8 ≡ v → Stepped g h image input hd x watch halt_is e t0 start from to s runs (suc n) c true c.state (observed watch (after image input g.program.layout.objects c c.state c.handling)) debt trail
         by_last true f =
             let k8 : k ≡ 8 = eqb-true k 8 f in
-            returns g h image input hd x watch halt_is e t0 start from to s runs n c debt st has a (omega arith) lf (is ∙ ap (λ z. like (given h.restore z a) c.state) k8)
-        by_last false f = let ne = eqb-false k 8 f in gives g h image input hd x watch halt_is e t0 start from to s runs n c debt st has k a (omega (arith, ne)) q lf is
+            returns g h image input hd x watch halt_is e t0 start from to s runs n c debt trail st has a (omega arith) lf (is ∙ ap (λ z. like (given h.restore z a) c.state) k8)
+        by_last false f = let ne = eqb-false k 8 f in gives g h image input hd x watch halt_is e t0 start from to s runs n c debt trail st has k a (omega (arith, ne)) q lf is

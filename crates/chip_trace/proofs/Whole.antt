@@ -32,13 +32,15 @@ use Rattle.chip_trace.proofs.Image.{IsImage, after, same_length}
 use Rattle.chip_trace.proofs.MainStep.{St, IsClean, Stepped}
 use Rattle.chip_trace.proofs.Moments.{moment_ranged, early_moments, met_at, raised_at, next_is}
 use Rattle.pic_chip.proofs.Ranges.{IsRanged}
-use Rattle.chip_trace.proofs.Relations.{Ground, IsBelow, Sees}
+use Rattle.chip_trace.proofs.Relations.{Ground, IsAt, IsBelow, Sees}
 use Rattle.chip_trace.proofs.Runs.{over, raised, Extends, settled_is, off_steps, act_main}
 use Rattle.chip_trace.proofs.Schedules.{before, off_before, goes_on as schedule_goes_on, none_later, first_later, first_here}
 use Rattle.chip_trace.proofs.Sound.{IsGood, is_copy, stand_block}
-use Rattle.chip_trace.proofs.Stands.{InMain, IsSince, found}
+use Rattle.chip_trace.proofs.Stands.{Trail, Onward, InMain, IsSince, found}
+use Rattle.chip_trace.proofs.Trails.{from_here, back_here, traced_here}
 use Rattle.chip_trace.proofs.Taken.{none_taken}
 use Rattle.chip_trace.proofs.Now.{touches_now, below_now}
+use Rattle.chip_trace.specs.Context.{is_handlers}
 use Rattle.chip_trace.specs.Keeping.{TouchesThere}
 use Rattle.chip_trace.proofs.Step.{arrives, step_by, next_by}
 
@@ -262,7 +264,7 @@ module _ (g : Setting) (h : Ground) (c : chip.Setting) (hd : ℕ) (x : IsImage g
         first_lands : lands g.program p0 ≡ true
         first_lands = lands_by (lands g.program p0) refl
 
-        begins_there : St g h c.image c.inputs hd x c.watch halt_is e t0 at 100 at (P at) (length (entered at)) at (moment c at) 0
+        begins_there : St g h c.image c.inputs hd x c.watch halt_is e t0 at 100 at (P at) (length (entered at)) at (moment c at) 0 (from_here state_at)
         unfolding sym_run cost_by
         begins_there =
             let p = P at 0 in
@@ -274,6 +276,7 @@ module _ (g : Setting) (h : Ground) (c : chip.Setting) (hd : ℕ) (x : IsImage g
             let zero' : p ≡ arrived_before c.arrivals at = first_here traces c.arrivals at none in
             let flip : (q : ℕ) (k : Control) → raised_by (bit_or p q) k ≡ raised_by q (raised_by p k) = λ q k. sym (raised_swap q p k ∙ raised_both p q k) in
             let good : IsGood g false t0.main = record { deep = omega arith; at = ap is_copy (stand_block g.program (position (Copy 0) 0)); stack = refl; left = tt; low = λ n. let b = started.low n in (omega (arith, b), omega (arith, b)) } in
+            let at' : IsAt g h t0.main [] state_at = record { pc = m.0 ∙ sym main_is; sees = registers_seen state_at ranged; stack = tt; depth = omega arith } in
             record {
               index = 0;
               ahead = 0;
@@ -309,15 +312,8 @@ module _ (g : Setting) (h : Ground) (c : chip.Setting) (hd : ℕ) (x : IsImage g
               met = started.met;
               going = m.1;
               ranged = ranged;
-              mode = InMain refl (record {
-                inside = refl;
-                at = record {
-                  pc = m.0 ∙ sym main_is;
-                  sees = registers_seen state_at ranged;
-                  stack = tt;
-                  depth = omega arith;
-                };
-              });
+              mode = InMain refl (record { inside = refl; at = at'; held = record { at = at'; ranged = ranged }; back = back_here state_at });
+              traced = traced_here g h c.image c.inputs hd x state_at (moment c at).ended t0.main memory_at good (λ q. first_lands) (λ q. at') (λ k own. refl);
             }
 
       -- ---- one moment further
@@ -327,7 +323,8 @@ module _ (g : Setting) (h : Ground) (c : chip.Setting) (hd : ℕ) (x : IsImage g
         pub image_then : IsImage g ground c.image c.inputs hd
         pub halt_then : c.watch.halt ≡ ground.halt
         pub below : (end : ℕ) → IsBelow g h end → IsBelow g ground end
-        pub stands : St g ground c.image c.inputs hd image_then c.watch halt_then e t0 at from to (P n) (length (entered n)) n (moment c n) debt
+        pub trail : Trail
+        pub stands : St g ground c.image c.inputs hd image_then c.watch halt_then e t0 at from to (P n) (length (entered n)) n (moment c n) debt trail
 
       abbrev pub due_at : ℕ → Bool
       due_at n = control.is_due (control_of (chip_interrupts.raised (arriving c.arrivals n) (moment c n).state))
@@ -337,10 +334,10 @@ module _ (g : Setting) (h : Ground) (c : chip.Setting) (hd : ℕ) (x : IsImage g
         L_is : length (traces n) ≡ length kn.stands.early.world.trace
         L_is = same_length (traces n) kn.stands.early.world.trace kn.stands.shows.trace
 
-        ready : St g kn.ground c.image c.inputs hd kn.image_then c.watch kn.halt_then e t0 at from to (P (suc n)) (length (entered n)) n (raised_at c n) debt'
+        ready : St g kn.ground c.image c.inputs hd kn.image_then c.watch kn.halt_then e t0 at from to (P (suc n)) (length (entered n)) n (raised_at c n) debt' kn.trail
         ready =
             let l = L_is in
-            arrives g kn.ground c.image c.inputs hd kn.image_then c.watch kn.halt_then e t0 at from to (P n) (P (suc n)) (arriving c.arrivals n) (length (entered n)) n (moment c n) debt debt' kn.stands
+            arrives g kn.ground c.image c.inputs hd kn.image_then c.watch kn.halt_then e t0 at from to (P n) (P (suc n)) (arriving c.arrivals n) (length (entered n)) n (moment c n) debt debt' kn.trail kn.stands
             (subst (λ z. Extends (P n) z (arriving c.arrivals n) (P (suc n))) L_is (schedule_goes_on traces c.arrivals n))
             (λ j lj. none_later traces c.arrivals n (λ i li. kn.stands.later i (omega arith)) j (omega arith)) since
 
@@ -354,9 +351,9 @@ module _ (g : Setting) (h : Ground) (c : chip.Setting) (hd : ℕ) (x : IsImage g
             ∙ ap (λ z. observed c.watch (after c.image c.inputs z (raised_at c n) (if due_at n then perform enter (raised_at c n).state else (raised_at c n).state) ((moment c n).handling || due_at n))) ranges_is
 
         pub stepped_at : Stepped g kn.ground c.image c.inputs hd kn.image_then c.watch kn.halt_then e t0 at from to (P (suc n)) (if due_at n then suc (length (entered n)) else length (entered n)) (suc n) (raised_at c n) ((moment c n).handling || due_at n) (if due_at n then perform enter (raised_at c n).state else (raised_at c n).state)
-            (next_by g kn.ground c.image c.inputs hd kn.image_then c.watch kn.halt_then e t0 at from to (raised_at c n) (due_at n)) debt'
+            (next_by g kn.ground c.image c.inputs hd kn.image_then c.watch kn.halt_then e t0 at from to (raised_at c n) (due_at n)) debt' kn.trail
         stepped_at =
-            step_by g kn.ground c.image c.inputs hd kn.image_then c.watch kn.halt_then e t0 at from to (P (suc n)) (length (entered n)) n (raised_at c n) debt' ready (clean_at n (omega arith) from to) only (due_at n) refl (λ q. oracle n le lt q)
+            step_by g kn.ground c.image c.inputs hd kn.image_then c.watch kn.halt_then e t0 at from to (P (suc n)) (length (entered n)) n (raised_at c n) debt' kn.trail ready (clean_at n (omega arith) from to) only (due_at n) refl (λ q. oracle n le lt q)
             (λ md. (
               P (suc (suc n)),
               arriving c.arrivals (suc n),
@@ -367,45 +364,58 @@ module _ (g : Setting) (h : Ground) (c : chip.Setting) (hd : ℕ) (x : IsImage g
         pub next_moment_is : moment c (suc n) ≡ next_by g kn.ground c.image c.inputs hd kn.image_then c.watch kn.halt_then e t0 at from to (raised_at c n) (due_at n)
         next_moment_is = moment_is stepped_at.modelled
 
-        pub one_on : Known from to (suc n) debt'
-        one_on =
-            let y = stepped_at in
-            record {
-              ground = y.ground;
-              image_then = y.image_then;
-              halt_then = y.halt_then;
-              below = λ end b. y.below_then end (kn.below end b);
-              stands =
-                  subst (λ (z : Moment). St g y.ground c.image c.inputs hd y.image_then c.watch y.halt_then e t0 at from to (P (suc n)) (length (entered (suc n))) (suc n) z debt') (sym next_moment_is)
-                  (subst (λ k. St g y.ground c.image c.inputs hd y.image_then c.watch y.halt_then e t0 at from to (P (suc n)) k (suc n) (next_by g kn.ground c.image c.inputs hd kn.image_then c.watch kn.halt_then e t0 at from to (raised_at c n) (due_at n)) debt') (sym (runs_is (due_at n) refl)) y.stands);
-            }
+        pub onward_on : (y : Known from to (suc n) debt') × Onward (is_handling (arriving c.arrivals n) (moment c n)) kn.trail y.trail (traces n) (moment c (suc n))
+        onward_on =
+            let y = stepped_at in (
+              record {
+                ground = y.ground;
+                image_then = y.image_then;
+                halt_then = y.halt_then;
+                below = λ end b. y.below_then end (kn.below end b);
+                trail = y.trail_then;
+                stands =
+                    subst (λ (z : Moment). St g y.ground c.image c.inputs hd y.image_then c.watch y.halt_then e t0 at from to (P (suc n)) (length (entered (suc n))) (suc n) z debt' y.trail_then) (sym next_moment_is)
+                    (subst (λ k. St g y.ground c.image c.inputs hd y.image_then c.watch y.halt_then e t0 at from to (P (suc n)) k (suc n) (next_by g kn.ground c.image c.inputs hd kn.image_then c.watch kn.halt_then e t0 at from to (raised_at c n) (due_at n)) debt' y.trail_then) (sym (runs_is (due_at n) refl)) y.stands);
+              },
+              subst (Onward (is_handling (arriving c.arrivals n) (moment c n)) kn.trail y.trail_then (traces n)) (sym next_moment_is) y.onward,
+            )
+
+        abbrev pub one_on : Known from to (suc n) debt'
+        one_on = onward_on.0
 
         -- what is kept stays
         pub kept_on : (b : ℕ) → is_kept (is_handling (arriving c.arrivals n) (moment c n)) (owner g.program.layout b) ≡ true → slice_index (moment c (suc n)).state.ram b ≡ slice_index (moment c n).state.ram b
         kept_on b q = ap (λ (z : Moment). slice_index z.state.ram b) next_moment_is ∙ stepped_at.keeps b q
+
+        -- and so is what the handler spares
+        pub spared_on : is_handling (arriving c.arrivals n) (moment c n) ≡ true → (b : ℕ) → is_handlers b (owner g.program.layout b) ≡ false → slice_index (moment c (suc n)).state.ram b ≡ slice_index (moment c n).state.ram b
+        spared_on hand b q = ap (λ (z : Moment). slice_index z.state.ram b) next_moment_is ∙ stepped_at.spares hand b q
+
+        pub trail_on : Onward (is_handling (arriving c.arrivals n) (moment c n)) kn.trail one_on.trail (traces n) (moment c (suc n))
+        trail_on = onward_on.1
 
       -- ---- what the instruction touches that begins at a moment
       module _ (n from to debt : ℕ) (le : at ≤ n) (lt : n ≤ N) (kn : Known from to n debt) where
         L_same : length (traces n) ≡ length kn.stands.early.world.trace
         L_same = same_length (traces n) kn.stands.early.world.trace kn.stands.shows.trace
 
-        ready_now : St g kn.ground c.image c.inputs hd kn.image_then c.watch kn.halt_then e t0 at from to (P (suc n)) (length (entered n)) n (raised_at c n) (kn.stands.ahead + kn.stands.idle)
+        ready_now : St g kn.ground c.image c.inputs hd kn.image_then c.watch kn.halt_then e t0 at from to (P (suc n)) (length (entered n)) n (raised_at c n) (kn.stands.ahead + kn.stands.idle) kn.trail
         ready_now =
-            arrives g kn.ground c.image c.inputs hd kn.image_then c.watch kn.halt_then e t0 at from to (P n) (P (suc n)) (arriving c.arrivals n) (length (entered n)) n (moment c n) debt (kn.stands.ahead + kn.stands.idle) kn.stands
+            arrives g kn.ground c.image c.inputs hd kn.image_then c.watch kn.halt_then e t0 at from to (P n) (P (suc n)) (arriving c.arrivals n) (length (entered n)) n (moment c n) debt (kn.stands.ahead + kn.stands.idle) kn.trail kn.stands
             (subst (λ z. Extends (P n) z (arriving c.arrivals n) (P (suc n))) L_same (schedule_goes_on traces c.arrivals n))
             (λ j lj. let l = L_same in none_later traces c.arrivals n (λ i li. kn.stands.later i (omega arith)) j (omega arith)) (inl (omega arith))
 
         pub touches_on : TouchesThere g.program c.image (chip_interrupts.begun (arriving c.arrivals n) (moment c n).state)
-        touches_on = touches_now g kn.ground c.image c.inputs hd kn.image_then c.watch kn.halt_then e t0 at from to (P (suc n)) (length (entered n)) n (raised_at c n) (kn.stands.ahead + kn.stands.idle) ready_now (clean_at n lt from to) only (due_at n) refl
+        touches_on = touches_now g kn.ground c.image c.inputs hd kn.image_then c.watch kn.halt_then e t0 at from to (P (suc n)) (length (entered n)) n (raised_at c n) (kn.stands.ahead + kn.stands.idle) kn.trail ready_now (clean_at n lt from to) only (due_at n) refl
 
         pub below_on : (end : ℕ) → IsBelow g h end → (chip_interrupts.begun (arriving c.arrivals n) (moment c n).state).pc < end
-        below_on end b = below_now g kn.ground c.image c.inputs hd kn.image_then c.watch kn.halt_then e t0 at from to (P (suc n)) (length (entered n)) n (raised_at c n) (kn.stands.ahead + kn.stands.idle) ready_now (clean_at n lt from to) only end (kn.below end b) (due_at n) refl
+        below_on end b = below_now g kn.ground c.image c.inputs hd kn.image_then c.watch kn.halt_then e t0 at from to (P (suc n)) (length (entered n)) n (raised_at c n) (kn.stands.ahead + kn.stands.idle) kn.trail ready_now (clean_at n lt from to) only end (kn.below end b) (due_at n) refl
 
       -- ---- every moment from main's first one on
       pub known : (d n : ℕ) → n ≡ d + at → n ≤ N → (debt : ℕ) × Known 100 at n debt
       known zero n is le =
           let q : at ≡ n = omega arith in
-          (0, subst (λ z. Known 100 at z 0) q (record { ground = h; image_then = x; halt_then = halt_is; below = λ end b. b; stands = begins_there (omega arith) }))
+          (0, subst (λ z. Known 100 at z 0) q (record { ground = h; image_then = x; halt_then = halt_is; below = λ end b. b; trail = from_here state_at; stands = begins_there (omega arith) }))
       known (suc d) zero is le = absurd (omega arith)
       known (suc d) (suc n) is le =
           let k = known d n (omega arith) (omega arith) in

@@ -1,3 +1,4 @@
 pub mod Arriving
 pub mod Starting
 pub mod Keeping
+pub mod Context

@@ -1,19 +1,24 @@
 //! What an image keeps on the chip while interrupts arrive between any two instructions: it does what its symbolic code does when the
 //! handler is entered whole, directly behind the event behind which the interrupt came.
 //!
-//! In: nothing; the crate has definitions, and the theorems of arrivals and of the start block about them. Out: nothing.
+//! In: nothing; the crate has definitions, and the theorems of arrivals, of the handler's runs and of the start block about them.
+//! Out: nothing.
 //! The promise: for every start, input list and arrival list, and up to every moment, the chip's trace is one of the early run of its
 //! symbolic code, its static bytes are those of that run, it takes no more instructions than that run and a few, its return stack is
-//! never too deep, and main and the handler leave each other's frames alone. Each instruction that begins stands below the end of the
-//! code, and touches a core register, a device register that the code names, a byte of an object or a frame, or by its own operand one of
-//! 70h to 7Fh; where objects and frames end below 100h, RP1 and IRP are 0 before it. And the run from reset comes to main within 4,096
-//! instructions; until then no device register is accessed and no interrupt is taken, and each static object then holds its first bytes.
+//! never too deep, and main and the handler leave each other's frames alone. Behind each run of the handler main's context is back, such
+//! a run changes few bytes, and main's instructions without an event may be put behind it. Each instruction that begins stands below the
+//! end of the code, and touches a core register, a device register that the code names, a byte of an object or a frame, or by its own
+//! operand one of 70h to 7Fh; where objects and frames end below 100h, RP1 and IRP are 0 before it. And the run from reset comes to main
+//! within 4,096 instructions; until then no device register is accessed and no interrupt is taken, and each static object then holds its
+//! first bytes.
 #![tactic(auto)]
 
+mod handler;
 mod start;
 
 ghost use Rattle.chip_trace.specs.Arriving.{Arriving};
 
+pub use handler::{context_returns, handler_keeps, main_goes_past};
 pub use start::main_is_met;
 
 /// An image whose start block has done its part follows the early run of its symbolic code, whenever interrupts arrive. What each of its
