@@ -37,7 +37,7 @@ module _ (blocks : List SymBlock) (at : List ℕ) (placed : Placed) (handler : O
 
   -- a setting is made of what is known of it
   setting_is : (s : Setting) → IsAssembled blocks at placed handler c.image c.watch s → limit ≡ s.limit → g ≡ s
-  setting_is s a l = λ i. record { program = sym a.code i; banked = sym a.banked i; page_of = sym a.pages i; limit = l i }
+  setting_is s a l = λ i. record { program = sym a.code i; banked = sym a.banked i; page_of = sym a.pages i; limit = l i; leaves = sym a.leaves i }
 
   module _ (a : IsAssembled blocks at placed handler c.image c.watch g) (started : IsStarted g first c) where
     abbrev k : ℕ
