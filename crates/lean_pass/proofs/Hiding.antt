@@ -1,7 +1,8 @@
 -- No byte is hidden of objects and of frames that are lent, one after the other.
-use Rattle.std.proofs.Common.{◌≡◌, ℕ, zero, suc, ◌+◌, ◌<◌, ◌≤◌, Bool, true, false, List, [], ◌∷◌, length, map, drop, refl, sym, subst, true≢false, arith}
+use Rattle.std.proofs.Common.{◌≡◌, ℕ, zero, suc, ◌+◌, ◌-◌, ◌<◌, ◌≤◌, Bool, true, false, List, [], ◌∷◌, length, map, take, drop, refl, sym, subst, true≢false, arith}
 use Rattle.std.specs.Prelude.{nat_eq, get_or}
 use Rattle.std.proofs.lemmas.Bool.{eqb-true}
+use Rattle.std.proofs.lemmas.List.{take_all}
 use Rattle.pic_map.specs.declared.ObjLine.{ObjLine}
 use Rattle.sym_code.specs.Layout.{FrameRange, general_at}
 use Rattle.code_place.specs.Layouts.{range_of}
@@ -31,11 +32,13 @@ pub objects_end : (hidden : ℕ → Bool) (lines : List ObjLine) → length line
 objects_end hidden [] below n is offset l = absurd (omega arith)
 objects_end hidden (line ∷ lines) below n is offset l = absurd (omega (arith, below))
 
-pub objects_on : (hidden : ℕ → Bool) (lines : List ObjLine) (line other : ObjLine) → 1 ≤ length lines → line ≡ get_or lines 0 other → IsClearRange hidden line.address line.size → AreClearObjects hidden (λ n. true) (map range_of (drop 1 lines))
+pub objects_on : (hidden : ℕ → Bool) (lines : List ObjLine) (line other : ObjLine) → 1 ≤ length lines → line ≡ get_or lines 0 other → IsClearRange hidden line.address line.size → AreClearObjects hidden (λ n. true) (map range_of (take (length lines - 1) (drop 1 lines)))
     → AreClearObjects hidden (λ n. true) (map range_of lines)
 objects_on hidden [] line other some is here rest n each = absurd (omega (arith, some))
 objects_on hidden (x ∷ lines) line other some is here rest zero each = subst (λ (y : ObjLine). IsClearRange hidden y.address y.size) is here
-objects_on hidden (x ∷ lines) line other some is here rest (suc n) each = rest n each
+objects_on hidden (x ∷ lines) line other some is here rest (suc n) each =
+    let whole : take (length (x ∷ lines) - 1) lines ≡ lines = take_all (length (x ∷ lines) - 1) lines (omega arith) in
+    subst (λ (left : List ObjLine). AreClearObjects hidden (λ k. true) (map range_of left)) whole rest n each
 
 pub frames_none : (hidden : ℕ → Bool) (lent : ℕ → Bool) → AreClearFrames hidden lent []
 frames_none hidden lent c is offset l = absurd (omega arith)
