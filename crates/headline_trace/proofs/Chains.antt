@@ -1,5 +1,5 @@
 -- A run that follows one which is led by the source is led by it, too.
-use Rattle.std.proofs.Common.{◌≡◌, ℕ, List, [], ◌∷◌, map, refl, ap, ◌∙◌, arith}
+use Rattle.std.proofs.Common.{◌≡◌, ℕ, ◌≤◌, List, [], ◌∷◌, map, refl, ap, ◌∙◌, arith}
 use Rattle.run_links.specs.Runs.{Run, Goes, Follows, IsSlow}
 use Rattle.run_links.proofs.Links.{slow_composes, lag_composes}
 use Rattle.headline_trace.specs.Carried.{IsLed}
