@@ -2,8 +2,8 @@ pub mod Arguments
 pub mod Below
 pub mod Digits
 pub mod Lawful
-pub mod Leaving
 pub mod Loops
+pub mod Remaining
 pub mod Standing
 pub mod Statements
 pub mod Told

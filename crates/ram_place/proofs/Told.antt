@@ -29,7 +29,7 @@ use Rattle.ram_place.specs.declared.placing.PlaceError.{PlaceError}
 use Rattle.ram_place.specs.declared.placing.PlaceError.TheVariants.{NoMemory, Ram}
 use Rattle.live_frames.proofs.Connected.{rows_length}
 use Rattle.ram_place.proofs.Below.{none_below_too, stands_whole}
-use Rattle.ram_place.proofs.Leaving.{kept_none}
+use Rattle.ram_place.proofs.Remaining.{kept_none}
 use Rattle.ram_place.proofs.Standing.{objects_pushed, frames_pushed, objects_have_more}
 
 none_got : {X : Type 0} (xs : List X) (k : ℕ) (x : X) → xs ≡ [] → slice_get xs k ≡ Some x → ⊥

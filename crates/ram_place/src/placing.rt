@@ -51,7 +51,6 @@ fn is_over(span: Span, top: u16) -> bool
 }
 
 // Where something of so many bytes stands below the top, where these bytes are taken.
-#[tactic(auto, using(crate::proofs::Below::lost_below, crate::proofs::Below::span_over, crate::proofs::Below::span_below))]
 fn place_below_top(taken: &Taken, size: u64, top: u16) -> Option<Span>
     ensures { MatchOption result (HasNoPlaceBelow top (λ x. is_taken taken.now.marks x ≡ true) size) (λ span. StandsBelow top (λ x. is_taken taken.now.marks x ≡ true) size span.address × (span.size ≡ size) × (span.size ≤ 96)) }
 {

@@ -1,7 +1,7 @@
 use Rattle.std.proofs.Common.{◌≡◌, ◌+◌, ◌<◌, ◌^◌, map}
 use Rattle.c_typed.specs.Nodes.{capped}
 use Rattle.c_typed.specs.Views.{size_of}
-use Rattle.ram_place.proofs.Leaving.{bytes_left}
+use Rattle.ram_place.proofs.Remaining.{bytes_left}
 use Rattle.ram_place.proofs.frame.statics_bytes.Given as goal
 
 abbrev pub invariant-loop-number : goal.invariant-loop-number

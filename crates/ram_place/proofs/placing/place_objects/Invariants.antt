@@ -3,7 +3,7 @@ use Rattle.c_typed.specs.Views.{program_of}
 use Rattle.pic_map.specs.MapView.{object_of}
 use Rattle.live_frames.specs.Memory.{is_taken}
 use Rattle.ram_place.specs.Placement.{AreObjectsIn, but_below, objects_have}
-use Rattle.ram_place.proofs.Leaving.{IsLeft}
+use Rattle.ram_place.proofs.Remaining.{IsLeft}
 use Rattle.ram_place.proofs.placing.place_objects.Given as goal
 
 abbrev pub invariant-loop-number : goal.invariant-loop-number

@@ -1,7 +1,8 @@
 -- Static objects that are left out: the rest of those that are kept, one behind the other.
-use Rattle.std.proofs.Common.{◌≡◌, ℕ, zero, suc, ◌+◌, ◌*◌, ◌<◌, ◌≤◌, ◌^◌, Bool, true, false, if◌then◌else◌, ◌⊎◌, List, [], ◌∷◌, length, drop, map, get_or, refl, sym, ap, ◌∙◌, subst, arith, slice_get, Some}
+use Rattle.std.proofs.Common.{◌≡◌, ℕ, zero, suc, ◌+◌, ◌*◌, ◌<◌, ◌≤◌, ◌^◌, Bool, true, false, if◌then◌else◌, ◌⊎◌, inl, inr, List, [], ◌∷◌, length, drop, map, get_or, refl, sym, ap, ◌∙◌, subst, arith, slice_get, Some}
 use Rattle.std.proofs.lemmas.List.{drop_all, length-map}
-use Rattle.std.proofs.lemmas.Option.{slice_get_within, slice_get_cases}
+use Rattle.std.proofs.lemmas.Option.{slice_get_within, slice_get_cases, slice_get-map}
+use Rattle.std.specs.Option.{option_map}
 use Rattle.c_typed.specs.Nodes.{capped}
 use Rattle.c_typed.specs.Trees.{StaticTree, Program}
 use Rattle.c_typed.specs.Types.{type_bytes}
@@ -56,26 +57,33 @@ pub left_first : (without : List Bool) (statics : List Static) → IsLeft withou
 unfolding IsLeft
 left_first without statics = (omega arith, refl)
 
-pub left_gone : (without : List Bool) (statics : List Static) (lines n : ℕ) (object : Static) → n < length statics → object ≡ get_or statics n object → get_or without n false ≡ true → IsLeft without statics lines n → IsLeft without statics lines (n + 1)
-unfolding IsLeft
-left_gone without statics lines n object below read out left =
-    (left.0, left.1 ∙ ap (kept_from n without) (next statics n object below read) ∙ gone n without (static_of object) (drop (n + 1) (map static_of statics)) out)
+-- what is left where the statics were lent as this list
+next_lent : (statics given : List Static) (n : ℕ) (object : Static) → given ≡ statics → n < length given → object ≡ get_or given n object → drop n (map static_of statics) ≡ static_of object ∷ drop (n + 1) (map static_of statics)
+next_lent statics given n object same below read =
+    let P : List Static → Type 0 = λ (list : List Static). drop n (map static_of list) ≡ static_of object ∷ drop (n + 1) (map static_of list) in
+    subst P same (next given n object below read)
 
-pub left_kept : (without : List Bool) (statics : List Static) (lines n : ℕ) (object : Static) → n < length statics → object ≡ get_or statics n object → get_or without n false ≡ false → IsLeft without statics lines n
+pub left_gone : (without : List Bool) (statics given : List Static) (lines n : ℕ) (object : Static) → given ≡ statics → n < length given → object ≡ get_or given n object → get_or without n false ≡ true → IsLeft without statics lines n → IsLeft without statics lines (n + 1)
+unfolding IsLeft
+left_gone without statics given lines n object same below read out left =
+    (left.0, left.1 ∙ ap (kept_from n without) (next_lent statics given n object same below read) ∙ gone n without (static_of object) (drop (n + 1) (map static_of statics)) out)
+
+pub left_kept : (without : List Bool) (statics given : List Static) (lines n : ℕ) (object : Static) → given ≡ statics → n < length given → object ≡ get_or given n object → get_or without n false ≡ false → IsLeft without statics lines n
     → (slice_get (kept_from 0 without (map static_of statics)) lines ≡ Some (static_of object)) × IsLeft without statics (lines + 1) (n + 1)
 unfolding IsLeft
-left_kept without statics lines n object below read out left =
-    let is = left.1 ∙ ap (kept_from n without) (next statics n object below read) ∙ stays n without (static_of object) (drop (n + 1) (map static_of statics)) out in
+left_kept without statics given lines n object same below read out left =
+    let is = left.1 ∙ ap (kept_from n without) (next_lent statics given n object same below read) ∙ stays n without (static_of object) (drop (n + 1) (map static_of statics)) out in
     let found = first_left (kept_from 0 without (map static_of statics)) lines (static_of object) (kept_from (n + 1) without (drop (n + 1) (map static_of statics))) is in
     let within = found.2 in
-    (found.0, omega (arith, within), found.1)
+    (found.0, (omega (arith, within), found.1))
 
-pub left_none : (without : List Bool) (statics : List Static) (lines n : ℕ) → length statics ≤ n → IsLeft without statics lines n → lines ≡ length (kept_from 0 without (map static_of statics))
+pub left_none : (without : List Bool) (statics given : List Static) (lines n : ℕ) → given ≡ statics → length given ≤ n → IsLeft without statics lines n → lines ≡ length (kept_from 0 without (map static_of statics))
 unfolding IsLeft
-left_none without statics lines n past left =
+left_none without statics given lines n same past left =
     let few = left.0 in
     let long = length-map statics static_of in
-    let none : drop lines (kept_from 0 without (map static_of statics)) ≡ [] = left.1 ∙ ap (kept_from n without) (drop_all n (map static_of statics) (omega (arith, long, past))) in
+    let lent = ap (length {A = Static}) same in
+    let none : drop lines (kept_from 0 without (map static_of statics)) ≡ [] = left.1 ∙ ap (kept_from n without) (drop_all n (map static_of statics) (omega (arith, long, lent, past))) in
     elim (slice_get_cases (kept_from 0 without (map static_of statics)) lines).1 [
       | inl found ↦ absurd (some found.0 (drop (lines + 1) (kept_from 0 without (map static_of statics))) (sym (drop_got (kept_from 0 without (map static_of statics)) lines found.0 found.2) ∙ none))
       | inr past ↦ (let over = past.0 in omega (arith, few, over))
@@ -84,12 +92,20 @@ left_none without statics lines n past left =
       some {X} x rest same = cc
 
 -- ---- bytes
+none_more : (all rest here : ℕ) → all ≡ rest → here ≡ 0 → all ≡ here + rest
+none_more all rest here same none = omega (arith, same, none)
+
+some_more : (all rest own here : ℕ) → all ≡ own + rest → here ≡ own → all ≡ here + rest
+some_more all rest own here same is = omega (arith, same, is)
+
 kept_bytes : (sizes : List ℕ) (without : List Bool) (n : ℕ) (s : StaticTree) (rest : List StaticTree) (out : Bool) → get_or without n false ≡ out
     → statics_bytes sizes (kept_from n without (s ∷ rest)) ≡ bytes_kept sizes without n s + statics_bytes sizes (kept_from (n + 1) without rest)
 kept_bytes sizes without n s rest true is =
-    ap (statics_bytes sizes) (gone n without s rest is) ∙ sym (ap (λ (b : Bool). (if b then 0 else type_bytes sizes s.ty.ty) + statics_bytes sizes (kept_from (n + 1) without rest)) is)
+    none_more (statics_bytes sizes (kept_from n without (s ∷ rest))) (statics_bytes sizes (kept_from (n + 1) without rest)) (bytes_kept sizes without n s) (ap (statics_bytes sizes) (gone n without s rest is))
+    (ap (λ (b : Bool). if b then 0 else type_bytes sizes s.ty.ty) is)
 kept_bytes sizes without n s rest false is =
-    ap (statics_bytes sizes) (stays n without s rest is) ∙ sym (ap (λ (b : Bool). (if b then 0 else type_bytes sizes s.ty.ty) + statics_bytes sizes (kept_from (n + 1) without rest)) is)
+    some_more (statics_bytes sizes (kept_from n without (s ∷ rest))) (statics_bytes sizes (kept_from (n + 1) without rest)) (type_bytes sizes s.ty.ty) (bytes_kept sizes without n s)
+    (ap (statics_bytes sizes) (stays n without s rest is)) (ap (λ (b : Bool). if b then 0 else type_bytes sizes s.ty.ty) is)
 
 -- The sum and the bytes of those that are left are all bytes.
 abbrev pub bytes_left : List ℕ → List Bool → List Static → ℕ → ℕ
@@ -98,12 +114,14 @@ bytes_left sizes without statics n = statics_bytes sizes (kept_from n without (d
 added : (now count r x left rest whole : ℕ) → left ≡ x + rest → r ≡ capped x → now ≡ capped (count + r) → capped (count + left) ≡ capped whole → capped (now + rest) ≡ capped whole
 added now count r x left rest whole more made put so_far = omega (arith, more, made, put, so_far)
 
-pub bytes_more : (sizes : List ℕ) (without : List Bool) (statics : List Static) (n : ℕ) (object : Static) (now count r whole : ℕ) → n < length statics → object ≡ get_or statics n object
+pub bytes_more : (sizes : List ℕ) (without : List Bool) (statics : List Static) (n : ℕ) (object : Static) (now count r whole : ℕ) → slice_get statics n ≡ Some object
     → r ≡ capped (bytes_kept sizes without n (static_of object)) → now ≡ capped (count + r) → now < 2 ^ 64 → (count < 2 ^ 64) × (capped (count + bytes_left sizes without statics n) ≡ capped whole)
     → (now < 2 ^ 64) × (capped (now + bytes_left sizes without statics (n + 1)) ≡ capped whole)
-bytes_more sizes without statics n object now count r whole below read made put fits so_far =
+bytes_more sizes without statics n object now count r whole got made put fits so_far =
+    let first : drop n (map static_of statics) ≡ static_of object ∷ drop (n + 1) (map static_of statics) =
+    drop_got (map static_of statics) n (static_of object) (slice_get-map static_of statics n ∙ ap (option_map static_of) got) in
     let here : bytes_left sizes without statics n ≡ bytes_kept sizes without n (static_of object) + bytes_left sizes without statics (n + 1) =
-    ap (λ (list : List StaticTree). statics_bytes sizes (kept_from n without list)) (next statics n object below read)
+    ap (λ (list : List StaticTree). statics_bytes sizes (kept_from n without list)) first
     ∙ kept_bytes sizes without n (static_of object) (drop (n + 1) (map static_of statics)) (get_or without n false) refl in
     (fits, added now count r (bytes_kept sizes without n (static_of object)) (bytes_left sizes without statics n) (bytes_left sizes without statics (n + 1)) whole here made put so_far.1)
 
