@@ -206,7 +206,7 @@ module _ (g : Setting) (h : Ground) (c : chip.Setting) (hd : ℕ) (x : IsImage g
       same_bytes b own = ⊎_elim
           (λ q. before.own b q ∙ ap (λ (z : State). slice_index z.ram b) (sym arrived.2) ∙ y.stands.traced.bytes b q)
           (λ ne.
-          before.others b ne ∙ y.stands.bytes b own
+          before.others b ne own ∙ y.stands.bytes b own
           ∙ ahead_outside g y.image_then.outside y.trail.acts y.stands.traced.thread y.stands.traced.memory w y.stands.memory b y.stands.traced.good (not_mains (owner g.program.layout b) ne) (y.stands.traced.acts quiet.going))
           (mains_or_not (owner g.program.layout b))
 
@@ -226,7 +226,7 @@ module _ (g : Setting) (h : Ground) (c : chip.Setting) (hd : ℕ) (x : IsImage g
             intcon = subst (λ v. v < 256) (sym (ap (λ (z : Control). z.intcon) before.control)) r2.intcon;
             pir1 = subst (λ v. v < 256) (sym (ap (λ (z : Control). z.pir1) before.control)) r2.pir1;
             pie1 = subst (λ v. v < 256) (sym (ap (λ (z : Control). z.pie1) before.control)) r2.pie1;
-            bytes = λ b. ⊎_elim (λ q. subst (λ v. v < 256) (sym (before.own b q)) (r1.bytes b)) (λ ne. subst (λ v. v < 256) (sym (before.others b ne)) (r2.bytes b)) (mains_or_not (owner g.program.layout b));
+            bytes = before.fits;
             count = before.bytes;
             stack = before.words;
           }
@@ -271,10 +271,8 @@ module _ (g : Setting) (h : Ground) (c : chip.Setting) (hd : ℕ) (x : IsImage g
       pub comes_behind : ComesBehind g c from to s
       comes_behind = record {
         back = back;
-        bytes = λ b. ⊎_elim
-            (λ q. let own = mains_somebodys (owner g.program.layout b) q in walked.bytes b own ∙ sym (y.stands.bytes b own))
-            (λ ne. walked.others b ne ∙ before.others b ne)
-            (mains_or_not (owner g.program.layout b));
+        own = λ b q. let own = mains_somebodys (owner g.program.layout b) q in walked.bytes b own ∙ sym (y.stands.bytes b own);
+        others = λ b ne. walked.others b ne;
         control = walked.control ∙ before.control;
         taken = walked.taken ∙ before.taken;
         silent = λ j lt. ap (λ z. events_of z (accesses (execute c.image c.inputs) (executed c j s))) ranges_is ∙ walked.silent j lt;

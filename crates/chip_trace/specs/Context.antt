@@ -103,21 +103,25 @@ module _ (g : Setting) (c : chip.Setting) where
         → slice_index (moment c to).state.ram b ≡ slice_index (moment c from).state.ram b
 
   -- ---- main's instructions behind the handler's runs
-  -- A state at which main stands as at the first moment, while all that isn't main's is as at the second: as the handler's runs leave
-  -- it that come before main's instructions.
+  -- A state at which main stands as at the first moment, while what is of the handler, and what both see, is as at the second: as the
+  -- handler's runs leave it that come before main's instructions. Bytes of nobody may be others, the saved context among them, since
+  -- such runs save main's registers of the first moment.
   pub record IsBefore (from to : ℕ) (s : State) : Type 0 where
     pub back : IsBack (moment c from).state s
     pub own : HasMains (moment c from).state s
-    pub others : (b : ℕ) → owner g.program.layout b ≢ Of Main → slice_index s.ram b ≡ slice_index (moment c to).state.ram b
+    pub others : (b : ℕ) → owner g.program.layout b ≢ Of Main → owner g.program.layout b ≢ Nobody → slice_index s.ram b ≡ slice_index (moment c to).state.ram b
+    pub fits : (b : ℕ) → slice_index s.ram b < 256
     pub control : control_of s ≡ control_of (moment c to).state
     pub taken : s.taken ≡ (moment c to).state.taken
     pub bytes : length s.ram ≡ 368
     pub words : length s.stack ≡ 8
 
-  -- main's instructions from there come to the second moment's state, but for words of the return stack that aren't in use, and make no event
+  -- Main's instructions from there make no event, change no byte but main's, and come to the second moment's state, but for words of the
+  -- return stack that aren't in use and bytes of nobody.
   pub record ComesBehind (from to : ℕ) (s : State) : Type 0 where
     pub back : IsBack (moment c to).state (executed c (mains c from (to - from)) s)
-    pub bytes : (b : ℕ) → slice_index (executed c (mains c from (to - from)) s).ram b ≡ slice_index (moment c to).state.ram b
+    pub own : HasMains (moment c to).state (executed c (mains c from (to - from)) s)
+    pub others : (b : ℕ) → owner g.program.layout b ≢ Of Main → slice_index (executed c (mains c from (to - from)) s).ram b ≡ slice_index s.ram b
     pub control : control_of (executed c (mains c from (to - from)) s) ≡ control_of (moment c to).state
     pub taken : (executed c (mains c from (to - from)) s).taken ≡ (moment c to).state.taken
     pub silent : (j : ℕ) → j < mains c from (to - from) → events_of c.watch.ranges (accesses (execute c.image c.inputs) (executed c j s)) ≡ []

@@ -1,10 +1,11 @@
 -- How a generation ends: with the one text that is to be printed, or for a fault or want of memory.
 use Rattle.std.proofs.Common.{◌≡◌, ℕ, inl, inr, ⊎_elim, Option, Some, None, IfSome, List, ◌++◌, option_map, subst, sym, arith}
+use Rattle.generated_laws.proofs.Whole.{accepted, sizes_are}
 use Rattle.host_io.specs.Host.{Kind, Contents}
 use Rattle.host_lines.specs.Said.{Says}
 use Rattle.picc_cli.specs.Command.{Form, Generate}
 use Rattle.picc_cli.specs.Finished.{HasFaults, HasPrinted, IsStatus, HasStatus, HasTold, IsComplete}
-use Rattle.picc_cli.specs.Summary.{generated_text}
+use Rattle.picc_cli.specs.Summary.{generated_text, IsSize}
 use Rattle.picc_cli.proofs.Endings.{quiet_nine, said_prefix, up_apart}
 use Rattle.picc_cli.proofs.FormEnds.{said_status, with_status, up_not_two, NotTwo}
 
@@ -52,9 +53,9 @@ module _ (functions : ℕ) where
     by (inr u) = record { whole = λ zero. up_apart 0 result (omega arith) zero u.ends; prefix = λ up. u.printed }
 
   -- nothing more is told
-  pub generation_told : (old new : Option Contents) (p q : Option (List ℕ)) (result : ℕ) → IfSome old (λ o. HasTold form o new p q result)
-  generation_told None new p q result = tt
-  generation_told (Some o) new p q result = tt
+  pub generation_told : IsSize functions → (old new : Option Contents) (p q : Option (List ℕ)) (result : ℕ) → IfSome old (λ o. HasTold form o new p q result)
+  generation_told size None new p q result = tt
+  generation_told size (Some o) new p q result = λ e. record { accepted = accepted functions size.0 size.1; sizes = sizes_are functions size.0 size.1 }
 
   -- ---- without a fault
   pub generation_complete : (kind : Kind) (before now : ℕ) (old : Option Contents) (p q : Option (List ℕ)) (line : List ℕ) (result : ℕ) → Says kind before now p q line 0 result

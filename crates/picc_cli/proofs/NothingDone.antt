@@ -108,7 +108,7 @@ no_told (Some (Build names)) (Some o) new p = λ e. absurd (omega arith)
 no_told (Some (Trace asked)) (Some o) new p = inl (inr refl)
 no_told (Some (Simulate asked)) (Some o) new p = tt
 no_told (Some (Agree asked)) (Some o) new p = record { ended = agree.NoMemory; knows = tt; exact = tt; last = inr (inr refl, nothing_of p []) }
-no_told (Some (Generate functions)) (Some o) new p = tt
+no_told (Some (Generate functions)) (Some o) new p = λ e. absurd (omega arith)
 no_told (Some (Check hex)) (Some o) new p = unsaid_told hex o 9 p p (inr refl)
 
 -- a board that wasn't asked

@@ -19,7 +19,7 @@ use Rattle.picc_cli.specs.Outcome.{Files, Builds, RefusesBy, BreaksOff}
 use Rattle.picc_cli.specs.RunsTold.{RunsTell}
 use Rattle.host_lines.specs.Said.{GivesUp}
 use Rattle.picc_cli.specs.Simulation.{SimulationCompletes}
-use Rattle.picc_cli.specs.Summary.{generated_text}
+use Rattle.picc_cli.specs.Summary.{generated_text, GenerationTells}
 use Rattle.picc_cli.specs.Trace as trace
 use Rattle.picc_cli.specs.ScriptInput.{IsScript}
 use Rattle.picc_cli.specs.Trace.{Knows, IsTraceText}
@@ -136,9 +136,9 @@ HasTold (Some (Build names)) old new before after result = result ≡ 1 → Buil
 HasTold (Some (Trace asked)) old new before after result = GivesUp result ⊎ TraceTells asked old before after result
 HasTold (Some (Agree asked)) old new before after result = agreement.AgreementTells RunsTell asked old before after result
 HasTold (Some (Check hex)) old new before after result = CheckTells hex old before after result
--- what a simulation does is told with its board (HasSimulated), and what is printed of a generated program is one text
+-- what a simulation does is told with its board (HasSimulated)
 HasTold (Some (Simulate asked)) old new before after result = Unit {0}
-HasTold (Some (Generate functions)) old new before after result = Unit {0}
+HasTold (Some (Generate functions)) old new before after result = result ≡ 0 → GenerationTells functions
 
 -- ---- without a fault and with memory enough, each command ends as it is to end
 -- some refusal holds of the text, by what the build accepts

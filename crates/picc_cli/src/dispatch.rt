@@ -56,9 +56,10 @@ pub fn picc<H: Host>(
     // What is printed is a whole text of the form, or a prefix of one where it gives up. Over a sound host 3 comes with the line of a file
     // that has no content.
     ensures printed { HasPrinted (H.kind host.old) (form_of (words_of words.now)) (H.contents host.old) (H.printed host.old) (H.printed host.new) result }
-    // What is printed of a refused text, of a file that isn't such as it is to be, and of an accepted one, holds of the files. The
-    // depth that a check prints is that of a certificate that is valid for the image of its file, so in no run of that image does the
-    // return stack hold more words; with 7 no certificate is valid for it.
+    // What is printed of a refused text, of a file that isn't such as it is to be, and of an accepted one, holds of the files. A
+    // generated program that is printed is accepted, and the sizes behind it are its own. The depth that a check prints is that of each
+    // certificate that is valid for the image of its file, and one is, so in no run of that image does the return stack hold more words;
+    // with 7 no certificate is valid for it.
     ensures told { IfSome (H.contents host.old) (λ old. HasTold (form_of (words_of words.now)) old (H.contents host.new) (H.printed host.old) (H.printed host.new) result) }
     // A simulation runs the chip over the board, on what its three files hold: this is that run, its events, and what the board was
     // asked and told. 6 comes just where the run of the chip's own definitions stops, and with 0 and 6 the trace of that run is printed.
@@ -70,7 +71,7 @@ pub fn picc<H: Host>(
     // says which of the two a text is. So does the status of a check say whether a certificate is valid for an image.
     ensures complete { IfSome (H.contents host.old) (λ old. IsComplete (H.kind host.old) (H.faults host.old) (H.faults host.new) (form_of (words_of words.now)) old result) }
     // Beside all this: the image and the map of a build, and those whose run is compared, are what the passes make of the text's program, each as it
-    // promises its part. None of the other clauses needs it.
+    // promises its part. None of the other clauses speaks of the passes.
     ensures made { IfSome (H.contents host.old) (λ old. HasMade (form_of (words_of words.now)) old (H.contents host.new) (H.printed host.old) (H.printed host.new) result) }
     // The board is left as it was, but by a simulation whose files are such as they are to be.
     ensures board { is_simulation (form_of (words_of words.now)) ≡ false → board.new ≡ board.old }

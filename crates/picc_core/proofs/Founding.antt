@@ -117,6 +117,7 @@ module _ (typed : Typed) (copies : List FnCopy) (placed : Placed) (at : List ℕ
         code = symbolic.code;
         joined = symbolic.joined;
         lent = is_lent symbolic.lent;
+        statics = λ n. refl;
         lends = symbolic.lends;
         first = at_first symbolic.lent (core_of (program_of typed) copies).first (first_there (program_of typed) copies founded.sound founded.numbers);
         leaner = symbolic.leaner;

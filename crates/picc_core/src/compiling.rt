@@ -182,7 +182,7 @@ pub fn compile(alloc: Global, text: &[u8]) -> Result<Built, CompileError>
     ensures ram { IfOk result (λ built. built.ram ≡ addresses_covered (map object_of built.map.objects.items) (map frame_of built.map.frames.items)) }
     // All this together.
     ensures whole { IfOk result (IsCompiledTo text.now) }
-    // Beside it: the image and the map are what the passes make of the program, and each promises its part. None of the clauses above needs it.
+    // Beside it: the image and the map are what the passes make of the program, and each promises its part. None of the clauses above speaks of passes.
     ensures translated { IfOk result (λ built. IsTranslated (program_of built.typed) built.image (content_of built.map)) }
 {
     compiled(alloc, text, Saving::Lean)

@@ -6,7 +6,7 @@ use Rattle.c_typed.specs.Sound.{is_sound}
 use Rattle.c_typed.specs.Trees.{Program}
 use Rattle.call_graph.specs.Numbers.{handler_at}
 use Rattle.call_graph.specs.declared.types.FnCopy.{FnCopy}
-use Rattle.core_code.specs.Bytes.{Object}
+use Rattle.core_code.specs.Bytes.{Object, Fixed}
 use Rattle.core_code.specs.Machine.{static_byte}
 use Rattle.core_code.specs.declared.code.CoreProgram.{CoreProgram}
 use Rattle.lower_stmt.specs.Bodies.{body_of, bodies_of}
@@ -47,6 +47,8 @@ pub record AreBlocks (p : Program) (copies : List FnCopy) (core : CoreProgram) (
   pub joined : IsJoined core copies given
   -- the objects to which pointers may lead: that takes addresses of no others, and static objects begin with no address of another one
   pub lent : Object → Bool
+  -- all static objects are, whichever frames are
+  pub statics : (n : ℕ) → lent (Fixed n) ≡ true
   pub lends : All (LendsOnly lent) core.bodies.items
   pub first : (n offset : ℕ) → leads_lent lent (static_byte (slice_get (core_of p copies).first n) offset) ≡ true
   -- what is left of them where instructions on temporary bytes are left out that nothing needs
