@@ -50,8 +50,6 @@ abbrev pub byte_of : Sym → Option Byte
 byte_of s = byte_touched (touches s)
 
 -- the target whose page an instruction needs: of a read of a table one in its own block
--- The words that read a table are in the page of the read's own block. Its selects name the inner label 0, so a block with such a read
--- has to begin with this label, or they have no address.
 abbrev pub target_of : Sym → Option Target
 target_of (syms.Call target) = Some target
 target_of (syms.Goto target) = Some target
