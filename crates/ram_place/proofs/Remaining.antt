@@ -1,8 +1,7 @@
 -- Static objects that are left out: the rest of those that are kept, one behind the other.
 use Rattle.std.proofs.Common.{◌≡◌, ℕ, zero, suc, ◌+◌, ◌*◌, ◌<◌, ◌≤◌, ◌^◌, Bool, true, false, if◌then◌else◌, ◌⊎◌, inl, inr, List, [], ◌∷◌, length, drop, map, get_or, refl, sym, ap, ◌∙◌, subst, arith, slice_get, Some}
 use Rattle.std.proofs.lemmas.List.{drop_all, length-map}
-use Rattle.std.proofs.lemmas.Option.{slice_get_within, slice_get_cases, slice_get-map}
-use Rattle.std.specs.Option.{option_map}
+use Rattle.std.proofs.lemmas.Option.{slice_get_within, slice_get_cases}
 use Rattle.c_typed.specs.Nodes.{capped}
 use Rattle.c_typed.specs.Trees.{StaticTree, Program}
 use Rattle.c_typed.specs.Types.{type_bytes}
@@ -114,14 +113,12 @@ bytes_left sizes without statics n = statics_bytes sizes (kept_from n without (d
 added : (now count r x left rest whole : ℕ) → left ≡ x + rest → r ≡ capped x → now ≡ capped (count + r) → capped (count + left) ≡ capped whole → capped (now + rest) ≡ capped whole
 added now count r x left rest whole more made put so_far = omega (arith, more, made, put, so_far)
 
-pub bytes_more : (sizes : List ℕ) (without : List Bool) (statics : List Static) (n : ℕ) (object : Static) (now count r whole : ℕ) → slice_get statics n ≡ Some object
+pub bytes_more : (sizes : List ℕ) (without : List Bool) (statics : List Static) (n : ℕ) (object : Static) (now count r whole : ℕ) → n < length statics → object ≡ get_or statics n object
     → r ≡ capped (bytes_kept sizes without n (static_of object)) → now ≡ capped (count + r) → now < 2 ^ 64 → (count < 2 ^ 64) × (capped (count + bytes_left sizes without statics n) ≡ capped whole)
     → (now < 2 ^ 64) × (capped (now + bytes_left sizes without statics (n + 1)) ≡ capped whole)
-bytes_more sizes without statics n object now count r whole got made put fits so_far =
-    let first : drop n (map static_of statics) ≡ static_of object ∷ drop (n + 1) (map static_of statics) =
-    drop_got (map static_of statics) n (static_of object) (slice_get-map static_of statics n ∙ ap (option_map static_of) got) in
+bytes_more sizes without statics n object now count r whole below read made put fits so_far =
     let here : bytes_left sizes without statics n ≡ bytes_kept sizes without n (static_of object) + bytes_left sizes without statics (n + 1) =
-    ap (λ (list : List StaticTree). statics_bytes sizes (kept_from n without list)) first
+    ap (λ (list : List StaticTree). statics_bytes sizes (kept_from n without list)) (next statics n object below read)
     ∙ kept_bytes sizes without n (static_of object) (drop (n + 1) (map static_of statics)) (get_or without n false) refl in
     (fits, added now count r (bytes_kept sizes without n (static_of object)) (bytes_left sizes without statics n) (bytes_left sizes without statics (n + 1)) whole here made put so_far.1)
 
