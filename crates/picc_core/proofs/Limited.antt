@@ -5,6 +5,7 @@ use Rattle.c_typed.specs.Trees.{Program}
 use Rattle.call_graph.specs.declared.types.FnCopy.{FnCopy}
 use Rattle.code_place.proofs.Placing.{within_of}
 use Rattle.code_place.specs.Pages.{addresses, AreWithinPages, AreInMemory, PassesMemory}
+use Rattle.program_code.specs.Stated.{sizes}
 use Rattle.picc_core.specs.Accepted.{IsFirstRefusal, PassesPages}
 use Rattle.picc_core.specs.Answers.{IsRefusedBy, Tells, TellsBy, TellsError, TellsErrorBy}
 use Rattle.picc_core.specs.Limits.{IsFirstRefusalWithin, PassesWords, whole_chip}
@@ -42,7 +43,7 @@ passes p copies words is =
       order = is.order;
       in_order = is.in_order;
       pages = is.pages;
-      passes = ⊎_elim (λ over. over) (λ many. many_pass _ is.pages many) is.passes;
+      passes = ⊎_elim (λ over. over) (λ many. many_pass (sizes p is.order) is.pages many) is.passes;
       total = is.total;
     }
 
