@@ -121,7 +121,7 @@ module _ (placed : Placed) (whole : FramesAreWhole placed) where
   sym_own root n size (syms.Label label) c offset h e = absurd (none-some (bytes.Frame c offset) e)
   sym_own root n size (syms.SelectBank bit on) c offset h e = absurd (none-some (bytes.Frame c offset) e)
   sym_own root n size (syms.SelectPage bit target) c offset h e = absurd (none-some (bytes.Frame c offset) e)
-  sym_own root n size (syms.Table table root) c offset h e = absurd (none-some (bytes.Frame c offset) e)
+  sym_own root n size (syms.Table table r) c offset h e = absurd (none-some (bytes.Frame c offset) e)
 
   frames_bank : (n : ℕ) (byte : Byte) (at : ℕ) → address_of placed byte ≡ Some at → IsInside placed byte → ((c offset : ℕ) → byte ≡ bytes.Frame c offset → c ≡ n) → is_frames byte ≡ true → at / 128 ≡ bank n
   frames_bank n (bytes.Frame c offset) at e l same own = in_frame c offset at e l ∙ ap bank (same c offset refl)

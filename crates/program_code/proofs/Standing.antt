@@ -49,11 +49,11 @@ all_low (r ∷ rs) = nat_lt r.1 0x100 && all_low rs
 
 named_low : (rs : List Register) (address : ℕ) → all_low rs ≡ true → is_some (name_in rs address) ≡ true → address < 0x100
 named_low [] address low h = never h
-named_low (r ∷ rs) address low h = by (nat_eq r.1 address) refl h
+named_low (r ∷ rs) address low h = by (nat_eq r.1 address) refl h (λ k. named_low rs address (and_last (nat_lt r.1 0x100) (all_low rs) low) k)
   where
-    by : (b : Bool) → nat_eq r.1 address ≡ b → is_some (if b then Some r.0 else name_in rs address) ≡ true → address < 0x100
-    by true e h = let same = eqb-true r.1 address e in let lt = ltb-true r.1 0x100 (and_first (nat_lt r.1 0x100) (all_low rs) low) in omega (arith, same, lt)
-    by false e h = named_low rs address (and_last (nat_lt r.1 0x100) (all_low rs) low) h
+    by : (b : Bool) → nat_eq r.1 address ≡ b → is_some (if b then Some r.0 else name_in rs address) ≡ true → (is_some (name_in rs address) ≡ true → address < 0x100) → address < 0x100
+    by true e h more = let same = eqb-true r.1 address e in let lt = ltb-true r.1 0x100 (and_first (nat_lt r.1 0x100) (all_low rs) low) in omega (arith, same, lt)
+    by false e h more = more h
 
 device_low : (address : ℕ) → is_device address ≡ true → address < 0x100
 device_low address h = named_low registers address refl h

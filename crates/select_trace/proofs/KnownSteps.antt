@@ -144,7 +144,7 @@ module _ (g : Setting) where
       let first : Memory = with_byte (opened a h m) (Result (g.program.root h) 0) (opened a h m (Frame h 0)) in
       let one = spares_byte g.program (g.program.root p) m (opened a h m) (Result (g.program.root h) 0) (opened a h m (Frame h 0)) (sym ro) (spares_opened g.program (g.program.root p) a m h (sym ro)) in
       let both = spares_byte g.program (g.program.root p) m first (Result (g.program.root h) 1) (opened a h m (Frame h 1)) (sym ro) one in
-      record { linked = (λ b. refl, tt, tt); holds = tt; rests = (ro, f, l, rests_keep g.program p m (core.with_index g.program h (opened a h m)) st both r) }
+      record { linked = ((λ b. refl), (tt, tt)); holds = tt; rests = (ro, f, l, rests_keep g.program p m (core.with_index g.program h (opened a h m)) st both r) }
 
   read_sure : (o : Option ℕ) (c : List Task) (p : ℕ) (a : Option ℕ) (st : List Waiting) (m : Memory) (w : World Held) → Fresh c → Linked c → Rests g.program p m st → SureNext g.program (core.has_read g.program o c p a st m w)
   read_sure None c p a st m w f l r = tt
