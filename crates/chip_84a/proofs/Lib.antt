@@ -1,0 +1,9 @@
+pub mod Boundary
+pub mod Filled
+pub mod Operating
+pub mod Places
+pub mod Ported
+pub mod Shown
+pub mod Steps
+pub mod Twins
+pub mod Whole

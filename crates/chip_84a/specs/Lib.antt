@@ -1,0 +1,5 @@
+pub mod Examples
+pub mod Lockstep
+pub mod Machine
+pub mod Port
+pub mod Run

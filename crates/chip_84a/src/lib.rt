@@ -1,0 +1,44 @@
+//! The second chip, the PIC16F84A in the profile of this project: its steps, images for it, and the law that it keeps step with the first.
+//!
+//! In: words of program memory, input bytes and arrivals of flags; an image of the first chip. Out: the second chip after each step with
+//! the accesses that it made; the image for the second chip.
+//! The promise: each step is that of the definitions in specs/, which have the rows, the processor and the 368 bytes of pic_chip with this
+//! chip's own addresses. As long as each instruction of the first chip keeps within what both chips have, the second one with the image
+//! that `port` makes of the first one's is beside it: the same trace, registers and return stack.
+#![tactic(auto)]
+
+ghost use Rattle.chip_84a.specs.Examples.{WorkedStates};
+ghost use Rattle.chip_84a.specs.Lockstep.{Lockstep};
+ghost use Rattle.chip_84a.specs.Port.{ImagesPort};
+
+mod chip;
+mod image;
+
+pub use chip::Chip84;
+pub use image::port;
+
+/// What is unknown after power-on. `flags` is below 8 and has Z, DC and C as bits 2, 1 and 0.
+/// The bytes of `ram` are the 68 general bytes in order of address.
+#[derive(Clone, Copy)]
+pub struct Start84 {
+    pub w: u8,
+    pub fsr: u8,
+    pub flags: u8,
+    pub ram: [u8; 68],
+}
+
+/// As long as each instruction of the first chip keeps within what both chips have, the second one is beside it.
+pub fn runs_in_lockstep()
+    ensures { Lockstep }
+{}
+
+/// Each word of an image that is ported has the row of the word before, with the operand of the second chip.
+pub fn images_port()
+    ensures { ImagesPort }
+{}
+
+/// Single steps of the second chip from random states, whose results come from a model in another language that was written apart from
+/// these definitions.
+pub fn worked_states()
+    ensures { WorkedStates }
+{}
