@@ -16,7 +16,7 @@ mod Leads
 mod Moments
 mod Hops
 mod Following
-mod Premises
+pub mod Premises
 pub mod Chosen
 mod Puts
 mod Straight

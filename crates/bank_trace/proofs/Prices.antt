@@ -1,5 +1,5 @@
 -- How many selects stand before an instruction: those behind the instruction before it, and those from a place on.
-use Rattle.std.proofs.Common.{Option, ◌≡◌, ℕ, zero, suc, ◌+◌, Bool, true, if◌then◌else◌, List, [], ◌∷◌, slice_get, refl, sym, ap, ◌∙◌, subst, arith}
+use Rattle.std.proofs.Common.{Option, Some, None, ◌≡◌, ℕ, zero, suc, ◌+◌, Bool, true, if◌then◌else◌, List, [], ◌∷◌, slice_get, refl, sym, ap, ◌∙◌, subst, arith}
 use Rattle.sym_code.specs.Cost.{time_of, time_at}
 use Rattle.sym_code.specs.Programs.{is_word}
 use Rattle.sym_code.specs.Selects.{is_select}

@@ -56,6 +56,7 @@ named_low (r ∷ rs) address low h = by (nat_eq r.1 address) refl h (λ k. named
     by false e h more = more h
 
 device_low : (address : ℕ) → is_device address ≡ true → address < 0x100
+unfolding is_device
 device_low address h = named_low registers address refl h
 
 -- ---- types
