@@ -15,7 +15,7 @@ use Rattle.sym_code.specs.declared.code.BlockName.TheVariants.{Copy}
 use Rattle.sym_code.specs.declared.code.Sym.{Sym}
 use Rattle.chip_trace.specs.Arriving.{keeps_out}
 use Rattle.chip_trace.proofs.Effects.{writes_silently}
-use Rattle.chip_trace.proofs.Sound.{IsGood, IsLoud, IsOwn, IsSound, is_copy, stand_block, sound}
+use Rattle.chip_trace.proofs.Sound.{IsGoodBy, IsLoud, IsOwn, IsSoundBy, is_copy, stand_block, sound_by}
 use Rattle.headline.specs.Headline.{writes, written_by, last_written}
 use Rattle.headline_trace.proofs.Events.{input_same, kept_same}
 use Rattle.headline_trace.proofs.Owners.{owner_back, watched_back}
@@ -90,8 +90,8 @@ module _ (g : Setting) (first : Memory) where
   module _ (outside : (copy n : ℕ) (s : Sym) → slice_get (g.program.block (Copy copy)) n ≡ Some s → keeps_out s ≡ true) where
     -- the threads are good ones, and each watched byte is what the trace says of it
     pub record IsTold (t : Machine) : Type 0 where
-      pub main : IsGood g false t.main
-      pub isr : IsGood g true t.isr
+      pub main : IsGoodBy g false false t.main
+      pub isr : IsGoodBy g true false t.isr
       pub bytes : Holds t.memory t.world.trace
 
     told_in : (t : Machine) (w : World ℕ) → w.trace ≡ t.world.trace → IsTold t → IsTold (record t { world = w })
@@ -106,13 +106,13 @@ module _ (g : Setting) (first : Memory) where
       world = x.world;
     }
 
-    told_made : (b : Bool) (t : Machine) (x : Made) → IsTold t → IsGood g b x.thread → Holds (written x.write t.memory) x.world.trace → IsTold (made_of b t x)
+    told_made : (b : Bool) (t : Machine) (x : Made) → IsTold t → IsGoodBy g b false x.thread → Holds (written x.write t.memory) x.world.trace → IsTold (made_of b t x)
     told_made true t x told good bytes = record { main = told.main; isr = good; bytes = bytes }
     told_made false t x told good bytes = record { main = good; isr = told.isr; bytes = bytes }
 
     abbrev IsRight : Bool → Machine → Option Made → Type 0
     IsRight b t None = Unit {0}
-    IsRight b t (Some x) = IsGood g b x.thread × Holds (written x.write t.memory) x.world.trace
+    IsRight b t (Some x) = IsGoodBy g b false x.thread × Holds (written x.write t.memory) x.world.trace
 
     told_moved : (t : Machine) (x : Option Made) → IsTold t → IsRight t.world.inside t x → IsTold (gone t (moved t (checked g.program x)))
     told_moved t None told right = told
@@ -121,14 +121,14 @@ module _ (g : Setting) (first : Memory) where
       by true = told_made t.world.inside t x told right.0 right.1
       by false = told
 
-    right_read : (o : Outside) (i : Bool) (t : Machine) (b : Loud) (next : ℕ → Thread) → IsTold t → ((v : ℕ) → IsGood g i (next v)) → (v : ℕ)
+    right_read : (o : Outside) (i : Bool) (t : Machine) (b : Loud) (next : ℕ → Thread) → IsTold t → ((v : ℕ) → IsGoodBy g i false (next v)) → (v : ℕ)
         → IsRight i t (Some (record { thread = next v; write = None; world = read_by o t.memory t.world b }))
     unfolding after_device_read
     right_read o i t (Port address) next told good v =
         (good v, subst (λ z. Holds t.memory (z ++ ReadOf (cells.Device address) (itself (device_value o address t.world)) ∷ [])) (sym (input_same address t.world)) (silent_event t.memory t.world.trace _ (λ j k. refl) told.bytes))
     right_read o i t (Shared number cell) next told good v = (good v, silent_event t.memory t.world.trace _ (λ j k. refl) told.bytes)
 
-    right_write : (i : Bool) (t : Machine) (b : Loud) (v : ℕ) (th : Thread) → IsTold t → IsLoud l b → IsGood g i th → IsRight i t (made_write t.world b v th)
+    right_write : (i : Bool) (t : Machine) (b : Loud) (v : ℕ) (th : Thread) → IsTold t → IsLoud l b → IsGoodBy g i false th → IsRight i t (made_write t.world b v th)
     unfolding after_device_write
     right_write i t b v th told loud good = by (is_forbidden t.world b v) where
       written_loud : (b' : Loud) → IsLoud l b' → Holds (written (write_by b' v) t.memory) (wrote_by t.world b' v).trace
@@ -140,7 +140,7 @@ module _ (g : Setting) (first : Memory) where
       by true = tt
       by false = (good, written_loud b loud)
 
-    told_acted : (o : Outside) (t : Machine) (x : Effect) → IsTold t → IsSound g t.world.inside (running t) x → IsTold (gone t (acted g o t x))
+    told_acted : (o : Outside) (t : Machine) (x : Effect) → IsTold t → IsSoundBy g t.world.inside false (running t) x → IsTold (gone t (acted g o t x))
     unfolding acted left
     told_acted o t Stuck told s = told
     told_acted o t (Quiet th x) told s = told_moved t (Some (record { thread = th; write = x; world = t.world })) told (s.1, own_write t.world.inside x t.memory t.world.trace s.0 told.bytes)
@@ -148,18 +148,18 @@ module _ (g : Setting) (first : Memory) where
     told_acted o t (Writes b v th) told s = told_moved t (made_write t.world b v th) told (right_write t.world.inside t b v th told s.0 s.1)
     told_acted o t Leaves told s = record { main = told.main; isr = told.isr; bytes = told.bytes }
     told_acted o t (Ends th) told s = record { main = ended s.0 s.2; isr = told.isr; bytes = silent_event t.memory t.world.trace Ended (λ j k. refl) told.bytes } where
-      ended : t.world.inside ≡ false → th ≡ record (running t) { at = None } → IsGood g false th
-      ended out is = subst (IsGood g false) (sym (is ∙ ap (λ b. record (if b then t.isr else t.main) { at = None }) out)) (record { deep = told.main.deep; at = refl; stack = told.main.stack; left = told.main.left })
+      ended : t.world.inside ≡ false → th ≡ record (running t) { at = None } → IsGoodBy g false false th
+      ended out is = subst (IsGoodBy g false false) (sym (is ∙ ap (λ b. record (if b then t.isr else t.main) { at = None }) out)) (record { deep = told.main.deep; at = refl; stack = told.main.stack; left = told.main.left; low = told.main.low })
     told_acted o t Rests told s = told
 
-    running_good : (t : Machine) → IsTold t → IsGood g t.world.inside (running t)
+    running_good : (t : Machine) → IsTold t → IsGoodBy g t.world.inside false (running t)
     running_good t told = by t.world.inside where
-      by : (b : Bool) → IsGood g b (if b then t.isr else t.main)
+      by : (b : Bool) → IsGoodBy g b false (if b then t.isr else t.main)
       by true = told.isr
       by false = told.main
 
-    good_front : (i : Bool) (copy : ℕ) (r : Registers) → IsGood g i (at_front g.program copy r)
-    good_front i copy r = record { deep = omega arith; at = ap is_copy (stand_block g.program (position (Copy copy) 0)); stack = refl; left = tt }
+    good_front : (i : Bool) (copy : ℕ) (r : Registers) → IsGoodBy g i false (at_front g.program copy r)
+    good_front i copy r = record { deep = omega arith; at = ap is_copy (stand_block g.program (position (Copy copy) 0)); stack = refl; left = tt; low = λ e. absurd (cc) }
 
     told_entered : (e : Entry) (h : Option ℕ) (t : Machine) → IsTold t → IsTold (gone t (enter g e h t))
     unfolding entered
@@ -185,7 +185,7 @@ module _ (g : Setting) (first : Memory) where
 
       by : (b : Bool) → IsTold (gone u (if b then enter g e g.program.handler u else act g o u))
       by true = told_entered e g.program.handler u told_u
-      by false = told_acted o u (effect g u.world.inside (running u) u.memory) told_u (sound g u.world.inside outside (running u) u.memory (running_good u told_u))
+      by false = told_acted o u (effect g u.world.inside (running u) u.memory) told_u (sound_by g u.world.inside false (λ e. absurd (cc)) outside (running u) u.memory (running_good u told_u))
 
     -- ---- a run
     pub told_run : (e : Entry) (o : Outside) (n : ℕ) (t : Machine) → IsTold t → IsTold (sym_run g e o n t)
@@ -194,7 +194,7 @@ module _ (g : Setting) (first : Memory) where
     told_run e o (suc n) t told = told_step e o (sym_run g e o n t) (told_run e o n t told)
 
     told_start : (r : Registers) → IsTold (sym_start g.program r first)
-    told_start r = record { main = good_front false 0 r; isr = record { deep = omega arith; at = refl; stack = refl; left = tt }; bytes = holds_first }
+    told_start r = record { main = good_front false 0 r; isr = record { deep = omega arith; at = refl; stack = refl; left = tt; low = λ e. absurd (cc) }; bytes = holds_first }
 
     -- each watched byte of a run from the front of main is the first one there, or the last one that the trace wrote
     pub watched_bytes : (e : Entry) (o : Outside) (r : Registers) (n k i offset : ℕ) → owner l k ≡ Watched (cells.Static i offset)
