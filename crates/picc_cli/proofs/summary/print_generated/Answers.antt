@@ -16,7 +16,7 @@ returns-in-Ok-clause-printed g c =
     generation_printed c.args.functions _ (g.H.Host.contents c.args.host.now) _ _ _ _ _ _ (rw c.deref.ensures.value c.in-Ok.ensures) c.say_line.ensures.said
 
 pub returns-in-Ok-clause-told : goal.returns-in-Ok-clause-told
-returns-in-Ok-clause-told g c = generation_told c.args.functions c.requires.size (g.H.Host.contents c.args.host.now) (g.H.Host.contents c.say_line.new.host) _ _ _
+returns-in-Ok-clause-told g c = generation_told c.args.functions c.requires.size (g.H.Host.contents c.args.host.now) (g.H.Host.contents c.say_line.new.host) (g.H.Host.printed c.args.host.now) (g.H.Host.printed c.say_line.new.host) _
 
 pub returns-in-Ok-clause-complete : goal.returns-in-Ok-clause-complete
 returns-in-Ok-clause-complete g c = generation_complete c.args.functions _ _ _ (g.H.Host.contents c.args.host.now) _ _ _ _ c.say_line.ensures.said

@@ -13,9 +13,9 @@ pub unreachable-requires : goal.unreachable-requires
 unreachable-requires c =
     let size = c.requires.size in
     let k = c.args.functions in
-    let tells = subst (λ (text : List ℕ). Tells text c.in-Err-Refused.field-0) c.requires.text (rw c.in-Err-Refused.field-0-is at c.compile.ensures.refused) in
+    let tells = subst (λ (text : List ℕ). Tells text c.in-Err-Refused.field-0-0) c.requires.text (rw c.in-Err-Refused.field-0-is at c.in-Err-Refused.ensures.refused) in
     let only = one_answer (generated k) in
-    only.either c.in-Err-Refused.field-0 (accepted k size.0 size.1) tells
+    only.either c.in-Err-Refused.field-0-0 (accepted k size.0 size.1) tells
 
 pub returns-in-Ok : goal.returns-in-Ok
 returns-in-Ok c =
