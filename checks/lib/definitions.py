@@ -64,15 +64,16 @@ def rising(what, differences):
 
 def costs(source, core, plain, lean, selected, nodes):
     """Between any two events a run costs at most no more than the one above it, and at least no less. A pass may leave out what isn't
-    marked: of the code before it only marked instructions count at least, and nothing at most."""
+    marked: of the code before it only marked instructions count at least, and nothing at most. Leaner code is that of narrowed byte code,
+    in which an operator may be another one, so it is compared with byte code itself."""
     both = range(min(len(run.events) for run in (source, core, plain, lean, selected)) + 1)
     steps, least = [0] + source.marks, core.counted('least')
     rising('8192 a step less the most cost of byte code', [(i, 8192 * steps[i] - core.counted('most')[i]) for i in both])
     for what, more, less in (
         ('the most cost of byte code less that of the leaner code', core.counted('most'), lean.counted('most')),
         ('the most cost without selects less that with them', lean.counted('most'), selected.counted('most')),
-        ('what is marked in the code of functions less the least cost of byte code', plain.counted('marked of functions'), least),
-        ('the least cost of the leaner code less what is marked before', lean.counted('least'), plain.counted('marked')),
+        ('what is marked in the code of functions less the least cost of byte code', plain.counted('marked'), least),
+        ('the least cost of the leaner code less that of byte code', lean.counted('least'), least),
         ('the least cost with selects less that without them', selected.counted('least'), lean.counted('least')),
     ):
         rising(what, [(i, more[i] - less[i]) for i in both])
@@ -85,7 +86,7 @@ def costs(source, core, plain, lean, selected, nodes):
 
 def links(core, plain, lean):
     """The runs of symbolic code follow that of byte code at each of its moments, also where no event is near."""
-    ways = [(plain, 'most', 'marked of functions')] if plain is lean else [(plain, None, 'marked of functions'), (lean, 'most', None)]
+    ways = [(plain, 'most', 'marked')] if plain is lean else [(plain, None, 'marked'), (lean, 'most', 'least')]
     for run, most, least in ways:
         i = unfollowed(core, run, most, least)
         if i is not None:

@@ -10,9 +10,9 @@ def columns(run, names):
     return [length for length, _ in moments], *([counts[k] if k is not None else 0 for _, counts in moments] for k in at)
 
 
-def unfollowed(upper, lower, most, least):
+def unfollowed(upper, lower, most, least, from_start=False):
     """The first moment of the upper run to which no place belongs, or None. Given are the names of what the lower run is counted by;
-    where one is None, that isn't compared.
+    where one is None, that isn't compared. What it costs at least may be compared from the start alone.
 
     Of places of equal least cost only the last is kept, since it has all ways that the others have."""
     traces, dear, cheap = columns(upper, (most and 'most', least and 'least'))
@@ -24,7 +24,8 @@ def unfollowed(upper, lower, most, least):
         first, last = bisect_left(lengths, traces[i]), bisect_right(lengths, traces[i]) - 1
         found = {}
         for k in places:
-            at = max(k, first, bisect_left(leasts, leasts[k] + cheap[i] - cheap[i - 1]))
+            least_here = cheap[i] if from_start else leasts[k] + cheap[i] - cheap[i - 1]
+            at = max(k, first, bisect_left(leasts, least_here))
             end = min(last, bisect_right(mosts, mosts[k] + dear[i] - dear[i - 1]) - 1)
             while at <= end:
                 equal = min(end, bisect_right(leasts, leasts[at]) - 1)

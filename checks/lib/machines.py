@@ -107,9 +107,11 @@ def variable_keys(program, copy):
 
 
 class Core(Machine):
-    def __init__(self, shown, inputs, pairs):
+    """Byte code: that which the definitions make of the typed program, where no other one is given."""
+
+    def __init__(self, shown, inputs, pairs, program=None):
         super().__init__()
-        self.setting = Record(program=core_program(shown), outside=outside_of(inputs, pairs))
+        self.setting = Record(program=program or core_program(shown), outside=outside_of(inputs, pairs))
         self.step_of = definition(CORE + 'Machine', 'core_step')
         self.most_of, self.least_of = definition(CORE + 'Cost', 'step_most'), definition(CORE + 'Cost', 'step_least')
         self.show = as_shown(shown)
@@ -162,14 +164,11 @@ def random_registers(random):
 
 @functools.lru_cache(1)
 def marked_prices(shown):
-    """By what runs of the code before the pass that makes it leaner are counted: what is marked in it, in any block or in those of
-    functions alone."""
+    """By what runs of the code before the pass that makes it leaner are counted: what is marked in the blocks of functions."""
     is_marked, variables = definition(SYM + 'Marks', 'is_marked'), Function(1, lambda c: shown.copies[c].variables)
-    marks = {block: [int(is_marked(variables, x)) for x in shown.plain[block]] for block in shown.plain}
-    functions = {block for block in marks if block[0] == 'Copy' and shown.copies[block[1]].function[0] == 'User'}
-    sure = definition(SYM + 'Cost', 'sure_prices')
-    return {'marked': sure(Function(2, lambda block, index: marks[block][index])),
-            'marked of functions': sure(Function(2, lambda block, index: marks[block][index] if block in functions else 0))}
+    functions = {block for block in shown.plain if block[0] == 'Copy' and shown.copies[block[1]].function[0] == 'User'}
+    marks = {block: [int(block in functions and is_marked(variables, x)) for x in code] for block, code in shown.plain.items()}
+    return {'marked': definition(SYM + 'Cost', 'sure_prices')(Function(2, lambda block, index: marks[block][index]))}
 
 
 def prices_by(price):
