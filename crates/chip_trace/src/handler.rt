@@ -15,8 +15,9 @@ pub fn handler_keeps()
 {}
 
 /// Main's instructions between two of its events may be put behind all runs of the handler that come between them. From a state at
-/// which main stands as at the first of them, with all that isn't main's as these runs leave it, they come to the same state, but for
-/// words of the return stack that aren't in use.
+/// which main stands as at the first of them, with what is of the handler, or seen by both, as these runs leave it, they make no event,
+/// change no byte but main's, and come to the same state, but for words of the return stack that aren't in use and for bytes of nobody,
+/// the saved context among them.
 pub fn main_goes_past()
     ensures { Passing }
 {}
