@@ -3,7 +3,7 @@ use Rattle.std.proofs.Common.{◌≡◌, ℕ, ◌*◌, Bool, true, false, not, �
 use Rattle.std.proofs.lemmas.Bool.{lt-leb, ltb-true}
 use Rattle.c_nodes.specs.Programs.{InitTree}
 use Rattle.c_typed.specs.Sameness.{is_array}
-use Rattle.c_typed.specs.Sound.{kept}
+use Rattle.c_typed.specs.Types.{kept}
 use Rattle.c_typed.specs.Trees as typed
 use Rattle.c_typed.specs.Trees.{Statement}
 use Rattle.c_typed.specs.Views.{statement_of}

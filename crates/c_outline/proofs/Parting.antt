@@ -2,7 +2,7 @@
 use Rattle.std.proofs.Common.{◌≡◌, ℕ, ◌+◌, ◌*◌, ◌%◌, ◌<◌, ◌^◌, Bool, true, false, not, ◌&&◌, if◌then◌else◌, nat_eq, nat_le, nat_lt, List, Option, Some, None, refl, sym, ap, ◌∙◌, arith}
 use Rattle.std.specs.Option.{option_map}
 use Rattle.std.proofs.lemmas.Grind.{common_steps}
-use Rattle.c_typed.specs.Sound.{kept}
+use Rattle.c_typed.specs.Types.{kept}
 use Rattle.c_typed.specs.declared.types.Qualified.{Qualified}
 use Rattle.c_typed.specs.declared.types.Ty.{Ty}
 use Rattle.c_typed.specs.declared.types.Ty.TheVariants.{Array}

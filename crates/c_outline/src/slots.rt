@@ -1,7 +1,7 @@
 //! What an initializer initializes, part by part (ISO/IEC 9899:1990, 6.5.7).
 
 ghost use Rattle.std.specs.Prelude.{◌≡◌, ◌+◌, ◌*◌, ◌<◌, ◌^◌, ◌&&◌, not, nat_le, if◌then◌else◌, nat_eq, slice_get, Some, None};
-ghost use Rattle.c_typed.specs.Sound as stated;
+ghost use Rattle.c_typed.specs.Types as stated;
 ghost use Rattle.type_rules.specs.Initializers as lists;
 ghost use Rattle.type_rules.specs.Known.{Known};
 ghost use Rattle.type_rules.specs.Rows.{fields_of, like, target_of};

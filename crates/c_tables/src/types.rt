@@ -2,7 +2,7 @@
 
 ghost use Rattle.std.specs.Prelude.{◌≡◌, Ok, [], map, is_some, if◌then◌else◌, slice_get, IfOk, IfErr, OnOk};
 ghost use Rattle.std.specs.Option.{option_map};
-ghost use Rattle.c_typed.specs.Sound as stated;
+ghost use Rattle.c_typed.specs.Types as stated;
 ghost use Rattle.c_typed.specs.Views.{structure_of};
 ghost use Rattle.type_rules.specs.Faults as kind;
 ghost use Rattle.type_rules.specs.Known.{Known};

@@ -1,11 +1,11 @@
 -- Whether statements, functions, static objects and structures fit, and what makes a program sound.
-use Rattle.std.specs.Prelude.{ℕ, suc, ◌+◌, ◌-◌, ◌*◌, ◌^◌, ◌%◌, nat_eq, nat_lt, nat_le, ℤ, int_le, Bool, true, false, not, ◌&&◌, ◌||◌, if◌then◌else◌, List, [], ◌∷◌, length, Option, Some, None, is_some, slice_get}
+use Rattle.std.specs.Prelude.{ℕ, suc, ◌+◌, ◌-◌, ◌*◌, nat_eq, nat_lt, nat_le, ℤ, int_le, Bool, true, false, not, ◌&&◌, ◌||◌, List, [], ◌∷◌, length, Option, Some, None, is_some, slice_get}
 use Rattle.std.specs.List.{list_all}
 use Rattle.c_typed.specs.Fits.{source_of, goes_to, fits, place_fits, Used, Alone}
 use Rattle.c_typed.specs.Sameness.{same_type, is_void, is_array, is_struct, is_scalar, is_promoted, is_some_member, is_complete}
 use Rattle.c_typed.specs.Trees as tree
 use Rattle.c_typed.specs.Trees.{Expression, Place, Item, Statement, Statements, Arm, Arms, LastArm, VariableTree, StaticTree, FunctionTree, MemberTree, StructureTree, Program}
-use Rattle.c_typed.specs.Types.{type_bytes, type_of, place_type}
+use Rattle.c_typed.specs.Types.{type_bytes, type_of, place_type, item_start, kept}
 use Rattle.c_typed.specs.Words.{item_bytes}
 use Rattle.c_typed.specs.declared.program.Initial.{Initial}
 use Rattle.c_typed.specs.declared.program.InitialByte.{InitialByte}
@@ -42,12 +42,6 @@ local_is_there f local = is_some (slice_get f.locals local)
 abbrev pub first_value_fits : Program → FunctionTree → Option VariableTree → Expression → Bool
 first_value_fits p f None e = false
 first_value_fits p f (Some v) e = value_fits p f v.ty.ty e
-
--- where an item stands in its local
-abbrev pub item_start : Item → ℕ
-item_start (tree.Scalar offset value) = offset
-item_start (tree.Struct offset from size) = offset
-item_start (tree.Text offset bytes size) = offset
 
 -- a structure of so many bytes
 abbrev pub copied_item_fits : Program → FunctionTree → Place → ℕ → Bool
@@ -149,11 +143,6 @@ unfoldable mutual
   pub last_fits : Program → FunctionTree → Bool → Bool → LastArm → Bool
   last_fits p f leaves repeats tree.NoLast = true
   last_fits p f leaves repeats (tree.Last s) = statement_fits p f false leaves repeats s
-
--- A number of bytes is exact below 2 to the 40. Beyond that only its rest modulo 65,536 is kept, which is what `sizeof`
--- shows of it; no object is as large.
-abbrev pub kept : ℕ → ℕ
-kept size = if nat_lt size (2 ^ 40) then size else size % 65536 + 2 ^ 40
 
 -- An array's elements have a row without qualifiers and a byte at least, and its size is that of its elements together.
 abbrev pub array_is_there : Program → Option Qualified → ℕ → ℕ → Bool

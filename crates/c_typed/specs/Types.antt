@@ -1,9 +1,9 @@
 -- The types of expressions and places, how many bytes they have, and the forms of places.
-use Rattle.std.specs.Prelude.{ℕ, List, Bool, true, false, Option, Some, None, ◌&&◌, slice_index}
+use Rattle.std.specs.Prelude.{ℕ, ◌+◌, ◌^◌, ◌%◌, nat_lt, List, Bool, true, false, Option, Some, None, ◌&&◌, if◌then◌else◌, slice_index}
 use Rattle.c_ints.specs.Range.{bytes_of}
 use Rattle.c_ints.specs.declared.types.IntTy.TheVariants as IntTy
 use Rattle.c_typed.specs.Trees as tree
-use Rattle.c_typed.specs.Trees.{Expression, Expressions, Place}
+use Rattle.c_typed.specs.Trees.{Expression, Expressions, Item, Place}
 use Rattle.c_typed.specs.declared.expression.PlaceForm.{PlaceForm}
 use Rattle.c_typed.specs.declared.expression.PlaceForm.TheVariants.{Fixed, Bit, Computed}
 use Rattle.c_typed.specs.declared.types.Qualified.{Qualified}
@@ -17,6 +17,17 @@ type_bytes sizes (Int ty) = bytes_of ty
 type_bytes sizes (Pointer target) = 2
 type_bytes sizes (Array element length size) = size
 type_bytes sizes (Struct number) = slice_index sizes number
+
+-- A number of bytes is exact below 2 to the 40. Beyond that only its rest modulo 65,536 is kept, which is what `sizeof`
+-- shows of it; no object is as large.
+abbrev pub kept : ℕ → ℕ
+kept size = if nat_lt size (2 ^ 40) then size else size % 65536 + 2 ^ 40
+
+-- where an item stands in its local
+abbrev pub item_start : Item → ℕ
+item_start (tree.Scalar offset value) = offset
+item_start (tree.Struct offset from size) = offset
+item_start (tree.Text offset bytes size) = offset
 
 -- The type of an expression's value.
 abbrev pub type_of : Expression → Ty

@@ -8,8 +8,7 @@ use Rattle.c_ints.specs.Range.{pattern}
 use Rattle.c_ints.specs.declared.types.IntTy.{IntTy}
 use Rattle.c_typed.specs.Trees as tree
 use Rattle.c_typed.specs.Trees.{Expression, Item, Statement, Statements, Arm, Arms, LastArm, Program, FunctionTree}
-use Rattle.c_typed.specs.Sound.{item_start}
-use Rattle.c_typed.specs.Types.{type_of}
+use Rattle.c_typed.specs.Types.{type_of, item_start}
 use Rattle.c_typed.specs.Words.{item_bytes}
 use Rattle.c_typed.specs.declared.calls.FnId.{FnId}
 use Rattle.c_typed.specs.declared.calls.FnId.TheVariants.{User, Helper}

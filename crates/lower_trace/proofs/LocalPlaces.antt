@@ -6,7 +6,7 @@ use Rattle.c_ints.specs.declared.types.IntTy.TheVariants as int
 use Rattle.c_typed.specs.Fits.{is_named, place_rule_holds}
 use Rattle.c_typed.specs.Sameness.{same_int, same_type, same_flag, same_qualified}
 use Rattle.c_typed.specs.Trees as tree
-use Rattle.c_typed.specs.Sound.{item_start}
+use Rattle.c_typed.specs.Types.{item_start}
 use Rattle.c_typed.specs.Trees.{Item, VariableTree, Program}
 use Rattle.c_typed.specs.Words.{variable_bytes, item_bytes}
 use Rattle.c_typed.specs.declared.expression.Object.TheVariants as names

@@ -4,10 +4,10 @@ use Rattle.std.proofs.lemmas.Bool.{and_parts, false≢true}
 use Rattle.c_typed.proofs.Facts.{body_of_sound}
 use Rattle.c_typed.specs.Fits.{fits, goes_to, place_fits, source_of, Used}
 use Rattle.c_typed.specs.Sameness.{is_promoted, is_scalar, is_struct}
-use Rattle.c_typed.specs.Sound.{any_condition_fits, any_fits, arm_fits, arms_fit, cases_fit, condition_fits, count_of, default_fits, first_value_fits, is_some_arm, is_sound, item_fits, item_start, items_fit, last_fits, lies_within, list_fits, loop_fits, return_fits, statement_fits, statements_fit, switch_rule, value_fits}
+use Rattle.c_typed.specs.Sound.{any_condition_fits, any_fits, arm_fits, arms_fit, cases_fit, condition_fits, count_of, default_fits, first_value_fits, is_some_arm, is_sound, item_fits, items_fit, last_fits, lies_within, list_fits, loop_fits, return_fits, statement_fits, statements_fit, switch_rule, value_fits}
 use Rattle.c_typed.specs.Trees as tree
 use Rattle.c_typed.specs.Trees.{Arm, Arms, Expression, FunctionTree, Item, LastArm, Program, Statement, Statements, VariableTree}
-use Rattle.c_typed.specs.Types.{place_type, type_bytes, type_of}
+use Rattle.c_typed.specs.Types.{place_type, type_bytes, type_of, item_start}
 use Rattle.c_typed.specs.Words.{item_bytes}
 use Rattle.c_typed.specs.declared.types.Ty.{Ty}
 use Rattle.src_rules.specs.Giving.{statements_behind}

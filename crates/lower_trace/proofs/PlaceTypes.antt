@@ -7,10 +7,10 @@ use Rattle.c_typed.proofs.Facts.{function_of_sound, static_of_sound}
 use Rattle.c_typed.specs.Fits.{is_device, is_named, is_open, member_at, place_rule_holds, register_type, static_type, variable_type}
 use Rattle.c_typed.specs.Rules.{member_fits}
 use Rattle.c_typed.specs.Sameness.{is_array, is_complete, is_scalar, is_struct, is_the, members_in, pointed, same_flag, same_qualified, same_type}
-use Rattle.c_typed.specs.Sound.{function_fits, has_bytes, initial_fits, is_sound, kept, local_fits, members_fit, object_fits, param_fits, result_fits, static_fits, statements_fit, structure_fits, target_fits, type_is_there}
+use Rattle.c_typed.specs.Sound.{function_fits, has_bytes, initial_fits, is_sound, local_fits, members_fit, object_fits, param_fits, result_fits, static_fits, statements_fit, structure_fits, target_fits, type_is_there}
 use Rattle.c_typed.specs.Trees as tree
 use Rattle.c_typed.specs.Trees.{FunctionTree, MemberTree, Place, Program, StaticTree, StructureTree, VariableTree}
-use Rattle.c_typed.specs.Types.{place_type, type_bytes, type_of}
+use Rattle.c_typed.specs.Types.{place_type, type_bytes, type_of, kept}
 use Rattle.c_typed.specs.declared.expression.Object.TheVariants as names
 use Rattle.c_typed.specs.declared.types.Qualified.{Qualified}
 use Rattle.c_typed.specs.declared.types.Ty.{Ty}

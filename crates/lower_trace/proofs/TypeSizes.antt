@@ -9,9 +9,9 @@ use Rattle.std.specs.Prelude.{is_some}
 use Rattle.c_typed.specs.Rules.{counts_in}
 use Rattle.c_typed.specs.Sameness.{is_complete, is_scalar, is_some_member, members_in, pointed}
 use Rattle.c_typed.specs.Shown.{size_of, structure_of}
-use Rattle.c_typed.specs.Sound.{array_is_there, function_fits, has_bytes, initial_fits, is_sound, kept, local_fits, members_fit, object_fits, param_fits, result_fits, static_fits, statements_fit, structure_fits, target_fits, type_is_there}
+use Rattle.c_typed.specs.Sound.{array_is_there, function_fits, has_bytes, initial_fits, is_sound, local_fits, members_fit, object_fits, param_fits, result_fits, static_fits, statements_fit, structure_fits, target_fits, type_is_there}
 use Rattle.c_typed.specs.Trees.{FunctionTree, MemberTree, Program, StaticTree, StructureTree, VariableTree}
-use Rattle.c_typed.specs.Types.{type_bytes}
+use Rattle.c_typed.specs.Types.{type_bytes, kept}
 use Rattle.c_typed.specs.Views.{program_of}
 use Rattle.c_typed.specs.declared.Typed.{Typed}
 use Rattle.c_typed.specs.declared.types.Qualified.{Qualified}

@@ -6,10 +6,10 @@ use Rattle.c_typed.proofs.Facts.{called_function_is_there}
 use Rattle.c_typed.specs.Calls.{calls, place_calls, arguments_calls, helper_calls, helper_for, difference_helper, any_calls, items_calls, statement_calls, statements_calls, arm_calls, arms_calls, last_calls}
 use Rattle.c_typed.specs.Fits.{source_of, goes_to, params_of, operand_standing, rule_holds, place_rule_holds, fits, place_fits, arguments_fit, Standing, Used, Pointed, Alone}
 use Rattle.c_typed.specs.Sameness.{is_scalar, is_struct, is_promoted}
-use Rattle.c_typed.specs.Sound.{any_fits, condition_fits, any_condition_fits, value_fits, first_value_fits, item_start, item_fits, lies_within, items_fit, has_parts, list_fits, loop_fits, default_fits, cases_fit, count_of, return_fits, switch_rule, is_some_arm, statement_fits, statements_fit, arm_fits, arms_fit, last_fits}
+use Rattle.c_typed.specs.Sound.{any_fits, condition_fits, any_condition_fits, value_fits, first_value_fits, item_fits, lies_within, items_fit, has_parts, list_fits, loop_fits, default_fits, cases_fit, count_of, return_fits, switch_rule, is_some_arm, statement_fits, statements_fit, arm_fits, arms_fit, last_fits}
 use Rattle.c_typed.specs.Trees as tree
 use Rattle.c_typed.specs.Trees.{Expression, Expressions, Place, Item, Statement, Statements, Arm, Arms, LastArm, VariableTree, FunctionTree, Program}
-use Rattle.c_typed.specs.Types.{type_bytes, type_of, is_constant, place_type}
+use Rattle.c_typed.specs.Types.{type_bytes, type_of, is_constant, place_type, item_start}
 use Rattle.c_typed.specs.Words.{item_bytes}
 use Rattle.c_typed.specs.declared.calls.FnId.{FnId}
 use Rattle.c_typed.specs.declared.calls.FnId.TheVariants as callee

@@ -3,10 +3,10 @@ use Rattle.std.proofs.Common.{◌≡◌, ℕ, zero, suc, ◌+◌, ◌-◌, ◌*�
 use Rattle.std.proofs.lemmas.Bool.{ltb-true, ltb-false, leb-false}
 use Rattle.c_typed.specs.Fits.{source_of, goes_to, fits, place_fits, Used}
 use Rattle.c_typed.specs.Sameness.{is_struct}
-use Rattle.c_typed.specs.Sound.{item_start, item_fits, lies_within, items_fit}
+use Rattle.c_typed.specs.Sound.{item_fits, lies_within, items_fit}
 use Rattle.c_typed.specs.Trees as tree
 use Rattle.c_typed.specs.Trees.{Expression, Place, Item, VariableTree, FunctionTree, Program}
-use Rattle.c_typed.specs.Types.{type_bytes, type_of, value_bytes, place_type, form_of}
+use Rattle.c_typed.specs.Types.{type_bytes, type_of, value_bytes, place_type, form_of, item_start}
 use Rattle.c_typed.specs.Words.{words, place_words, struct_words, item_words, items_words, item_bytes, items_bytes}
 use Rattle.c_typed.specs.declared.expression.PlaceForm.TheVariants as form
 use Rattle.call_graph.specs.declared.types.FnCopy.{FnCopy}

@@ -9,10 +9,10 @@ use Rattle.c_typed.specs.Fits.{source_of, goes_to, keeps_from, is_memory, is_rea
 use Rattle.c_typed.specs.Room.{room, unary_room}
 use Rattle.c_typed.specs.Rules.{is_start, unary_fits, choice_fits, assign_fits, is_writable, integer_update_fits, moves_by, moves, integer_step_fits, counts_in, member_fits}
 use Rattle.c_typed.specs.Sameness.{same_type, same_flag, is_scalar, is_plain_int, is_promoted, is_pointer, is_void, is_complete, is_the, pointed, element_of, members_in}
-use Rattle.c_typed.specs.Sound.{type_is_there, kept, has_bytes, members_fit, structure_fits, static_fits, local_fits, param_fits}
+use Rattle.c_typed.specs.Sound.{type_is_there, has_bytes, members_fit, structure_fits, static_fits, local_fits, param_fits}
 use Rattle.c_typed.specs.Trees as tree
 use Rattle.c_typed.specs.Trees.{Expression, Place, MemberTree, StructureTree, VariableTree, StaticTree, FunctionTree, Program}
-use Rattle.c_typed.specs.Types.{type_bytes, value_bytes, type_of, place_type}
+use Rattle.c_typed.specs.Types.{type_bytes, value_bytes, type_of, place_type, kept}
 use Rattle.c_typed.specs.declared.types.Qualified.{Qualified}
 use Rattle.c_typed.specs.declared.types.Ty.{Ty}
 use Rattle.c_typed.specs.declared.types.Ty.TheVariants.{Void, Int, Pointer, Array, Struct}

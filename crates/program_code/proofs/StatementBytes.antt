@@ -5,10 +5,10 @@ use Rattle.c_typed.specs.Calls.{calls, any_calls, item_calls, items_calls, state
 use Rattle.c_typed.specs.Fits.{source_of, goes_to, keeps_from, fits, place_fits, Used, Alone}
 use Rattle.c_typed.specs.Room.{room, any_room, local_room, item_room, items_room, switch_room, statement_room, statements_room, arm_room, arms_room, last_room}
 use Rattle.c_typed.specs.Sameness.{same_type, is_scalar, is_promoted, is_struct}
-use Rattle.c_typed.specs.Sound.{any_fits, condition_fits, any_condition_fits, first_value_fits, item_start, item_fits, lies_within, has_parts, items_fit, list_fits, loop_fits, cases_fit, default_fits, count_of, return_fits, switch_rule, is_some_arm, statement_fits, statements_fit, arm_fits, arms_fit, last_fits}
+use Rattle.c_typed.specs.Sound.{any_fits, condition_fits, any_condition_fits, first_value_fits, item_fits, lies_within, has_parts, items_fit, list_fits, loop_fits, cases_fit, default_fits, count_of, return_fits, switch_rule, is_some_arm, statement_fits, statements_fit, arm_fits, arms_fit, last_fits}
 use Rattle.c_typed.specs.Trees as tree
 use Rattle.c_typed.specs.Trees.{Expression, Item, Statement, Statements, Arm, Arms, LastArm, VariableTree, FunctionTree, Program}
-use Rattle.c_typed.specs.Types.{type_bytes, value_bytes, type_of, place_type}
+use Rattle.c_typed.specs.Types.{type_bytes, value_bytes, type_of, place_type, item_start}
 use Rattle.c_typed.specs.Words.{item_bytes, variable_bytes}
 use Rattle.c_typed.specs.declared.statement.LoopForm.{LoopForm}
 use Rattle.c_typed.specs.declared.statement.LoopForm.TheVariants.{While, Do, For}

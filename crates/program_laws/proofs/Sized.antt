@@ -8,9 +8,9 @@ use Rattle.c_ints.specs.Range.{bytes_of}
 use Rattle.c_ints.specs.declared.types.IntTy.{IntTy}
 use Rattle.c_ints.specs.declared.types.IntTy.TheVariants as int
 use Rattle.c_typed.specs.Sameness.{is_complete, is_some_member, members_in}
-use Rattle.c_typed.specs.Sound.{kept, array_is_there, type_is_there, object_fits, has_bytes, members_fit, target_fits, structure_fits, initial_fits, static_fits, function_fits, is_sound}
+use Rattle.c_typed.specs.Sound.{array_is_there, type_is_there, object_fits, has_bytes, members_fit, target_fits, structure_fits, initial_fits, static_fits, function_fits, is_sound}
 use Rattle.c_typed.specs.Trees.{MemberTree, StaticTree, Program}
-use Rattle.c_typed.specs.Types.{type_bytes}
+use Rattle.c_typed.specs.Types.{type_bytes, kept}
 use Rattle.c_typed.specs.Views.{size_of, structure_of, static_of, program_of}
 use Rattle.c_typed.specs.Words.{statics_bytes}
 use Rattle.c_typed.specs.declared.program.Typed.{Typed}

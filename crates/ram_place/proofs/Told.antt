@@ -124,15 +124,15 @@ all_placed e p objects copies given frames same stood told =
     }
 
 -- with none left out all static objects are placed
-all_kept : (p : Program) (without : List Bool) → without ≡ [] → kept p without ≡ p.statics
-all_kept p without none = ap (λ (list : List Bool). kept_from 0 list p.statics) none ∙ kept_none 0 p.statics
+all_kept : (p : Program) (without : List ℕ) → without ≡ [] → kept p without ≡ p.statics
+all_kept p without none = ap (λ (list : List ℕ). kept_from 0 list p.statics) none ∙ kept_none 0 p.statics
 
-pub none_out : (p : Program) (without : List Bool) (top : ℕ) (copies : List FnCopy) (r : Result Placed PlaceError) → without ≡ [] → TellsPlacingIn (but_below p without top) p copies r → TellsPlacingIn (whole_below p top) p copies r
+pub none_out : (p : Program) (without : List ℕ) (top : ℕ) (copies : List FnCopy) (r : Result Placed PlaceError) → without ≡ [] → TellsPlacingIn (but_below p without top) p copies r → TellsPlacingIn (whole_below p top) p copies r
 none_out p without top copies r none told =
     let P : List StaticTree → Type 0 = λ (list : List StaticTree). TellsPlacingIn (record { statics = list; top = top }) p copies r in
     subst P (all_kept p without none) told
 
-pub none_but : (p : Program) (without : List Bool) (copies : List FnCopy) (r : Result Placed PlaceError) → without ≡ [] → IfOk r (λ placed. IsPlacingBut p copies without (map object_of placed.objects.items) (map frame_of placed.frames.items))
+pub none_but : (p : Program) (without : List ℕ) (copies : List FnCopy) (r : Result Placed PlaceError) → without ≡ [] → IfOk r (λ placed. IsPlacingBut p copies without (map object_of placed.objects.items) (map frame_of placed.frames.items))
     → IfOk r (λ placed. IsPlacing p copies (map object_of placed.objects.items) (map frame_of placed.frames.items))
 none_but p without copies r none told =
     let P : List StaticTree → Type 0 = λ (list : List StaticTree). IfOk r (λ placed. IsPlacingIn (record { statics = list; top = 0x200 }) p copies (map object_of placed.objects.items) (map frame_of placed.frames.items)) in

@@ -1,6 +1,7 @@
 -- Where the static objects and the frames of a program stand (compiled stack as in the HI-TECH PICC manual; one copy of a
 -- function for each root, and the order of placing, are the project's own).
-use Rattle.std.specs.Prelude.{◌≡◌, ℕ, ◌+◌, ◌<◌, Bool, true, false, ◌||◌, if◌then◌else◌, ◌⊎◌, List, [], ◌∷◌, length, get_or, take, Some, slice_get}
+use Rattle.std.specs.Prelude.{◌≡◌, ℕ, ◌+◌, ◌<◌, Bool, true, false, ◌||◌, if◌then◌else◌, ◌⊎◌, List, [], ◌∷◌, length, nat_eq, take, Some, slice_get}
+use Rattle.std.specs.List.{list_any}
 use Rattle.c_typed.specs.Chains.{graph_of}
 use Rattle.c_typed.specs.Trees.{StaticTree, Program}
 use Rattle.c_typed.specs.Types.{type_bytes}
@@ -17,25 +18,29 @@ pub record Extent : Type 0 where
   pub statics : List StaticTree
   pub top : ℕ
 
--- the static objects, of which the first has this number, but those that are marked by their numbers
-abbrev pub kept_from : ℕ → List Bool → List StaticTree → List StaticTree
-kept_from n without [] = []
-kept_from n without (s ∷ statics) = if get_or without n false then kept_from (n + 1) without statics else s ∷ kept_from (n + 1) without statics
+-- whether the static object of a number is among those that are left out
+abbrev pub is_left_out : List ℕ → ℕ → Bool
+is_left_out without n = list_any (λ left. nat_eq left n) without
 
-abbrev pub kept : Program → List Bool → List StaticTree
+-- the static objects, of which the first has this number, but those that are left out
+abbrev pub kept_from : ℕ → List ℕ → List StaticTree → List StaticTree
+kept_from n without [] = []
+kept_from n without (s ∷ statics) = if is_left_out without n then kept_from (n + 1) without statics else s ∷ kept_from (n + 1) without statics
+
+abbrev pub kept : Program → List ℕ → List StaticTree
 kept p without = kept_from 0 without p.statics
 
--- all static objects, in the whole memory; in the memory below a top; and all but those that are marked
+-- all static objects, in the whole memory; in the memory below a top; and all but those that are left out
 abbrev pub whole : Program → Extent
 whole p = record { statics = p.statics; top = 0x200 }
 
 abbrev pub whole_below : Program → ℕ → Extent
 whole_below p top = record { statics = p.statics; top = top }
 
-abbrev pub but : Program → List Bool → Extent
+abbrev pub but : Program → List ℕ → Extent
 but p without = record { statics = kept p without; top = 0x200 }
 
-abbrev pub but_below : Program → List Bool → ℕ → Extent
+abbrev pub but_below : Program → List ℕ → ℕ → Extent
 but_below p without top = record { statics = kept p without; top = top }
 
 -- ---- lines
@@ -130,7 +135,7 @@ abbrev pub IsPlacing : Program → List FnCopy → List ObjectLine → List Fram
 IsPlacing p = IsPlacingIn (whole p) p
 
 -- The same, but for static objects that are marked, which have no lines.
-abbrev pub IsPlacingBut : Program → List FnCopy → List Bool → List ObjectLine → List FrameLine → Type 0
+abbrev pub IsPlacingBut : Program → List FnCopy → List ℕ → List ObjectLine → List FrameLine → Type 0
 IsPlacingBut p copies without = IsPlacingIn (but p without) p copies
 
 abbrev pub LacksObject : Program → List ℕ → Type 0

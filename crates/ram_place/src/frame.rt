@@ -103,7 +103,7 @@ pub fn block_words(p: &Typed, function: FnId) -> u64
 }
 
 /// How many bytes a static object has, if it isn't left out.
-fn bytes_kept(structures: &[Structure], object: &Static, without: &[bool], number: usize) -> u64
+fn bytes_kept(structures: &[Structure], object: &Static, without: &[u32], number: usize) -> u64
     ensures { result ≡ capped (start.bytes_kept (map size_of structures.now) without.now number (static_of object.now)) }
 {
     if is_left_out(without, number) {
@@ -112,7 +112,7 @@ fn bytes_kept(structures: &[Structure], object: &Static, without: &[bool], numbe
     bytes_of(structures, object.ty.ty)
 }
 
-fn statics_bytes(structures: &[Structure], statics: &[Static], without: &[bool]) -> u64
+fn statics_bytes(structures: &[Structure], statics: &[Static], without: &[u32]) -> u64
     ensures { result ≡ capped (stated.statics_bytes (map size_of structures.now) (placement.kept_from 0 without.now (map static_of statics.now))) }
 {
     let mut sum = 0;
@@ -122,8 +122,8 @@ fn statics_bytes(structures: &[Structure], statics: &[Static], without: &[bool])
     sum
 }
 
-/// How many words the start block is stated to have, where the static objects that are marked get no first bytes.
-pub fn start_words_but(p: &Typed, without: &[bool]) -> u64
+/// How many words the start block is stated to have, where static objects that are left out by their numbers get no first bytes.
+pub fn start_words_but(p: &Typed, without: &[u32]) -> u64
     ensures { result ≡ capped (start.start_size_but (program_of p.now) without.now) }
 {
     plus(

@@ -1,13 +1,11 @@
 //! Static objects that are left out.
 
-ghost use Rattle.std.specs.Prelude.{◌≡◌, false, get_or};
+ghost use Rattle.std.specs.Prelude.{◌≡◌};
+ghost use Rattle.ram_place.specs.Placement as stated;
 
-/// Whether the static object of this number is one of those that are left out. None is that has no mark.
-pub fn is_left_out(without: &[bool], number: usize) -> bool
-    ensures { result ≡ get_or without.now number false }
+/// Whether the static object of this number is among those that are left out.
+pub fn is_left_out(without: &[u32], number: usize) -> bool
+    ensures { result ≡ stated.is_left_out without.now number }
 {
-    match without.get(number) {
-        Some(mark) => *mark,
-        None => false,
-    }
+    without.iter().any(|left| *left as usize == number)
 }

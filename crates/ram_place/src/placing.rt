@@ -131,7 +131,7 @@ struct Objects {
 fn place_objects(
     alloc: Global,
     p: &Typed,
-    without: &[bool],
+    without: &[u32],
     top: u16,
 ) -> Result<Objects, PlaceError>
     ensures { answers.TellsObjects (stated.but_below (program_of p.now) without.now top) (program_of p.now) result }
@@ -218,7 +218,7 @@ fn covered(objects: &Objects, frames: &[FrameLine]) -> u16
     taken.count()
 }
 
-/// The addresses of a program with these copies, but for static objects that are marked, which have none. The others are placed in order of
+/// The addresses of a program with these copies, but for static objects that are left out by their numbers, which have none. The others are placed in order of
 /// declaration, and then the frames in the order of the copies; each goes whole into one region, at the lowest address
 /// where it overlaps no static object and no earlier frame that may be live together with it, if it ends there at the top or before it. What has no
 /// bytes stands at 20h and overlaps nothing.
@@ -227,7 +227,7 @@ pub fn place_within(
     alloc: Global,
     p: &Typed,
     copies: &Copies,
-    without: &[bool],
+    without: &[u32],
     top: u16,
 ) -> Result<Placed, PlaceError>
     // The copies are those of the program.
@@ -261,7 +261,7 @@ pub fn place_but(
     alloc: Global,
     p: &Typed,
     copies: &Copies,
-    without: &[bool],
+    without: &[u32],
 ) -> Result<Placed, PlaceError>
     // The copies are those of the program.
     requires known { AreCopies (program_of p.now) copies.now.list.items }

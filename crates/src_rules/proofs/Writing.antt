@@ -5,10 +5,9 @@ use Rattle.std.proofs.lemmas.List.{length-append}
 use Rattle.std.proofs.lemmas.Option.{slice_get_within}
 use Rattle.std.specs.Prelude.{if◌then◌else◌, nat_le, slice_get}
 use Rattle.c_ints.specs.declared.types.IntTy.TheVariants as int
-use Rattle.c_typed.specs.Sound.{item_start}
 use Rattle.c_typed.specs.Trees as tree
 use Rattle.c_typed.specs.Trees.{Expression, Place, Item, Statement, Program, VariableTree}
-use Rattle.c_typed.specs.Types.{type_of, place_type}
+use Rattle.c_typed.specs.Types.{type_of, place_type, item_start}
 use Rattle.c_typed.specs.Words.{item_bytes}
 use Rattle.c_typed.specs.declared.types.Ty.{Ty}
 use Rattle.pic_world.specs.World.{World}

@@ -6,10 +6,10 @@ use Rattle.c_ints.specs.Range.{IsInRange}
 use Rattle.c_typed.specs.Chains.{graph_of, Calls}
 use Rattle.c_typed.specs.Fits.{rule_holds, place_rule_holds, Standing}
 use Rattle.c_typed.specs.Sameness.{is_scalar, is_struct, is_promoted}
-use Rattle.c_typed.specs.Sound.{item_start, lies_within, has_parts, default_fits, cases_fit, count_of, is_some_arm}
+use Rattle.c_typed.specs.Sound.{lies_within, has_parts, default_fits, cases_fit, count_of, is_some_arm}
 use Rattle.c_typed.specs.Trees as tree
 use Rattle.c_typed.specs.Trees.{Expression, Expressions, Place, Item, Statement, Statements, Arm, Arms, LastArm, VariableTree, FunctionTree, StaticTree, Program}
-use Rattle.c_typed.specs.Types.{type_bytes, type_of, place_type}
+use Rattle.c_typed.specs.Types.{type_bytes, type_of, place_type, item_start}
 use Rattle.c_typed.specs.Words.{item_bytes}
 use Rattle.c_typed.specs.declared.types.Ty.{Ty}
 use Rattle.c_typed.specs.declared.types.Ty.TheVariants as types

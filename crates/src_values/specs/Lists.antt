@@ -1,6 +1,6 @@
 -- The bytes of a local that the items of its list have.
 use Rattle.std.specs.Prelude.{ℕ, ◌+◌, Bool, true, false, not, ◌&&◌, nat_lt, if◌then◌else◌, List, [], ◌∷◌, zero, suc}
-use Rattle.c_typed.specs.Sound.{item_start}
+use Rattle.c_typed.specs.Types.{item_start}
 use Rattle.c_typed.specs.Trees.{Item}
 use Rattle.c_typed.specs.Words.{item_bytes}
 

@@ -1,8 +1,7 @@
 -- Types: the rows of what is pointed to and of what arrays are made of, structures and their tags (ISO/IEC 9899:1990, 6.1.2.5, 6.5.2).
 use Rattle.std.specs.Prelude.{ℕ, ◌+◌, ◌*◌, zero, suc, Bool, true, false, not, if◌then◌else◌, nat_eq, List, [], ◌∷◌, ◌++◌, length, map, Option, Some, None, Ok, slice_get}
 use Rattle.c_typed.specs.Sameness.{same_qualified}
-use Rattle.c_typed.specs.Sound.{kept}
-use Rattle.c_typed.specs.Types.{type_bytes}
+use Rattle.c_typed.specs.Types.{type_bytes, kept}
 use Rattle.c_typed.specs.declared.types.Qualified.{Qualified}
 use Rattle.c_typed.specs.declared.types.Ty.{Ty}
 use Rattle.c_typed.specs.declared.types.Ty.TheVariants.{Void, Int, Pointer, Array, Struct}

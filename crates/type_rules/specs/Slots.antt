@@ -8,10 +8,9 @@ use Rattle.c_ints.specs.declared.types.IntTy.TheVariants as int
 use Rattle.c_token.specs.Constant.{element_at}
 use Rattle.c_nodes.specs.Words.{Symbol}
 use Rattle.c_typed.specs.Sameness.{same_type, is_scalar}
-use Rattle.c_typed.specs.Sound.{kept}
 use Rattle.c_typed.specs.Trees as typed
 use Rattle.c_typed.specs.Trees.{Expression, Place, Item}
-use Rattle.c_typed.specs.Types.{type_of}
+use Rattle.c_typed.specs.Types.{type_of, kept}
 use Rattle.c_typed.specs.declared.expression.Object.{Object}
 use Rattle.c_typed.specs.declared.expression.Object.TheVariants as object
 use Rattle.c_typed.specs.declared.program.Initial.{Initial}

@@ -5,7 +5,6 @@ use Rattle.std.proofs.lemmas.Bool.{false≢true}
 use Rattle.std.proofs.lemmas.Grind.{common_steps}
 use Rattle.std.proofs.lemmas.Option.{same_Some}
 use Rattle.c_typed.specs.Sameness.{is_scalar}
-use Rattle.c_typed.specs.Sound.{item_start, kept}
 use Rattle.c_typed.specs.Trees.{Item, FunctionTree, Program, Scalar, Text}
 use Rattle.c_typed.specs.declared.program.Initial.{Initial}
 use Rattle.c_typed.specs.declared.program.InitialByte.TheVariants as initial
@@ -21,7 +20,7 @@ use Rattle.typed_laws.specs.Tables.{at, Adds, Each, IsMember, AreMembers, Orderl
 use Rattle.typed_laws.proofs.Growing.{leads_back}
 use Rattle.typed_laws.proofs.Lists.{none_is}
 use Rattle.c_typed.specs.declared.program.InitialByte.{InitialByte}
-use Rattle.c_typed.specs.Types.{type_of}
+use Rattle.c_typed.specs.Types.{type_of, item_start, kept}
 use Rattle.c_typed.specs.Trees as typed
 
 -- ---- lists in order

@@ -5,7 +5,7 @@ use Rattle.std.proofs.lemmas.Bool.{and_parts, and_from, or_left, or_right, false
 use Rattle.std.proofs.lemmas.Grind.{common_steps}
 use Rattle.c_typed.specs.Fits.{is_open}
 use Rattle.c_typed.specs.Sameness.{same_flag, same_qualified, is_array}
-use Rattle.c_typed.specs.Sound.{kept}
+use Rattle.c_typed.specs.Types.{kept}
 use Rattle.c_typed.specs.declared.types.Qualified.{Qualified}
 use Rattle.c_typed.specs.declared.types.Ty.{Ty}
 use Rattle.c_typed.specs.declared.types.Ty.TheVariants.{Void, Int, Pointer, Array, Struct}

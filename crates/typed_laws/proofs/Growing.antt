@@ -1,9 +1,8 @@
 -- Rows of types are added: the tables stay in order, and what was known of types, values and places stays so.
 use Rattle.std.proofs.Common.{◌≡◌, ℕ, ◌+◌, Bool, true, List, [], ◌∷◌, Option, Some, ◌⊎◌, inl, inr, refl, sym, ◌∙◌, subst}
 use Rattle.std.specs.Prelude.{slice_get}
-use Rattle.c_typed.specs.Sound.{kept}
 use Rattle.c_typed.specs.Trees.{Expression, Place, FunctionTree, Program}
-use Rattle.c_typed.specs.Types.{type_of, place_type}
+use Rattle.c_typed.specs.Types.{type_of, place_type, kept}
 use Rattle.c_typed.specs.Fits.{Standing}
 use Rattle.c_typed.specs.declared.types.Qualified.{Qualified}
 use Rattle.c_typed.specs.declared.types.Ty.{Ty}

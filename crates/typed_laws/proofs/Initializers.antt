@@ -14,11 +14,11 @@ use Rattle.c_typed.specs.Fits.{place_fits, Used}
 use Rattle.c_typed.specs.Folding.{folded}
 use Rattle.c_typed.specs.declared.folding.Folded.{Folded}
 use Rattle.c_typed.specs.Sameness.{same_type, is_array, is_struct, is_scalar}
-use Rattle.c_typed.specs.Sound.{item_start, value_fits, item_fits, is_changeable, kept}
+use Rattle.c_typed.specs.Sound.{value_fits, item_fits, is_changeable}
 use Rattle.c_typed.specs.declared.program.Initial.{Initial}
 use Rattle.c_typed.specs.Trees as typed
 use Rattle.c_typed.specs.Trees.{Expression, Place, Item, FunctionTree, Program}
-use Rattle.c_typed.specs.Types.{type_of, place_type, type_bytes}
+use Rattle.c_typed.specs.Types.{type_of, place_type, type_bytes, item_start, kept}
 use Rattle.c_typed.specs.declared.types.Qualified.{Qualified}
 use Rattle.c_typed.specs.declared.types.Ty.{Ty}
 use Rattle.c_typed.specs.declared.types.Ty.TheVariants.{Void, Int, Pointer, Array, Struct}

@@ -4,7 +4,8 @@ use Rattle.std.proofs.lemmas.Bool.{and_from, false≢true}
 use Rattle.std.proofs.lemmas.Grind.{common_steps}
 use Rattle.c_typed.specs.Fits.{is_open}
 use Rattle.c_typed.specs.Sameness.{same_flag, same_qualified, is_scalar}
-use Rattle.c_typed.specs.Sound.{item_start, item_fits, lies_within, items_fit, has_parts}
+use Rattle.c_typed.specs.Sound.{item_fits, lies_within, items_fit, has_parts}
+use Rattle.c_typed.specs.Types.{item_start}
 use Rattle.c_typed.specs.Trees.{Item, FunctionTree, Program}
 use Rattle.c_typed.specs.Words.{item_bytes}
 use Rattle.c_typed.specs.declared.types.Qualified.{Qualified}

@@ -11,10 +11,10 @@ use Rattle.c_typed.specs.Fits.{is_converted, is_memory, is_reached, reached_by, 
 use Rattle.c_typed.specs.Rules.{address_fits, start_fits, is_start, member_fits, deref_fits}
 use Rattle.c_typed.specs.Sameness.{same_type, same_flag, is_array, pointed, element_of, part_of, is_the, members_in}
 use Rattle.c_typed.specs.Sameness.{is_complete as is_whole}
-use Rattle.c_typed.specs.Sound.{is_changeable, kept}
+use Rattle.c_typed.specs.Sound.{is_changeable}
 use Rattle.c_typed.specs.Trees as tree
 use Rattle.c_typed.specs.Trees.{Expression, Place, FunctionTree, MemberTree, Program}
-use Rattle.c_typed.specs.Types.{type_of, place_type}
+use Rattle.c_typed.specs.Types.{type_of, place_type, kept}
 use Rattle.c_typed.specs.declared.types.Qualified.{Qualified}
 use Rattle.c_typed.specs.declared.types.Ty.{Ty}
 use Rattle.c_typed.specs.declared.types.Ty.TheVariants.{Void, Int, Pointer, Array, Struct}

@@ -7,9 +7,9 @@ use Rattle.std.proofs.lemmas.Grind.{common_steps}
 use Rattle.std.proofs.lemmas.Option.{same_Some}
 use Rattle.c_typed.specs.Sameness.{is_void, is_array, is_struct, is_scalar}
 use Rattle.c_typed.specs.Sameness.{is_complete as is_whole}
-use Rattle.c_typed.specs.Sound.{kept, is_changeable, array_is_there, type_is_there, target_fits, object_fits, members_fit, has_bytes, structure_fits, byte_fits, initial_fits, static_fits, result_fits, is_sound, function_fits}
+use Rattle.c_typed.specs.Sound.{is_changeable, array_is_there, type_is_there, target_fits, object_fits, members_fit, has_bytes, structure_fits, byte_fits, initial_fits, static_fits, result_fits, is_sound, function_fits}
 use Rattle.c_typed.specs.Trees.{StaticTree, FunctionTree, Program}
-use Rattle.c_typed.specs.Types.{type_bytes}
+use Rattle.c_typed.specs.Types.{type_bytes, kept}
 use Rattle.c_typed.specs.declared.program.Initial.{Initial}
 use Rattle.c_typed.specs.declared.program.InitialByte.{InitialByte}
 use Rattle.c_typed.specs.declared.program.InitialByte.TheVariants as initial

@@ -1,10 +1,10 @@
 -- What an initializer gives to a part of an object: items or first bytes that stand in order within it.
 use Rattle.std.specs.Prelude.{◌≡◌, ℕ, zero, suc, ◌+◌, ◌*◌, ◌^◌, ◌<◌, ◌≤◌, nat_lt, Bool, true, false, List, [], ◌∷◌, ◌++◌, Option, Some, None, slice_get}
 use Rattle.c_typed.specs.Sameness.{is_array, is_scalar}
-use Rattle.c_typed.specs.Sound.{item_start, item_fits, is_changeable, kept}
+use Rattle.c_typed.specs.Sound.{item_fits, is_changeable}
 use Rattle.c_typed.specs.Trees as tree
 use Rattle.c_typed.specs.Trees.{Expression, Item, FunctionTree, Program}
-use Rattle.c_typed.specs.Types.{type_of}
+use Rattle.c_typed.specs.Types.{type_of, item_start, kept}
 use Rattle.c_typed.specs.Words.{item_bytes}
 use Rattle.c_typed.specs.declared.program.Initial.{Initial}
 use Rattle.c_typed.specs.declared.program.InitialByte.{InitialByte}

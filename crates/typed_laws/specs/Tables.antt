@@ -2,7 +2,7 @@
 use Rattle.std.specs.Prelude.{◌≡◌, ℕ, ◌+◌, ◌*◌, ◌<◌, nat_lt, Bool, true, false, ◌&&◌, ◌||◌, List, [], ◌∷◌, map, Option, Some, is_some, slice_get, slice_index}
 use Rattle.c_typed.specs.Fits.{declared_type, is_named, is_device, is_no_register, names_local}
 use Rattle.c_typed.specs.Sameness.{is_array}
-use Rattle.c_typed.specs.Sound.{kept}
+use Rattle.c_typed.specs.Types.{kept}
 use Rattle.c_typed.specs.Trees.{StaticTree, VariableTree, FunctionTree, Program}
 use Rattle.c_typed.specs.declared.expression.Object.{Object}
 use Rattle.c_typed.specs.declared.types.Qualified.{Qualified}
