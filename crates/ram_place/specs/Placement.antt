@@ -134,7 +134,7 @@ AreFrames = AreFramesBelow 0x200
 abbrev pub IsPlacing : Program → List FnCopy → List ObjectLine → List FrameLine → Type 0
 IsPlacing p = IsPlacingIn (whole p) p
 
--- The same, but for static objects that are marked, which have no lines.
+-- The same, but for static objects that are left out, which have no lines.
 abbrev pub IsPlacingBut : Program → List FnCopy → List ℕ → List ObjectLine → List FrameLine → Type 0
 IsPlacingBut p copies without = IsPlacingIn (but p without) p copies
 

@@ -9,6 +9,6 @@ use Rattle.ram_place.specs.Placement.{is_left_out, kept}
 abbrev pub bytes_kept : List ℕ → List ℕ → ℕ → StaticTree → ℕ
 bytes_kept sizes without n s = if is_left_out without n then 0 else type_bytes sizes s.ty.ty
 
--- static objects that are marked get no first bytes
+-- static objects that are left out get no first bytes
 abbrev pub start_size_but : Program → List ℕ → ℕ
 start_size_but p without = 100 + 4 * statics_bytes p.sizes (kept p without)

@@ -218,10 +218,10 @@ fn covered(objects: &Objects, frames: &[FrameLine]) -> u16
     taken.count()
 }
 
-/// The addresses of a program with these copies, but for static objects that are left out by their numbers, which have none. The others are placed in order of
-/// declaration, and then the frames in the order of the copies; each goes whole into one region, at the lowest address
-/// where it overlaps no static object and no earlier frame that may be live together with it, if it ends there at the top or before it. What has no
-/// bytes stands at 20h and overlaps nothing.
+/// The addresses of a program with these copies. Static objects whose numbers are in `without` have none. The others are
+/// placed in order of declaration, and then the frames in the order of the copies: each whole in one region, at the
+/// lowest address where it overlaps no static object and no earlier frame that may be live together with it. It is
+/// refused if it ends above the top there. What has no bytes stands at 20h and overlaps nothing.
 #[tactic(auto, using(c_typed::proofs::Facts::few_functions))]
 pub fn place_within(
     alloc: Global,
