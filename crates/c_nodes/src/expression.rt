@@ -4,10 +4,13 @@
 //! before one is a pair: types that reach one another are dear to prove by their number, and a pair adds none to them.
 //!
 //! Types that reach one another say themselves how they are let go, by a pattern that names their parts: a crate above calls
-//! that, where what is derived would be proved again in each crate that lets one of them go. `Cond` and `Binary` derive
-//! it, since only what derives it can be taken apart elsewhere.
+//! that, where what is derived would be proved again in each crate that lets one of them go. `Expr`, `Assign`, `Cond` and
+//! `Binary` derive it, since only what derives it can be taken apart elsewhere, as a choice does that is let go.
+
+ghost use Rattle.std.specs.Prelude.{◌≡◌, ◌++◌, [], if◌then◌else◌};
 
 use crate::word::{Constant, Infix, Name, Pointer, Sign, Word};
+use std::mem::swap;
 
 /// The specifiers of a declaration (ISO/IEC 9899:1990, 6.5), at least one.
 #[cycle(expression)]
@@ -279,19 +282,10 @@ pub type TypeName = (Specs, Vec<Pointer>);
 /// An expression: assignments between commas (ISO/IEC 9899:1990, 6.3.17). The arguments of a call
 /// have the same form.
 #[cycle(expression)]
+#[derive(Drop)]
 pub struct Expr {
     pub first: Assign,
     pub others: Vec<NextAssign>,
-}
-
-impl Drop for Expr {
-    #[cycle(expression)]
-    fn drop(self) {
-        let Expr {
-            first: _,
-            others: _,
-        } = self;
-    }
 }
 
 /// The line of a comma, and an assignment.
@@ -299,19 +293,10 @@ pub type NextAssign = (u32, Assign);
 
 /// A value, and what it is assigned to, the outermost first (ISO/IEC 9899:1990, 6.3.16).
 #[cycle(expression)]
+#[derive(Drop)]
 pub struct Assign {
     pub targets: Vec<Target>,
     pub value: Cond,
-}
-
-impl Drop for Assign {
-    #[cycle(expression)]
-    fn drop(self) {
-        let Assign {
-            targets: _,
-            value: _,
-        } = self;
-    }
 }
 
 /// The left side of an assignment, and its operator.
@@ -335,9 +320,40 @@ pub struct Choice {
     pub colon: u32,
 }
 
+// By a list in memory: choices stand in one another as deep as a text is long, and the call stack has an end. What finds
+// no room there is let go by calls. Of choices that hold one choice each the list is the one that they lie in.
 impl Drop for Choice {
     #[cycle(expression)]
-    fn drop(self) {
+    #[tactic(auto, using(crate::proofs::LettingGo::joined, crate::proofs::LettingGo::left, crate::proofs::LettingGo::kept, crate::proofs::LettingGo::last))]
+    fn drop(mut self) {
+        let mut waiting = Vec::new(*Box::allocator(&self.then));
+        for _ in 0..u64::MAX {
+            let Choice {
+                condition: _,
+                question: _,
+                then,
+                colon: _,
+            } = self;
+            let Expr { first, mut others } = Box::into_inner(then);
+            let Assign { targets: _, value } = first;
+            let Cond {
+                mut choices,
+                last: _,
+            } = value;
+            let _ = put_off(&mut waiting, &mut choices);
+            while let Some((_, next)) = others.pop() {
+                let Assign { targets: _, value } = next;
+                let Cond {
+                    mut choices,
+                    last: _,
+                } = value;
+                let _ = put_off(&mut waiting, &mut choices);
+            }
+            match waiting.pop() {
+                Some(choice) => self = choice,
+                None => return,
+            }
+        }
         let Choice {
             condition: _,
             question: _,
@@ -345,6 +361,18 @@ impl Drop for Choice {
             colon: _,
         } = self;
     }
+}
+
+/// Puts these choices behind those that wait, and answers whether there was room. Where none wait that takes no memory.
+fn put_off(waiting: &mut Vec<Choice>, choices: &mut Vec<Choice>) -> bool
+    ensures waiting { waiting.new.items ≡ (if result then waiting.old.items ++ choices.old.items else waiting.old.items) }
+    ensures choices { choices.new.items ≡ (if result then [] else choices.old.items) }
+{
+    if waiting.is_empty() {
+        swap(waiting, choices);
+        return true;
+    }
+    waiting.append(choices).is_ok()
 }
 
 /// Operands between binary operators of one level, which group to the left, or one operand alone
