@@ -1,5 +1,5 @@
 -- A list of the code, and the nested tree that it stands for: the rule on the tree is the list's.
-use Rattle.std.proofs.Common.{◌≡◌, ℕ, List, [], ◌∷◌, ◌++◌, Ok, refl, sym, ap, ◌∙◌}
+use Rattle.std.proofs.Common.{◌≡◌, ℕ, List, [], ◌∷◌, ◌++◌, Result, Ok, refl, sym, ap, ◌∙◌}
 use Rattle.c_token.specs.declared.token.Punct.TheVariants as marks
 use Rattle.c_token.specs.declared.token.TokKind.{TokKind}
 use Rattle.c_nodes.specs.Lists.{posted, prefixed, joined, listed, ChoiceParts, chosen, assigned}
@@ -7,6 +7,7 @@ use Rattle.c_nodes.specs.Trees as tree
 use Rattle.c_nodes.specs.Trees.{Tree, Post, Pre}
 use Rattle.c_nodes.specs.Words.{Symbol, punct}
 use Rattle.c_typed.specs.Trees.{Expression}
+use Rattle.type_rules.specs.Faults.{Fault}
 use Rattle.type_rules.specs.Expressions.{judged, judged_behind, listed_by, arguments_in, one_at_least}
 use Rattle.type_rules.specs.Known.{Known, Rule, given, go_on, ◌>>=◌}
 use Rattle.type_rules.specs.Terms.{Term, Operand, value_term, used, no_table}
@@ -14,7 +15,7 @@ use Rattle.type_rules.specs.Operators.{between, choice, cast}
 use Rattle.type_rules.specs.TypeNames.{type_named}
 use Rattle.type_rules.specs.Writes.{assignment}
 use Rattle.check_expr.specs.Views.{unlisted}
-use Rattle.check_expr.specs.Folds.{bare, barely, sequenced_from, combined_from, posted_from, arguments_from, Sides, sides_from, assigned_back, Choices, choices_from, chosen_back, Applied, AppliedSign, AppliedSizeof, AppliedCast, applied_by, applied_from, applied_back}
+use Rattle.check_expr.specs.Folds.{bare, barely, sequenced_from, combined_from, posted_from, arguments_from, Sides, sides_from, assigned_back, Choices, condition_of, consequence_of, choices_from, chosen_back, Applied, AppliedSign, AppliedSizeof, AppliedCast, applied_by, applied_from, applied_back}
 use Rattle.check_expr.proofs.Runs.{last_given, same_behind, grouped, deeper, both_deeper, both_bare, both_used, three_deep, used_deeper}
 use Rattle.check_expr.proofs.Clauses.{judged_post, judged_sign, judged_sizeof, judged_cast, judged_join, judged_choose, judged_assign}
 
@@ -117,6 +118,14 @@ chosen_whole (c ∷ cs) v done k =
 
 pub judged_chosen : (cs : List ChoiceParts) (v : Tree) (k : Known) → judged (chosen cs v) k ≡ go_on (λ list. judged v >>= chosen_back list) (choices_from [] cs k)
 judged_chosen cs v k = sym (chosen_whole cs v [] k ∙ last_given (judged (chosen cs v) k))
+
+-- a choice whose condition and whose first part are each read with their values
+pub choice_read : (done : Choices) (c : ChoiceParts) (cs : List ChoiceParts) (k : Known) (said : Result (Choices × Known) Fault) → choices_from done (c ∷ cs) k ≡ said
+    → go_on (λ x. consequence_of c.2 >>= (λ y. choices_from (done ++ (x, y) ∷ []) cs)) (condition_of c.0 k) ≡ said
+choice_read done c cs k said is =
+    grouped (λ t. used t) (λ x. consequence_of c.2 >>= (λ y. choices_from (done ++ (x, y) ∷ []) cs)) (judged c.0 k)
+    ∙ same_behind _ _ (λ t k. same_behind _ _ (λ x k. grouped (λ t. used t) (λ y. choices_from (done ++ (x, y) ∷ []) cs) (barely c.2 k)) (used t k)) (judged c.0 k)
+    ∙ is
 
 -- ---- prefixes
 

@@ -93,6 +93,17 @@ assigned_back (s ∷ ss) value = do
 abbrev pub Choices : Type 0
 Choices = List (Operand × Operand)
 
+-- the value of a condition, and of what is chosen where it holds
+abbrev pub condition_of : Tree → Rule Operand
+condition_of c = do
+  t ← judged c
+  used t
+
+abbrev pub consequence_of : Tree → Rule Operand
+consequence_of c = do
+  t ← barely c
+  used t
+
 abbrev pub choices_from : Choices → List ChoiceParts → Rule Choices
 choices_from done [] = given done
 choices_from done (c ∷ cs) = do
@@ -108,6 +119,12 @@ chosen_back (c ∷ cs) value = do
   second ← chosen_back cs value
   z ← used second
   choice c.0 c.1 z
+
+-- what stands behind the last choice is read, and then chosen between
+abbrev pub chosen_behind : Choices → Tree → Rule Term
+chosen_behind choices last = do
+  value ← judged last
+  chosen_back choices value
 
 -- ---- prefixes: their types from left to right, applied from right to left
 

@@ -1,5 +1,6 @@
 -- What the checker keeps of a list until all of it is read, as the rules speak of it.
 use Rattle.std.specs.Prelude.{List, map}
+use Rattle.std.specs.Global.{Box}
 use Rattle.std.specs.declared.alloc.Global.{Global}
 use Rattle.std.specs.declared.vec.Vec.{Vec}
 use Rattle.c_token.specs.declared.token.TokKind.{TokKind}
@@ -17,8 +18,11 @@ use Rattle.check_expr.specs.declared.prefixes.Applied.TheVariants as prefixes
 abbrev pub side_in : Target → rule.Term × TokKind
 side_in t = (term_of t.term, kinds.Punct t.sign.punct)
 
+abbrev pub boxed : Box Operand → rule.Operand
+boxed operand = operand_of operand.value
+
 abbrev pub choice_in : Chosen → rule.Operand × rule.Operand
-choice_in c = (operand_of c.condition, operand_of c.then)
+choice_in c = (boxed c.condition, boxed c.then)
 
 abbrev pub applied_of : Applied → fold.Applied
 applied_of (prefixes.Operator sign) = fold.AppliedSign (signed sign)

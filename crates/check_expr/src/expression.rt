@@ -1,17 +1,22 @@
 //! Expressions, from the tree's root down (ISO/IEC 9899:1990, 6.3).
 //!
 //! Each function of the recursion has a frame of its own, hence `inline(never)`: a frame holds
-//! what one function needs, and a tree of thousands of levels stays within the call stack.
+//! what one function needs, and a tree of thousands of levels stays within the call stack. A level of
+//! choices in one another takes only functions that hold little: where there is no list, they pass
+//! on what they are given, and what waits for a choice is kept in memory.
 
 ghost use Rattle.std.specs.Prelude.{◌≡◌, ◌∷◌, [], map};
 ghost use Rattle.c_token.specs.declared.token.TokKind.TheVariants as kinds;
 ghost use Rattle.c_nodes.specs.Views.{assign_of, binary_of, cast_of, choice_of, cond_of, expr_of, next_assign_of, next_operand_of, operand_of as tree_operand_of, postfix_of, postfix_suffix_of, primary_of, target_of};
 ghost use Rattle.type_rules.specs.Expressions as rule;
+ghost use Rattle.type_rules.specs.Known.{Known};
+ghost use Rattle.type_rules.specs.Operators as operator;
+ghost use Rattle.type_rules.specs.Terms as value;
 ghost use Rattle.c_tables.specs.Answers.{Answers};
-ghost use Rattle.c_tables.specs.Tables.{known_of};
+ghost use Rattle.c_tables.specs.Tables.{known_of, types_in};
 ghost use Rattle.c_terms.specs.Terms.{operand_of, term_of};
 ghost use Rattle.check_expr.specs.Folds as fold;
-ghost use Rattle.check_expr.specs.Kept.{applied_list, choices_in, operands_in, sides_in};
+ghost use Rattle.check_expr.specs.Kept.{applied_list, boxed, choices_in, operands_in, sides_in};
 ghost use Rattle.check_expr.specs.Views.{unlisted};
 
 use crate::prefixes::{Applied, apply_prefix, listed};
@@ -28,13 +33,26 @@ use c_operate::primary::{constant_term, grouped, named};
 use c_operate::writes::{assignment, stepped};
 use c_tables::checker::Checker;
 use c_tables::error::CheckError;
+use c_tables::types::Types;
 use c_terms::term::{Operand, Term, refuse_table, used};
 use c_token::Punct;
 use c_typed::StepOp;
+use std::alloc::Global;
 
 /// Assignments between commas.
 #[cycle(expression)]
 pub fn expression(expr: &Expr, checker: &mut Checker) -> Result<Term, CheckError>
+    ensures { Answers term_of result (known_of checker.new) (unlisted (rule.judged (expr_of expr.now) (known_of checker.old))) }
+{
+    if expr.others.is_empty() {
+        return assigned(&expr.first, checker);
+    }
+    commas(expr, checker)
+}
+
+#[cycle(expression)]
+#[inline(never)]
+fn commas(expr: &Expr, checker: &mut Checker) -> Result<Term, CheckError>
     ensures { Answers term_of result (known_of checker.new) (unlisted (rule.judged (expr_of expr.now) (known_of checker.old))) }
 {
     let first = assigned(&expr.first, checker)?;
@@ -73,6 +91,17 @@ pub fn assign(assign: &Assign, checker: &mut Checker) -> Result<Term, CheckError
 #[cycle(expression)]
 #[inline(never)]
 fn assigned(assign: &Assign, checker: &mut Checker) -> Result<Term, CheckError>
+    ensures { Answers term_of result (known_of checker.new) (rule.judged (assign_of assign.now) (known_of checker.old)) }
+{
+    if assign.targets.is_empty() {
+        return conditional(&assign.value, checker);
+    }
+    assigned_to(assign, checker)
+}
+
+#[cycle(expression)]
+#[inline(never)]
+fn assigned_to(assign: &Assign, checker: &mut Checker) -> Result<Term, CheckError>
     ensures { Answers term_of result (known_of checker.new) (rule.judged (assign_of assign.now) (known_of checker.old)) }
 {
     let targets = places(&assign.targets, checker)?;
@@ -114,18 +143,21 @@ fn assign_all(checker: &mut Checker, targets: Vec<Target>, value: Term) -> Resul
 // A condition, and what is chosen where it holds.
 #[derive(Drop)]
 struct Chosen {
-    condition: Operand,
-    then: Operand,
+    condition: Box<Operand>,
+    then: Box<Operand>,
 }
 
 /// Choices, and what is left where no condition holds.
 #[cycle(expression)]
+#[inline(never)]
 pub(crate) fn conditional(cond: &Cond, checker: &mut Checker) -> Result<Term, CheckError>
     ensures { Answers term_of result (known_of checker.new) (rule.judged (cond_of cond.now) (known_of checker.old)) }
 {
+    if cond.choices.is_empty() {
+        return operands(&cond.last, checker);
+    }
     let choices = choices(&cond.choices, checker)?;
-    let last = operands(&cond.last, checker)?;
-    choose_all(checker, choices, last)
+    choose(&cond.last, checker, choices)
 }
 
 #[cycle(expression)]
@@ -135,13 +167,47 @@ fn choices(choices: &[Choice], checker: &mut Checker) -> Result<Vec<Chosen>, Che
 {
     let mut chosen = Vec::new(checker.alloc);
     for choice in choices {
-        let condition = operands(&choice.condition, checker)?;
-        let condition = used(condition, checker)?;
-        let then = expression(&choice.then, checker)?;
-        let then = used(then, checker)?;
+        let condition = condition(&choice.condition, checker)?;
+        let then = consequence(&choice.then, checker)?;
         chosen.push(Chosen { condition, then })?;
     }
     Ok(chosen)
+}
+
+#[cycle(expression)]
+#[inline(never)]
+fn condition(binary: &Binary, checker: &mut Checker) -> Result<Box<Operand>, CheckError>
+    ensures { Answers boxed result (known_of checker.new) (fold.condition_of (binary_of binary.now) (known_of checker.old)) }
+{
+    let term = operands(binary, checker)?;
+    kept(term, checker)
+}
+
+#[cycle(expression)]
+#[inline(never)]
+fn consequence(expr: &Expr, checker: &mut Checker) -> Result<Box<Operand>, CheckError>
+    ensures { Answers boxed result (known_of checker.new) (fold.consequence_of (expr_of expr.now) (known_of checker.old)) }
+{
+    let term = expression(expr, checker)?;
+    kept(term, checker)
+}
+
+// The value of a term, in memory.
+#[inline(never)]
+fn kept(term: Term, checker: &mut Checker) -> Result<Box<Operand>, CheckError>
+    ensures { Answers boxed result (known_of checker.new) (value.used (term_of term) (known_of checker.old)) }
+{
+    let operand = used(term, checker)?;
+    Ok(Box::new(checker.alloc, operand)?)
+}
+
+#[cycle(expression)]
+#[inline(never)]
+fn choose(last: &Binary, checker: &mut Checker, choices: Vec<Chosen>) -> Result<Term, CheckError>
+    ensures { Answers term_of result (known_of checker.new) (fold.chosen_behind (choices_in choices) (binary_of last.now) (known_of checker.old)) }
+{
+    let last = operands(last, checker)?;
+    choose_all(checker, choices, last)
 }
 
 #[inline(never)]
@@ -152,10 +218,23 @@ fn choose_all(checker: &mut Checker, choices: Vec<Chosen>, last: Term) -> Result
     let mut value = last;
     while let Some(choice) = choices.pop() {
         let otherwise = used(value, checker)?;
-        let Chosen { condition, then } = choice;
-        value = chosen(checker.alloc, &checker.types, condition, then, otherwise)?;
+        value = decided(checker.alloc, &checker.types, choice, otherwise)?;
     }
     Ok(value)
+}
+
+// The choice between what is chosen where the condition holds, and what is chosen otherwise.
+fn decided(
+    alloc: Global,
+    types: &Types,
+    choice: Chosen,
+    otherwise: Operand,
+) -> Result<Term, CheckError>
+    ensures { (known : Known) → Answers term_of result (types_in types.now known) (operator.choice (boxed choice.condition) (boxed choice.then) (operand_of otherwise) (types_in types.now known)) }
+{
+    let condition = Box::into_inner(choice.condition);
+    let then = Box::into_inner(choice.then);
+    chosen(alloc, types, condition, then, otherwise)
 }
 
 #[cycle(expression)]

@@ -6,47 +6,50 @@ use Rattle.c_nodes.specs.Views.{assign_of, binary_of, choice_of, cond_of, expr_o
 use Rattle.c_tables.specs.Tables.{known_of}
 use Rattle.c_terms.specs.Terms.{operand_of, term_of}
 use Rattle.c_nodes.proofs.Shapes.{show_assign, show_binary_operand, show_binary_chain, show_cast, show_choice, show_cond, show_expr, show_operand_postfix, show_operand_sizeof_type, show_postfix, show_postfix_suffix_index, show_postfix_suffix_call_bare, show_postfix_suffix_call, show_postfix_suffix_member, show_postfix_suffix_step, show_primary_name, show_primary_constant, show_primary_group}
-use Rattle.check_expr.specs.Folds.{barely, sequenced_from, combined_from, arguments_from, arguments_read, sides_from, choices_from}
-use Rattle.check_expr.specs.Kept.{side_in, choice_in, operands_in}
+use Rattle.check_expr.specs.Folds.{barely, sequenced_from, combined_from, arguments_from, arguments_read, sides_from, choices_from, chosen_back}
+use Rattle.check_expr.specs.Kept.{side_in, boxed, choice_in, operands_in}
 use Rattle.check_expr.proofs.Answering.{goes, stops, ends, refuses_as, refuses_bare, answers_bare, next_of, pushed}
 use Rattle.check_expr.proofs.Clauses.{judged_leaf, judged_group, behind_index, behind_call, behind_bare_call, behind_field, behind_step, bracketed_bare, unseen_index, measured_as}
-use Rattle.check_expr.proofs.Folded.{judged_listed, judged_arguments, spread, spread_whole, judged_joined, judged_posted, judged_assigned, judged_chosen, judged_prefixed}
+use Rattle.check_expr.proofs.Folded.{judged_listed, judged_arguments, spread, spread_whole, judged_joined, judged_posted, judged_assigned, judged_chosen, choice_read, judged_prefixed}
+use Rattle.check_expr.proofs.Passing.{no_choice, no_target, no_comma}
 use Rattle.check_expr.proofs.Runs.{unseen}
 use Rattle.check_expr.proofs.Signs.{alone}
 use Rattle.c_nodes.specs.Lists.{posted, prefixed, joined, listed, chosen, assigned}
 use Rattle.c_nodes.specs.Trees as tree
 use Rattle.type_rules.specs.Expressions.{judged, judged_behind, bracketed, selected}
 use Rattle.type_rules.specs.Known.{given}
+use Rattle.type_rules.specs.Terms.{used}
 use Rattle.type_rules.specs.Writes.{stepped, call}
 use Rattle.c_nodes.specs.declared.expression.PostfixSuffix.TheVariants as PostfixSuffix
 use Rattle.c_nodes.specs.declared.expression.Binary.TheViews.{out-Assign, out-Cast, out-Choice, out-Cond, out-Expr, out-Postfix}
 use Rattle.check_expr.proofs.expression.+expression.Goals as goal
 
-pub assigned-returns-in_err-targets : goal.assigned-returns-in_err-targets
-assigned-returns-in_err-targets t c =
+pub assigned-returns-then-is_empty : goal.assigned-returns-then-is_empty
+assigned-returns-then-is_empty t c = ends term_of _ _ _ _ c.conditional.ensures (sym (ap (λ e. judged e (known_of c.args.checker.now)) (no_target c.args.assign.now (sym c.is_empty.ensures ∙ c.if-is_empty.true))))
+
+pub assigned_to-returns-in_err-targets : goal.assigned_to-returns-in_err-targets
+assigned_to-returns-in_err-targets t c =
     let p = err_from_is_err_and c.from_residual.result c.from_residual.ensures.1 in
     rw (p.1, p.2) (stops _ _ _ _ c.in_err-targets.ensures (sym (ap (λ e. judged e (known_of c.args.checker.now)) (show_assign c.args.assign.now ∙ ap (λ l. assigned (map target_of l) (cond_of (out-Assign c.args.assign.now).value)) (sym c.deref.ensures.value)) ∙ judged_assigned (map target_of c.deref.result.now) (cond_of (out-Assign c.args.assign.now).value) (known_of c.args.checker.now))))
 
-pub assigned-returns-in_err-value : goal.assigned-returns-in_err-value
-assigned-returns-in_err-value t c =
+pub assigned_to-returns-in_err-value : goal.assigned_to-returns-in_err-value
+assigned_to-returns-in_err-value t c =
     let p = err_from_is_err_and c.from_residual-in_err-value.result c.from_residual-in_err-value.ensures.1 in
     rw (p.1, p.2) (stops _ _ _ _ c.in_err-value.ensures (goes _ _ _ _ _ c.in_ok-targets.ensures (sym (ap (λ e. judged e (known_of c.args.checker.now)) (show_assign c.args.assign.now ∙ ap (λ l. assigned (map target_of l) (cond_of (out-Assign c.args.assign.now).value)) (sym c.deref.ensures.value)) ∙ judged_assigned (map target_of c.deref.result.now) (cond_of (out-Assign c.args.assign.now).value) (known_of c.args.checker.now)))))
 
-pub assigned-returns : goal.assigned-returns
-assigned-returns t c = ends term_of _ _ _ _ c.assign_all.ensures (goes _ _ _ _ _ c.in_ok-value.ensures (goes _ _ _ _ _ c.in_ok-targets.ensures (sym (ap (λ e. judged e (known_of c.args.checker.now)) (show_assign c.args.assign.now ∙ ap (λ l. assigned (map target_of l) (cond_of (out-Assign c.args.assign.now).value)) (sym c.deref.ensures.value)) ∙ judged_assigned (map target_of c.deref.result.now) (cond_of (out-Assign c.args.assign.now).value) (known_of c.args.checker.now)))))
+pub assigned_to-returns : goal.assigned_to-returns
+assigned_to-returns t c = ends term_of _ _ _ _ c.assign_all.ensures (goes _ _ _ _ _ c.in_ok-value.ensures (goes _ _ _ _ _ c.in_ok-targets.ensures (sym (ap (λ e. judged e (known_of c.args.checker.now)) (show_assign c.args.assign.now ∙ ap (λ l. assigned (map target_of l) (cond_of (out-Assign c.args.assign.now).value)) (sym c.deref.ensures.value)) ∙ judged_assigned (map target_of c.deref.result.now) (cond_of (out-Assign c.args.assign.now).value) (known_of c.args.checker.now)))))
+
+pub conditional-returns-then-is_empty : goal.conditional-returns-then-is_empty
+conditional-returns-then-is_empty t c = ends term_of _ _ _ _ c.operands.ensures (sym (ap (λ e. judged e (known_of c.args.checker.now)) (no_choice c.args.cond.now (sym c.is_empty.ensures ∙ c.if-is_empty.true))))
 
 pub conditional-returns-in_err-choices : goal.conditional-returns-in_err-choices
 conditional-returns-in_err-choices t c =
     let p = err_from_is_err_and c.from_residual.result c.from_residual.ensures.1 in
     rw (p.1, p.2) (stops _ _ _ _ c.in_err-choices.ensures (sym (ap (λ e. judged e (known_of c.args.checker.now)) (show_cond c.args.cond.now ∙ ap (λ l. chosen (map choice_of l) (binary_of (out-Cond c.args.cond.now).last)) (sym c.deref.ensures.value)) ∙ judged_chosen (map choice_of c.deref.result.now) (binary_of (out-Cond c.args.cond.now).last) (known_of c.args.checker.now))))
 
-pub conditional-returns-in_err-last : goal.conditional-returns-in_err-last
-conditional-returns-in_err-last t c =
-    let p = err_from_is_err_and c.from_residual-in_err-last.result c.from_residual-in_err-last.ensures.1 in
-    rw (p.1, p.2) (stops _ _ _ _ c.in_err-last.ensures (goes _ _ _ _ _ c.in_ok-choices.ensures (sym (ap (λ e. judged e (known_of c.args.checker.now)) (show_cond c.args.cond.now ∙ ap (λ l. chosen (map choice_of l) (binary_of (out-Cond c.args.cond.now).last)) (sym c.deref.ensures.value)) ∙ judged_chosen (map choice_of c.deref.result.now) (binary_of (out-Cond c.args.cond.now).last) (known_of c.args.checker.now)))))
-
 pub conditional-returns : goal.conditional-returns
-conditional-returns t c = ends term_of _ _ _ _ c.choose_all.ensures (goes _ _ _ _ _ c.in_ok-last.ensures (goes _ _ _ _ _ c.in_ok-choices.ensures (sym (ap (λ e. judged e (known_of c.args.checker.now)) (show_cond c.args.cond.now ∙ ap (λ l. chosen (map choice_of l) (binary_of (out-Cond c.args.cond.now).last)) (sym c.deref.ensures.value)) ∙ judged_chosen (map choice_of c.deref.result.now) (binary_of (out-Cond c.args.cond.now).last) (known_of c.args.checker.now)))))
+conditional-returns t c = ends term_of _ _ _ _ c.choose.ensures (goes _ _ _ _ _ c.in_ok-choices.ensures (sym (ap (λ e. judged e (known_of c.args.checker.now)) (show_cond c.args.cond.now ∙ ap (λ l. chosen (map choice_of l) (binary_of (out-Cond c.args.cond.now).last)) (sym c.deref.ensures.value)) ∙ judged_chosen (map choice_of c.deref.result.now) (binary_of (out-Cond c.args.cond.now).last) (known_of c.args.checker.now))))
 
 pub cast-returns-in_err-prefixes : goal.cast-returns-in_err-prefixes
 cast-returns-in_err-prefixes t c =
@@ -69,13 +72,16 @@ postfix-returns-in_err-first t c =
 pub postfix-returns : goal.postfix-returns
 postfix-returns t c = ends term_of _ _ _ _ c.suffixes.ensures (goes _ _ _ _ _ c.in_ok-first.ensures (sym (ap (λ e. judged e (known_of c.args.checker.now)) (show_postfix c.args.postfix.now ∙ ap (λ l. posted (primary_of (out-Postfix c.args.postfix.now).primary) (map postfix_suffix_of l)) (sym c.deref.ensures.value)) ∙ judged_posted (map postfix_suffix_of c.deref.result.now) (primary_of (out-Postfix c.args.postfix.now).primary) (known_of c.args.checker.now))))
 
-pub expression-returns-in_err-first : goal.expression-returns-in_err-first
-expression-returns-in_err-first t c =
+pub expression-returns-then-is_empty : goal.expression-returns-then-is_empty
+expression-returns-then-is_empty t c = ends term_of _ _ _ _ (answers_bare _ _ _ c.assigned.ensures) (sym (ap (λ e. barely e (known_of c.args.checker.now)) (no_comma c.args.expr.now (sym c.is_empty.ensures ∙ c.if-is_empty.true))))
+
+pub commas-returns-in_err-first : goal.commas-returns-in_err-first
+commas-returns-in_err-first t c =
     let p = err_from_is_err_and c.from_residual.result c.from_residual.ensures.1 in
     rw (p.1, p.2) (refuses_as _ _ _ (refuses_bare _ _ (stops (λ t. sequenced_from t (map next_assign_of (out-Expr c.args.expr.now).others.items)) (judged (assign_of (out-Expr c.args.expr.now).first) (known_of c.args.checker.now)) _ _ c.in_err-first.ensures refl)) (sym (ap (λ e. barely e (known_of c.args.checker.now)) (show_expr c.args.expr.now) ∙ judged_listed (map next_assign_of (out-Expr c.args.expr.now).others.items) (assign_of (out-Expr c.args.expr.now).first) (known_of c.args.checker.now))))
 
-pub expression-returns : goal.expression-returns
-expression-returns t c = ends term_of _ _ _ _ (answers_bare _ _ _ (ends term_of _ _ _ _ c.sequence.ensures (goes (λ t. sequenced_from t (map next_assign_of c.deref.result.now)) (judged (assign_of (out-Expr c.args.expr.now).first) (known_of c.args.checker.now)) _ _ _ c.in_ok-first.ensures refl))) (sym (ap (λ e. barely e (known_of c.args.checker.now)) (show_expr c.args.expr.now ∙ ap (λ l. listed (assign_of (out-Expr c.args.expr.now).first) (map next_assign_of l)) (sym c.deref.ensures.value)) ∙ judged_listed (map next_assign_of c.deref.result.now) (assign_of (out-Expr c.args.expr.now).first) (known_of c.args.checker.now)))
+pub commas-returns : goal.commas-returns
+commas-returns t c = ends term_of _ _ _ _ (answers_bare _ _ _ (ends term_of _ _ _ _ c.sequence.ensures (goes (λ t. sequenced_from t (map next_assign_of c.deref.result.now)) (judged (assign_of (out-Expr c.args.expr.now).first) (known_of c.args.checker.now)) _ _ _ c.in_ok-first.ensures refl))) (sym (ap (λ e. barely e (known_of c.args.checker.now)) (show_expr c.args.expr.now ∙ ap (λ l. listed (assign_of (out-Expr c.args.expr.now).first) (map next_assign_of l)) (sym c.deref.ensures.value)) ∙ judged_listed (map next_assign_of c.deref.result.now) (assign_of (out-Expr c.args.expr.now).first) (known_of c.args.checker.now)))
 
 pub arguments-returns-in_err-first : goal.arguments-returns-in_err-first
 arguments-returns-in_err-first t c =
@@ -155,25 +161,39 @@ places-loop-target-preserved t c = pushed sides_from side_in c.loop-target.place
 pub choices-returns-in_err-condition : goal.choices-returns-in_err-condition
 choices-returns-in_err-condition t c =
     let p = err_from_is_err_and c.from_residual.result c.from_residual.ensures.1 in
-    rw (p.1, p.2) (stops _ _ _ _ c.in_err-condition.ensures (next_of (λ bs. choices_from (map choice_in c.loop-choice.chosen.items) bs (known_of c.loop-choice.checker)) choice_of _ _ c.choice-item.result _ _ c.loop-choice-test.true c.choice-item.is (show_choice c.choice-item.result) c.loop-choice.invariant))
-
-pub choices-returns-in_err-condition-2 : goal.choices-returns-in_err-condition-2
-choices-returns-in_err-condition-2 t c =
-    let p = err_from_is_err_and c.from_residual-in_err-condition-2.result c.from_residual-in_err-condition-2.ensures.1 in
-    rw (p.1, p.2) (stops _ _ _ _ c.in_err-condition-2.ensures (goes _ _ _ _ _ c.in_ok-condition.ensures (next_of (λ bs. choices_from (map choice_in c.loop-choice.chosen.items) bs (known_of c.loop-choice.checker)) choice_of _ _ c.choice-item.result _ _ c.loop-choice-test.true c.choice-item.is (show_choice c.choice-item.result) c.loop-choice.invariant)))
+    rw (p.1, p.2) (stops _ _ _ _ c.in_err-condition.ensures (choice_read _ (binary_of (out-Choice c.choice-item.result).condition, (out-Choice c.choice-item.result).question, expr_of (out-Choice c.choice-item.result).then.value, (out-Choice c.choice-item.result).colon) _ _ _ (next_of (λ bs. choices_from (map choice_in c.loop-choice.chosen.items) bs (known_of c.loop-choice.checker)) choice_of _ _ c.choice-item.result _ _ c.loop-choice-test.true c.choice-item.is (show_choice c.choice-item.result) c.loop-choice.invariant)))
 
 pub choices-returns-in_err-then : goal.choices-returns-in_err-then
 choices-returns-in_err-then t c =
     let p = err_from_is_err_and c.from_residual-in_err-then.result c.from_residual-in_err-then.ensures.1 in
-    rw (p.1, p.2) (stops _ _ _ _ c.in_err-then.ensures (goes _ _ _ _ _ c.in_ok-condition-2.ensures (goes _ _ _ _ _ c.in_ok-condition.ensures (next_of (λ bs. choices_from (map choice_in c.loop-choice.chosen.items) bs (known_of c.loop-choice.checker)) choice_of _ _ c.choice-item.result _ _ c.loop-choice-test.true c.choice-item.is (show_choice c.choice-item.result ∙ ap (λ b. (binary_of (out-Choice c.choice-item.result).condition, (out-Choice c.choice-item.result).question, expr_of b, (out-Choice c.choice-item.result).colon)) (sym c.deref.ensures)) c.loop-choice.invariant))))
-
-pub choices-returns-in_err-then-2 : goal.choices-returns-in_err-then-2
-choices-returns-in_err-then-2 t c =
-    let p = err_from_is_err_and c.from_residual-in_err-then-2.result c.from_residual-in_err-then-2.ensures.1 in
-    rw (p.1, p.2) (stops _ _ _ _ c.in_err-then-2.ensures (goes _ _ _ _ _ c.in_ok-then.ensures (goes _ _ _ _ _ c.in_ok-condition-2.ensures (goes _ _ _ _ _ c.in_ok-condition.ensures (next_of (λ bs. choices_from (map choice_in c.loop-choice.chosen.items) bs (known_of c.loop-choice.checker)) choice_of _ _ c.choice-item.result _ _ c.loop-choice-test.true c.choice-item.is (show_choice c.choice-item.result ∙ ap (λ b. (binary_of (out-Choice c.choice-item.result).condition, (out-Choice c.choice-item.result).question, expr_of b, (out-Choice c.choice-item.result).colon)) (sym c.deref.ensures)) c.loop-choice.invariant)))))
+    rw (p.1, p.2) (stops _ _ _ _ c.in_err-then.ensures (goes _ _ _ _ _ c.in_ok-condition.ensures (choice_read _ (binary_of (out-Choice c.choice-item.result).condition, (out-Choice c.choice-item.result).question, expr_of c.deref.result.now, (out-Choice c.choice-item.result).colon) _ _ _ (next_of (λ bs. choices_from (map choice_in c.loop-choice.chosen.items) bs (known_of c.loop-choice.checker)) choice_of _ _ c.choice-item.result _ _ c.loop-choice-test.true c.choice-item.is (show_choice c.choice-item.result ∙ ap (λ b. (binary_of (out-Choice c.choice-item.result).condition, (out-Choice c.choice-item.result).question, expr_of b, (out-Choice c.choice-item.result).colon)) (sym c.deref.ensures)) c.loop-choice.invariant))))
 
 pub choices-loop-choice-preserved : goal.choices-loop-choice-preserved
-choices-loop-choice-preserved t c = pushed choices_from choice_in c.loop-choice.chosen.items _ _ _ _ _ c.in_ok-push.ensures.items (goes _ _ _ _ _ c.in_ok-then-2.ensures (goes _ _ _ _ _ c.in_ok-then.ensures (goes _ _ _ _ _ c.in_ok-condition-2.ensures (goes _ _ _ _ _ c.in_ok-condition.ensures (next_of (λ bs. choices_from (map choice_in c.loop-choice.chosen.items) bs (known_of c.loop-choice.checker)) choice_of _ _ c.choice-item.result _ _ c.loop-choice-test.true c.choice-item.is (show_choice c.choice-item.result ∙ ap (λ b. (binary_of (out-Choice c.choice-item.result).condition, (out-Choice c.choice-item.result).question, expr_of b, (out-Choice c.choice-item.result).colon)) (sym c.deref.ensures)) c.loop-choice.invariant)))))
+choices-loop-choice-preserved t c = pushed choices_from choice_in c.loop-choice.chosen.items _ _ _ _ _ c.in_ok-push.ensures.items (goes _ _ _ _ _ c.in_ok-then.ensures (goes _ _ _ _ _ c.in_ok-condition.ensures (choice_read _ (binary_of (out-Choice c.choice-item.result).condition, (out-Choice c.choice-item.result).question, expr_of c.deref.result.now, (out-Choice c.choice-item.result).colon) _ _ _ (next_of (λ bs. choices_from (map choice_in c.loop-choice.chosen.items) bs (known_of c.loop-choice.checker)) choice_of _ _ c.choice-item.result _ _ c.loop-choice-test.true c.choice-item.is (show_choice c.choice-item.result ∙ ap (λ b. (binary_of (out-Choice c.choice-item.result).condition, (out-Choice c.choice-item.result).question, expr_of b, (out-Choice c.choice-item.result).colon)) (sym c.deref.ensures)) c.loop-choice.invariant))))
+
+pub condition-returns-in_err-term : goal.condition-returns-in_err-term
+condition-returns-in_err-term t c =
+    let p = err_from_is_err_and c.from_residual.result c.from_residual.ensures.1 in
+    rw (p.1, p.2) (stops (λ t. used t) (judged (binary_of c.args.binary.now) (known_of c.args.checker.now)) _ _ c.in_err-term.ensures refl)
+
+pub condition-returns : goal.condition-returns
+condition-returns t c = ends boxed _ _ _ _ c.kept.ensures (goes (λ t. used t) (judged (binary_of c.args.binary.now) (known_of c.args.checker.now)) _ _ _ c.in_ok-term.ensures refl)
+
+pub consequence-returns-in_err-term : goal.consequence-returns-in_err-term
+consequence-returns-in_err-term t c =
+    let p = err_from_is_err_and c.from_residual.result c.from_residual.ensures.1 in
+    rw (p.1, p.2) (stops (λ t. used t) (barely (expr_of c.args.expr.now) (known_of c.args.checker.now)) _ _ c.in_err-term.ensures refl)
+
+pub consequence-returns : goal.consequence-returns
+consequence-returns t c = ends boxed _ _ _ _ c.kept.ensures (goes (λ t. used t) (barely (expr_of c.args.expr.now) (known_of c.args.checker.now)) _ _ _ c.in_ok-term.ensures refl)
+
+pub choose-returns-in_err-last : goal.choose-returns-in_err-last
+choose-returns-in_err-last t c =
+    let p = err_from_is_err_and c.from_residual.result c.from_residual.ensures.1 in
+    rw (p.1, p.2) (stops (λ value. chosen_back (map choice_in c.args.choices.items) value) (judged (binary_of c.args.last.now) (known_of c.args.checker.now)) _ _ c.in_err-last.ensures refl)
+
+pub choose-returns : goal.choose-returns
+choose-returns t c = ends term_of _ _ _ _ c.choose_all.ensures (goes (λ value. chosen_back (map choice_in c.args.choices.items) value) (judged (binary_of c.args.last.now) (known_of c.args.checker.now)) _ _ _ c.in_ok-last.ensures refl)
 
 pub chain-returns-in_err-b : goal.chain-returns-in_err-b
 chain-returns-in_err-b t c =
