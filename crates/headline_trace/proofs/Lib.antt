@@ -57,6 +57,7 @@ pub mod Counted
 pub mod Routines
 pub mod Bounded
 pub mod Addressed
+pub mod Registered
 pub mod Nearby
 pub mod Fitting
 pub mod SameNumbers

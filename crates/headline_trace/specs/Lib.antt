@@ -11,3 +11,4 @@ pub mod Bounded
 pub mod Faithful
 pub mod Written
 pub mod Addressed
+pub mod Registered

@@ -7,6 +7,7 @@ ghost use Rattle.headline_trace.specs.Passed.{BodiesAreHad, LayoutIsHad, LayoutS
 ghost use Rattle.headline_trace.specs.Translations.{TranslationsAreLinked, TranslationsAreLowerable, TranslationsFollow};
 ghost use Rattle.headline_trace.specs.Selection.{DepthIsHad, LeanIsHad, LevelsAreHad, ReachIsHad, SelectionIsHad};
 ghost use Rattle.headline_trace.specs.Addressed.{LeanKeepsOperands, MadeHaveOperands, OperandsHaveAddresses, SelectsKeepOperands, WholeKeepNear};
+ghost use Rattle.headline_trace.specs.Registered.{CodeNamesRegisters, MadeNameRegisters};
 ghost use Rattle.headline_trace.specs.Written.{MapsAreWritten};
 
 /// Of a sound program, byte code of its copies, the blocks that are joined from it and what `selects` answers for them have the selects
@@ -106,6 +107,13 @@ pub fn operands_have_addresses()
     ensures lean { LeanKeepsOperands }
     ensures made { MadeHaveOperands }
     ensures near { WholeKeepNear }
+{}
+
+/// Each device register that an instruction has as its operand, in what the passes make of a program, is one that the program names, by
+/// itself or by a bit. Helpers' routines and the start block name none.
+pub fn registers_are_named()
+    ensures made { MadeNameRegisters }
+    ensures code { CodeNamesRegisters }
 {}
 
 /// A map file can tell the map of what the passes make, if its names are such as a map file has: main and its end are in program memory,

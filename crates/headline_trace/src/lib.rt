@@ -7,7 +7,8 @@
 //! met soon, for every start, input list and arrival list. Of the clauses of the passes (byte code, blocks, selects, addresses, words and
 //! places) follow the premises under which the links are proved. The blocks that the pass over symbolic code makes follow the given ones, under
 //! every schedule, and cost no less than the instructions of these that count; and the prices of the given blocks by which they cost no more
-//! are within the bounds that selection and the helpers were counted with.
+//! are within the bounds that selection and the helpers were counted with. Each device register that the blocks name is one that the program
+//! names.
 #![tactic(auto)]
 
 mod image_links;
@@ -16,8 +17,9 @@ mod linked;
 
 pub use image_links::{
     assembly_is_had, beginning_is_had, blocks_have_room, bodies_are_had, calls_are_had,
-    layout_is_had, lean_is_had, maps_are_written, operands_have_addresses, selection_is_had,
-    selects_are_had, start_is_had, translations_are_faithful, translations_are_linked,
+    layout_is_had, lean_is_had, maps_are_written, operands_have_addresses, registers_are_named,
+    selection_is_had, selects_are_had, start_is_had, translations_are_faithful,
+    translations_are_linked,
 };
 pub use lean_links::lean_blocks_follow;
 pub use linked::links_make_headline;

@@ -21,6 +21,7 @@ mod Within
 mod Inside
 mod StatementBytes
 mod Others
+mod Devices
 mod Callees
 mod Copied
 pub mod Placed

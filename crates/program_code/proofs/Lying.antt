@@ -1,5 +1,5 @@
 -- The rows of the code of expressions name bytes alone that are there, where those that are counted for them are.
-use Rattle.std.proofs.Common.{◌≡◌, ℕ, zero, suc, ◌+◌, ◌/◌, ◌%◌, ◌≤◌, ◌<◌, Bool, true, false, nat_lt, nat_eq, if◌then◌else◌, List, [], ◌∷◌, ◌++◌, Option, Some, None, refl, sym, ap, arith}
+use Rattle.std.proofs.Common.{◌≡◌, ℕ, zero, suc, ◌+◌, ◌/◌, ◌%◌, ◌≤◌, ◌<◌, Bool, true, false, nat_lt, nat_eq, if◌then◌else◌, List, [], ◌∷◌, ◌++◌, Option, Some, None, refl, sym, ap, subst, arith}
 use Rattle.std.proofs.lemmas.Option.{none-some, same_Some}
 use Rattle.c_ints.specs.Range.{bytes_of}
 use Rattle.c_ints.specs.declared.operators.BinOp.{BinOp}
@@ -94,14 +94,17 @@ module _ (memory : Memory) where
   less n m (bytes.Frame copy k) l h = has_fewer (memory.frames copy) (k + n) (k + m) (omega (arith, l)) h
   less n m (bytes.Static object k) l h = has_fewer (memory.objects object) (k + n) (k + m) (omega (arith, l)) h
   less n m (bytes.Result r k) l h = omega (arith, l, h)
-  less n m (bytes.Device address) l h = h
+  less n m (bytes.Device address) l h = let one = h.1 in (h.0, omega (arith, l, one), λ some. h.2 (omega (arith, l, some)))
 
   pub past : (n m i : ℕ) (byte : Byte) → i + m ≤ n → Lies memory n byte → Lies memory m (behind byte i)
   unfolding beyond little_beyond
   past n m i (bytes.Frame copy k) l h = has_fewer (memory.frames copy) (k + n) (beyond k i + m) (omega (arith, l)) h
   past n m i (bytes.Static object k) l h = has_fewer (memory.objects object) (k + n) (beyond k i + m) (omega (arith, l)) h
   past n m i (bytes.Result r k) l h = omega (arith, l, h)
-  past n m i (bytes.Device address) l h = omega arith
+  past n m i (bytes.Device address) l h =
+      let low = h.0 in
+      let one = h.1 in
+      (omega arith, omega (arith, l, one), λ some. subst (λ (a : ℕ). memory.devices a ≡ true) (omega (arith, l, low, one, some)) (h.2 (omega (arith, l, some))))
 
   -- so many bytes of a result
   pub of_result : (r : Root) (n : ℕ) → n ≤ 4 → Lies memory n (bytes.Result r 0)
@@ -238,7 +241,7 @@ module _ (memory : Memory) where
   -- so many bytes of a fixed place
   abbrev pub SpotLies : ℕ → Spot → Type 0
   SpotLies n (Fixed byte) = Lies memory n byte
-  SpotLies n (Bit register bit) = register < 0x100
+  SpotLies n (Bit register bit) = Lies memory 1 (bytes.Device register)
   SpotLies n Computed = Unit {0}
 
   -- a bit has a byte
@@ -277,7 +280,7 @@ module _ (memory : Memory) where
   read_lie (Bit register bit) pointer to w s h g l = ((less w 1 to l g, s), tt)
   read_lie Computed pointer to w s h g l = ((g, h), tt)
 
-  bit_lie : (r : Root) (register bit : ℕ) (from : Byte) → register < 0x100 → Lies memory 2 from → AllLie (bit_row r register bit from)
+  bit_lie : (r : Root) (register bit : ℕ) (from : Byte) → Lies memory 1 (bytes.Device register) → Lies memory 2 from → AllLie (bit_row r register bit from)
   bit_lie r register bit from b h = (result_lies r 0 (omega arith), ((less 2 1 from (omega arith) h, less 2 1 from (omega arith) h, result_lies r 0 (omega arith)), ((less 2 1 from (omega arith) h, b), tt)))
 
   pub written_lie : (spot : Spot) (r : Root) (pointer from : Byte) (w : ℕ) → SpotLies w spot → Lies memory (pointer_bytes spot) pointer → Lies memory w from → Lies memory 2 from → AllLie (written_row spot r pointer from w)

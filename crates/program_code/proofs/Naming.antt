@@ -100,7 +100,10 @@ module _ (memory : Memory) where
   lies_behind n m i (bytes.Frame copy k) l h = has_fewer (memory.frames copy) (k + n) (min (k + i) 65535 + m) (omega (arith, l)) h
   lies_behind n m i (bytes.Static object k) l h = has_fewer (memory.objects object) (k + n) (min (k + i) 65535 + m) (omega (arith, l)) h
   lies_behind n m i (bytes.Result r k) l h = omega (arith, l, h)
-  lies_behind n m i (bytes.Device address) l h = omega arith
+  lies_behind n m i (bytes.Device address) l h =
+      let low = h.0 in
+      let one = h.1 in
+      (omega arith, omega (arith, l, one), λ some. subst (λ (a : ℕ). memory.devices a ≡ true) (omega (arith, l, low, one, some)) (h.2 (omega (arith, l, some))))
 
   in_on : (xs ys : List Sym) → AreIn xs → AreIn ys → AreIn (xs ++ ys)
   in_on [] ys p q = q
@@ -471,12 +474,12 @@ module _ (memory : Memory) where
       in_mapped None first h s e = absurd (none-some s e)
       in_mapped (Some k) first h s e = subst AreIn (same_Some (first k) s e) (h k)
 
-      in_read : (to : Byte) (register bit : ℕ) → Lies memory 1 to → register < 0x100 → AreIn (bit_read_code to register bit)
+      in_read : (to : Byte) (register bit : ℕ) → Lies memory 1 to → Lies memory 1 (bytes.Device register) → AreIn (bit_read_code to register bit)
       in_read to register bit h b =
           in_on (number_code 0 ++ bit_code Btfsc (bytes.Device register) (bit % 8) ++ number_code 1) (store_code to)
           (in_on (number_code 0 ++ bit_code Btfsc (bytes.Device register) (bit % 8)) (number_code 1) (in_on (number_code 0) (bit_code Btfsc (bytes.Device register) (bit % 8)) (in_number 0) (in_bit Btfsc (bytes.Device register) (bit % 8) b)) (in_number 1)) (in_store to h)
 
-      in_write : (at register bit : ℕ) (from : Byte) → Lies memory 1 from → register < 0x100 → AreIn (bit_write_code at register bit from)
+      in_write : (at register bit : ℕ) (from : Byte) → Lies memory 1 from → Lies memory 1 (bytes.Device register) → AreIn (bit_write_code at register bit from)
       in_write at register bit from h b =
           ((in_bit Btfss from 0 h).0, (tt, ((in_bit Bsf (bytes.Device register) (bit % 8) b).0, (tt, (tt, ((in_bit Bcf (bytes.Device register) (bit % 8) b).0, (tt, tt)))))))
 

@@ -95,7 +95,7 @@ module _ (p : Program) (copies : List FnCopy) (placed : Placed) (is : IsPlacing 
   byte_low (bytes.Frame c k) h at q = of_frame c k at (slice_get copies c) refl h q
   byte_low (bytes.Static object k) h at q = of_object object k at (slice_get p.statics object) refl h q
   byte_low (bytes.Result r k) h at q = result_near r k at q
-  byte_low (bytes.Device address) h at q = let same = same_Some address at q in omega (arith, h, same)
+  byte_low (bytes.Device address) h at q = let same = same_Some address at q in let low = h.0 in omega (arith, low, same)
 
   -- ---- instructions
   small : (a at : ℕ) → a < 0x100 → Some a ≡ Some at → at < 0x100

@@ -31,7 +31,8 @@ use Rattle.lower_expr.specs.Spots.{spot_of, member_spot, pointer_bytes}
 use Rattle.lower_expr.specs.declared.places.Spot.{Spot}
 use Rattle.lower_expr.specs.declared.places.Spot.TheVariants.{Fixed, Bit, Computed}
 use Rattle.pic_world.specs.Registers.{Register, registers, name_in}
-use Rattle.program_code.specs.Naming.{Memory, HasBytes, Lies, Points, CallsFit, count_bytes}
+use Rattle.named_registers.specs.Registers.{Naming, object_registers, place_registers}
+use Rattle.program_code.specs.Naming.{Memory, HasBytes, Lies, Points, CallsFit, RegistersFit, count_bytes}
 use Rattle.program_code.proofs.Chain.{never}
 use Rattle.program_code.proofs.Operators.{whole_bytes}
 use Rattle.program_code.proofs.Rows.{form_at}
@@ -192,7 +193,7 @@ unfolding beyond
 beyond_within before w = omega arith
 
 -- ---- calls
-pub fit_first : (p : Program) (memory : Memory) (copy : ℕ → ℕ) (xs ys : List FnId) → CallsFit p memory copy (xs ++ ys) → CallsFit p memory copy xs
+fit_first : (p : Program) (memory : Memory) (copy : ℕ → ℕ) (xs ys : List FnId) → CallsFit p memory copy (xs ++ ys) → CallsFit p memory copy xs
 fit_first p memory copy [] ys h = tt
 fit_first p memory copy (callee.User function ∷ xs) ys h = (h.0, fit_first p memory copy xs ys h.1)
 fit_first p memory copy (callee.Helper helper ∷ xs) ys h = fit_first p memory copy xs ys h
@@ -201,6 +202,29 @@ pub fit_last : (p : Program) (memory : Memory) (copy : ℕ → ℕ) (xs ys : Lis
 fit_last p memory copy [] ys h = h
 fit_last p memory copy (callee.User function ∷ xs) ys h = fit_last p memory copy xs ys h.1
 fit_last p memory copy (callee.Helper helper ∷ xs) ys h = fit_last p memory copy xs ys h
+
+-- ---- what a part names
+named_first : (memory : Memory) (xs ys : List Naming) → RegistersFit memory (xs ++ ys) → RegistersFit memory xs
+named_first memory [] ys h = tt
+named_first memory (x ∷ xs) ys h = (h.0, named_first memory xs ys h.1)
+
+named_last : (memory : Memory) (xs ys : List Naming) → RegistersFit memory (xs ++ ys) → RegistersFit memory ys
+named_last memory [] ys h = h
+named_last memory (x ∷ xs) ys h = named_last memory xs ys h.1
+
+-- What a part calls has a copy, and the registers that it names are there.
+abbrev pub PartFits : Program → Memory → (ℕ → ℕ) → List FnId → List Naming → Type 0
+PartFits p memory copy calls named = CallsFit p memory copy calls × RegistersFit memory named
+
+pub part_first : (p : Program) (memory : Memory) (copy : ℕ → ℕ) (xs ys : List FnId) (ns ms : List Naming) → PartFits p memory copy (xs ++ ys) (ns ++ ms) → PartFits p memory copy xs ns
+part_first p memory copy xs ys ns ms h = (fit_first p memory copy xs ys h.0, named_first memory ns ms h.1)
+
+pub part_last : (p : Program) (memory : Memory) (copy : ℕ → ℕ) (xs ys : List FnId) (ns ms : List Naming) → PartFits p memory copy (xs ++ ys) (ns ++ ms) → PartFits p memory copy ys ms
+part_last p memory copy xs ys ns ms h = (fit_last p memory copy xs ys h.0, named_last memory ns ms h.1)
+
+-- an operator calls a helper besides, and names no register
+pub without : (p : Program) (memory : Memory) (copy : ℕ → ℕ) (xs ys : List FnId) (ns : List Naming) → PartFits p memory copy (xs ++ ys) ns → PartFits p memory copy xs ns
+without p memory copy xs ys ns h = (fit_first p memory copy xs ys h.0, h.1)
 
 -- an object has 65,535 bytes at most, and a scalar four
 pub small_object : (p : Program) (ty : Ty) → object_fits p ty ≡ true → type_bytes p.sizes ty ≤ 65535
@@ -231,7 +255,7 @@ module _ (c size : ℕ) (memory : Memory) (l : Layout) (p : Program) (f : Functi
   -- a fixed place lies in its object, which is no larger than 65,535 bytes, and has an address
   abbrev SpotFits : ℕ → Spot → Type 0
   SpotFits n (Fixed byte) = Lies memory n byte × (n ≤ 65535) × Points memory byte
-  SpotFits n (Bit register bit) = register < 0x100
+  SpotFits n (Bit register bit) = Lies memory 1 (bytes.Device register)
   SpotFits n Computed = Unit {0}
 
   own_points : (n base : ℕ) → base + n ≤ size → Points memory (bytes.Frame c base)
@@ -272,15 +296,20 @@ module _ (c size : ℕ) (memory : Memory) (l : Layout) (p : Program) (f : Functi
   register_spot true ty h = let named = named_bytes p.sizes false register_type ty h in omega (arith, named)
   register_spot false ty h = never h
 
+  -- one byte
+  register_one : (device : Bool) (ty : Qualified) → is_named false (if device then Some register_type else None) ty ≡ true → type_bytes p.sizes ty.ty ≤ 1
+  register_one true ty h = let named = named_bytes p.sizes false register_type ty h in omega (arith, named)
+  register_one false ty h = never h
+
   register_low : (address : ℕ) (device : Bool) (ty : Qualified) → is_device address ≡ device → is_named false (if device then Some register_type else None) ty ≡ true → address < 0x100
   register_low address true ty is h = device_low address is
   register_low address false ty is h = never h
 
-  object_spot : (o : Object) (ty : Qualified) → is_named (names_local o) (declared_type p f o) ty ≡ true → SpotFits (type_bytes p.sizes ty.ty) (Fixed (object_byte l c o))
-  object_spot (object.Static number) ty h = static_spot (slice_get p.statics number) number ty refl h
-  object_spot (object.Param number) ty h = param_spot (slice_get f.params number) number ty refl h
-  object_spot (object.Local number) ty h = local_spot (slice_get f.locals number) number ty refl h
-  object_spot (object.Register address) ty h = (register_low address (is_device address) ty refl h, register_spot (is_device address) ty h, tt)
+  object_spot : (o : Object) (ty : Qualified) (line : ℕ) → is_named (names_local o) (declared_type p f o) ty ≡ true → RegistersFit memory (object_registers o line) → SpotFits (type_bytes p.sizes ty.ty) (Fixed (object_byte l c o))
+  object_spot (object.Static number) ty line h r = static_spot (slice_get p.statics number) number ty refl h
+  object_spot (object.Param number) ty line h r = param_spot (slice_get f.params number) number ty refl h
+  object_spot (object.Local number) ty line h r = local_spot (slice_get f.locals number) number ty refl h
+  object_spot (object.Register address) ty line h r = ((register_low address (is_device address) ty refl h, register_one (is_device address) ty h, λ some. r.0), register_spot (is_device address) ty h, tt)
 
   -- what lies so many bytes behind a byte that has an address has one too
   points_behind : (byte : Byte) (n i : ℕ) → i ≤ n → Lies memory n byte → Points memory byte → Points memory (behind byte i)
@@ -295,14 +324,14 @@ module _ (c size : ℕ) (memory : Memory) (l : Layout) (p : Program) (f : Functi
   member_fit (Bit register bit) n m offset s within = tt
   member_fit Computed n m offset s within = tt
 
-  spot_fits : (place : Place) → place_fits p f place ≡ true → SpotFits (type_bytes p.sizes (place_type place).ty) (spot_of l c place)
-  unfolding place_fits place_rule_holds spot_of
-  spot_fits (tree.Name object ty line) h = object_spot object ty h
-  spot_fits (tree.Bit register bit line) h = device_low register (and_first (is_device register) (nat_lt bit 8) h)
-  spot_fits (tree.Deref pointer ty line) h = tt
-  spot_fits (tree.Member whole member offset ty line) h =
+  spot_fits : (place : Place) → place_fits p f place ≡ true → RegistersFit memory (place_registers place) → SpotFits (type_bytes p.sizes (place_type place).ty) (spot_of l c place)
+  unfolding place_fits place_rule_holds spot_of place_registers
+  spot_fits (tree.Name object ty line) h r = object_spot object ty line h r
+  spot_fits (tree.Bit register bit line) h r = (device_low register (and_first (is_device register) (nat_lt bit 8) h), omega arith, λ some. r.0)
+  spot_fits (tree.Deref pointer ty line) h r = tt
+  spot_fits (tree.Member whole member offset ty line) h r =
       let rule = member_fits (member_at p (place_type whole).ty member) (place_type whole) offset ty in
-      member_fit (spot_of l c whole) (type_bytes p.sizes (place_type whole).ty) (type_bytes p.sizes ty.ty) offset (spot_fits whole (and_last rule (place_fits p f whole) h))
+      member_fit (spot_of l c whole) (type_bytes p.sizes (place_type whole).ty) (type_bytes p.sizes ty.ty) offset (spot_fits whole (and_last rule (place_fits p f whole) h) r)
       (λ small. in_whole p f has.keeps (place_type whole) ty member offset small (and_first rule (place_fits p f whole) h))
 
   fits_lies : (spot : Spot) (n w : ℕ) → w ≤ n → SpotFits n spot → SpotLies memory w spot
@@ -315,14 +344,14 @@ module _ (c size : ℕ) (memory : Memory) (l : Layout) (p : Program) (f : Functi
   fits_points (Bit register bit) n s = tt
   fits_points Computed n s = tt
 
-  pub spot_points : (place : Place) → place_fits p f place ≡ true → SpotPoints memory (spot_of l c place)
-  spot_points place h = fits_points (spot_of l c place) (type_bytes p.sizes (place_type place).ty) (spot_fits place h)
+  pub spot_points : (place : Place) → place_fits p f place ≡ true → RegistersFit memory (place_registers place) → SpotPoints memory (spot_of l c place)
+  spot_points place h r = fits_points (spot_of l c place) (type_bytes p.sizes (place_type place).ty) (spot_fits place h r)
 
   -- so many bytes of a place, where it is fixed
-  pub spot_lies : (place : Place) (w : ℕ) → place_fits p f place ≡ true → w ≤ type_bytes l.sizes (place_type place).ty → SpotLies memory w (spot_of l c place)
-  spot_lies place w h m =
+  pub spot_lies : (place : Place) (w : ℕ) → place_fits p f place ≡ true → RegistersFit memory (place_registers place) → w ≤ type_bytes l.sizes (place_type place).ty → SpotLies memory w (spot_of l c place)
+  spot_lies place w h r m =
       let same = ap (λ (s : List ℕ). type_bytes s (place_type place).ty) has.sizes in
-      fits_lies (spot_of l c place) (type_bytes p.sizes (place_type place).ty) w (omega (arith, m, same)) (spot_fits place h)
+      fits_lies (spot_of l c place) (type_bytes p.sizes (place_type place).ty) w (omega (arith, m, same)) (spot_fits place h r)
 
   some_one : (n : ℕ) → 1 ≤ n → 1 ≤ beyond 0 n
   unfolding beyond

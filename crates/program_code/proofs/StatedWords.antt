@@ -23,6 +23,7 @@ use Rattle.lower_stmt.specs.Frames.{ground_for, layout_for}
 use Rattle.lower_stmt.specs.Ground.{Ground}
 use Rattle.lower_stmt.specs.Jumps.{outside}
 use Rattle.lower_stmt.specs.Statements.{stmts_code}
+use Rattle.named_registers.specs.Registers.{names_register}
 use Rattle.pic_world.specs.declared.Root.{Root}
 use Rattle.ram_place.specs.Sizes.{frame_bytes, block_words, size_or_none}
 use Rattle.select_code.specs.declared.control.Ending.{Ending}
@@ -44,6 +45,7 @@ use Rattle.program_code.proofs.Lying.{AllLie, lie_on, trees_lie}
 use Rattle.program_code.proofs.Rooms.{Keeps}
 use Rattle.program_code.proofs.StatementBytes.{statements_lie}
 use Rattle.program_code.proofs.Others.{calls_fit}
+use Rattle.program_code.proofs.Devices.{HasRegisters, registers_fit}
 use Rattle.program_code.proofs.Copied.{called_have_copies}
 use Rattle.program_code.proofs.Placed.{HasFrames, HasObjects, function_keeps, objects_small, stands, base_within, helpers_roomy, all_banked}
 use Rattle.program_code.proofs.There.{names_within}
@@ -107,7 +109,7 @@ module _ (p : Program) (copies : List FnCopy) (number : ℕ) (f : FunctionTree) 
       (called_have_copies p copies block.depth number block.function block.copy f is.sound block.known block.deep block.there block.is_function block.found)
 
   -- ---- what the block names, where the frames and the static objects are there
-  module _ (memory : Memory) (frames : HasFrames p copies memory) (objects : HasObjects p memory) where
+  module _ (memory : Memory) (frames : HasFrames p copies memory) (objects : HasObjects p memory) (devices : HasRegisters p memory) where
     own : memory.frames number ≡ Some (frame_size p.sizes f)
     own = frames number block.copy block.there ∙ ap (λ (id : FnId). Some (frame_bytes p id)) block.is_function ∙ ap (λ (o : Option FunctionTree). Some (size_or_none (frame_size p.sizes) o)) block.found
 
@@ -115,7 +117,7 @@ module _ (p : Program) (copies : List FnCopy) (number : ℕ) (f : FunctionTree) 
     all_lie =
         let g = ground_for p copies number root f in
         lie_on memory (stmts_code g outside f.body) (core.Leave ∷ [])
-        (statements_lie (frame_size p.sizes f) memory p f g (stands p copies root f number memory is keeps.0 own objects) refl outside true false false f.body keeps.1 (calls_fit p copies memory root f frames (statements_calls f.body) called) (base_within p copies root f)) (tt, tt)
+        (statements_lie (frame_size p.sizes f) memory p f g (stands p copies root f number memory is keeps.0 own objects) refl outside true false false f.body keeps.1 (calls_fit p copies memory root f frames (statements_calls f.body) called, registers_fit p memory block.function f devices block.found) (base_within p copies root f)) (tt, tt)
 
     trees_there : TreesLie memory (trees_of (body_code (ground_for p copies number root f) f))
     trees_there = trees_lie memory (body_code (ground_for p copies number root f) f) all_lie
@@ -154,14 +156,17 @@ objects_there p copies few k s there =
     let held = ap (slice_get p.statics) number ∙ there in
     subst (λ (o : Option StaticTree). HasBytes (option_map (λ (x : StaticTree). type_bytes p.sizes x.ty.ty) o) (type_bytes p.sizes s.ty.ty)) (sym held) (omega arith)
 
+devices_there : (p : Program) (address : ℕ) → names_register p address ≡ true → names_register p address ≡ true
+devices_there p address named = named
+
 -- the same without the objects' numbers: each number is one of an object that is large enough
 large_memory : Program → List FnCopy → Memory
-large_memory p copies = record { frames = (memory_of p copies).frames; objects = λ k. Some 65535 }
+large_memory p copies = record { frames = (memory_of p copies).frames; objects = λ k. Some 65535; devices = (memory_of p copies).devices }
 
 -- the bytes of the copy's frame, whatever the numbers of static objects
 kept_within : BlocksKeepWithin
 unfolding large_memory
-kept_within p copies number f given is block = all_within p copies number f given.list.items is block (large_memory p copies) (frames_there p copies) (λ k s there. objects_small p is k s there)
+kept_within p copies number f given is block = all_within p copies number f given.list.items is block (large_memory p copies) (frames_there p copies) (λ k s there. objects_small p is k s there) (devices_there p)
 
 pub blocks_are_bare : BlocksAreBare
 blocks_are_bare p copies number f given is block = all_bare p copies number f given.list.items is block
@@ -170,12 +175,12 @@ pub blocks_keep_within : BlocksKeepWithin
 blocks_keep_within p copies number f given is block = kept_within p copies number f given is block
 
 pub blocks_keep_there : BlocksKeepThere
-blocks_keep_there p copies number f given is few block = all_there p copies number f given.list.items is block (memory_of p copies) (frames_there p copies) (objects_there p copies few)
+blocks_keep_there p copies number f given is few block = all_there p copies number f given.list.items is block (memory_of p copies) (frames_there p copies) (objects_there p copies few) (devices_there p)
 
 -- The same of what is selected for another body of the copy, which names no other bytes.
 pub others_keep_there : (p : Program) (copies : List FnCopy) (number : ℕ) (f : FunctionTree) (list : List Sym) → IsProgram p → length p.statics ≤ 65535 → (block : IsCodeOf p copies number f list) → (body : Body) → body.root ≡ block.body.root
     → (TreesLie (memory_of p copies) (trees_of (trees_in block.body.code.items)) → TreesLie (memory_of p copies) (trees_of (trees_in body.code.items))) → SymsLie (memory_of p copies) (block_code copies number body)
-others_keep_there p copies number f list is few block body same keeps = other_there p copies number f list is block (memory_of p copies) (frames_there p copies) (objects_there p copies few) body same keeps
+others_keep_there p copies number f list is few block body same keeps = other_there p copies number f list is block (memory_of p copies) (frames_there p copies) (objects_there p copies few) (devices_there p) body same keeps
 
 pub words_are_stated : WordsAreStated
 words_are_stated p copies placed number f given made is block exact frame_is =

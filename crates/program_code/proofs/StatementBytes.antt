@@ -30,12 +30,13 @@ use Rattle.lower_stmt.specs.Jumps.{in_segment}
 use Rattle.lower_stmt.specs.Labels.{labels_of, has, segments_before}
 use Rattle.lower_stmt.specs.Statements.{any_code, condition_code, once, jumps_in, loop_code, return_code, segments_in, stmt_code, stmts_code, arms_code, arm_code, last_code, segments_code}
 use Rattle.lower_stmt.specs.Switches.{comparison, leading, case_code, cases_code, otherwise_segment, comparisons, begun_with, Segments, no_segments, joined, cut, nest, around, for_labels}
-use Rattle.program_code.specs.Naming.{Memory, Lies, CallsFit}
+use Rattle.named_registers.specs.Registers.{registers, any_registers, item_registers, items_registers, statement_registers, statements_registers, arm_registers, arms_registers, last_registers}
+use Rattle.program_code.specs.Naming.{Memory, Lies}
 use Rattle.program_code.proofs.Chain.{never}
 use Rattle.program_code.proofs.Typing.{and_first, and_last, promoted_number}
 use Rattle.program_code.proofs.Nodes.{width_within}
 use Rattle.program_code.proofs.Rooms.{same_type_bytes, room_holds}
-use Rattle.program_code.proofs.Standing.{Stand, scalar_few, pointer_same, at_base, fit_first, fit_last, spot_lies, pointer_lies}
+use Rattle.program_code.proofs.Standing.{Stand, scalar_few, pointer_same, at_base, PartFits, part_first, part_last, spot_lies, pointer_lies}
 use Rattle.program_code.proofs.Within.{choice_within}
 use Rattle.program_code.proofs.Inside.{expr_lies, address_lies}
 use Rattle.program_code.proofs.Lying.{size_within, AllLie, lie_on, trees_lie, of_result, less, past, sets_lie, copies_lie, struct_lie}
@@ -48,11 +49,11 @@ module _ (size : ℕ) (memory : Memory) (p : Program) (f : FunctionTree) (g : Gr
   at_first : (n : ℕ) → g.base + n ≤ size → Lies memory n (first g)
   at_first n b = at_base g.copy size memory g.layout p f has_all n g.base b
 
-  value_lies : (e : Expression) → fits p f Used e ≡ true → CallsFit p memory (copy_of g.layout) (calls e) → g.base + room g.layout.sizes e ≤ size → Lie (value_code g e)
+  value_lies : (e : Expression) → fits p f Used e ≡ true → PartFits p memory (copy_of g.layout) (calls e) (registers e) → g.base + room g.layout.sizes e ≤ size → Lie (value_code g e)
   value_lies e h o b = expr_lies g.copy size memory g.layout p f has_all true g.base Used e h o b
 
   -- ---- locals
-  scalar_lies : (to : Byte) (e : Expression) → fits p f Used e ≡ true → CallsFit p memory (copy_of g.layout) (calls e) → g.base + local_room (room g.layout.sizes e) (value_bytes g.layout.sizes e) ≤ size → Lies memory (value_bytes g.layout.sizes e) to → Lie (scalar_code g to e)
+  scalar_lies : (to : Byte) (e : Expression) → fits p f Used e ≡ true → PartFits p memory (copy_of g.layout) (calls e) (registers e) → g.base + local_room (room g.layout.sizes e) (value_bytes g.layout.sizes e) ≤ size → Lies memory (value_bytes g.layout.sizes e) to → Lie (scalar_code g to e)
   scalar_lies to e h o b there =
       let w = width_within g.layout (type_of e) in
       lie_on memory (value_code g e) (copies to (first g) (ground.width g e)) (value_lies e h o (omega (arith, b)))
@@ -64,7 +65,7 @@ module _ (size : ℕ) (memory : Memory) (p : Program) (f : FunctionTree) (g : Gr
       let same = ap (λ (s : List ℕ). type_bytes s v.ty.ty) has_all.sizes in
       at_base g.copy size memory g.layout p f has_all (type_bytes g.layout.sizes v.ty.ty) (slice_index g.layout.locals local) (omega (arith, at, same))
 
-  first_value_lies : (local : ℕ) (o : Option VariableTree) (e : Expression) → slice_get f.locals local ≡ o → first_value_fits p f o e ≡ true → CallsFit p memory (copy_of g.layout) (calls e) → g.base + local_room (room g.layout.sizes e) (value_bytes g.layout.sizes e) ≤ size
+  first_value_lies : (local : ℕ) (o : Option VariableTree) (e : Expression) → slice_get f.locals local ≡ o → first_value_fits p f o e ≡ true → PartFits p memory (copy_of g.layout) (calls e) (registers e) → g.base + local_room (room g.layout.sizes e) (value_bytes g.layout.sizes e) ≤ size
       → Lie (scalar_code g (local_byte g local) e)
   first_value_lies local None e there h o b = never h
   first_value_lies local (Some v) e there h o b =
@@ -87,7 +88,7 @@ module _ (size : ℕ) (memory : Memory) (p : Program) (f : FunctionTree) (g : Gr
       by_covered true = tt
       by_covered false = (past memory (suc k) 1 k to (omega arith) h, tt)
 
-  item_lies : (to : Byte) (item : Item) → item_fits p f item ≡ true → CallsFit p memory (copy_of g.layout) (item_calls item) → g.base + item_room g.layout.sizes item ≤ size → Lies memory (item_bytes g.layout.sizes item) (behind to (item_start item)) → Lie (item_code g to item)
+  item_lies : (to : Byte) (item : Item) → item_fits p f item ≡ true → PartFits p memory (copy_of g.layout) (item_calls item) (item_registers item) → g.base + item_room g.layout.sizes item ≤ size → Lies memory (item_bytes g.layout.sizes item) (behind to (item_start item)) → Lie (item_code g to item)
   item_lies to (tree.Scalar offset e) h o b there = scalar_lies (behind to offset) e (and_last (goes_to p (source_of e) (type_of e) (type_of e)) (fits p f Used e) h) o b there
   item_lies to (tree.Struct offset from n) h o b there =
       let l = g.layout in
@@ -99,11 +100,11 @@ module _ (size : ℕ) (memory : Memory) (p : Program) (f : FunctionTree) (g : Gr
       let address = pointer_code (spot_of l g.copy from) (address_code l g.copy g.base from) in
       lie_on memory address (struct_row l.root (Fixed (behind to offset)) (spot_of l g.copy from) (first g) n)
       (pointer_lies g.copy size memory l p f has_all (spot_of l g.copy from) (address_code l g.copy g.base from) (λ e. address_lies g.copy size memory l p f has_all g.base from fit o e (omega (arith, b))))
-      (struct_lie memory l.root (Fixed (behind to offset)) (spot_of l g.copy from) (first g) n there (spot_lies g.copy size memory l p f has_all from n fit (omega (arith, is, same)))
+      (struct_lie memory l.root (Fixed (behind to offset)) (spot_of l g.copy from) (first g) n there (spot_lies g.copy size memory l p f has_all from n fit o.1 (omega (arith, is, same)))
       (at_first (0 + pointer_bytes (spot_of l g.copy from) + 2) (omega (arith, b, pointer))))
   item_lies to (tree.Text offset text n) h o b there = text_lies (behind to offset) text n there
 
-  items_lie : (to : Byte) (whole before : ℕ) (items : List Item) → items_fit p f whole before items ≡ true → CallsFit p memory (copy_of g.layout) (items_calls items) → g.base + items_room g.layout.sizes items ≤ size → Lies memory whole to → Lie (items_code g to items)
+  items_lie : (to : Byte) (whole before : ℕ) (items : List Item) → items_fit p f whole before items ≡ true → PartFits p memory (copy_of g.layout) (items_calls items) (items_registers items) → g.base + items_room g.layout.sizes items ≤ size → Lies memory whole to → Lie (items_code g to items)
   items_lie to whole before [] h o b there = tt
   items_lie to whole before (item ∷ items) h o b there =
       let lies = lies_within whole before (item_start item) (item_bytes p.sizes item) in
@@ -114,10 +115,10 @@ module _ (size : ℕ) (memory : Memory) (p : Program) (f : FunctionTree) (g : Gr
       let high = leb-true (item_bytes p.sizes item) (whole - item_start item) (and_last (nat_le (item_start item) whole) (nat_le (item_bytes p.sizes item) (whole - item_start item)) bounds) in
       let same = ap (λ (s : List ℕ). item_bytes s item) has_all.sizes in
       lie_on memory (item_code g to item) (items_code g to items)
-      (item_lies to item (and_first (item_fits p f item) (items_fit p f whole next items) rest) (fit_first p memory (copy_of g.layout) (item_calls item) (items_calls items) o) (omega (arith, b)) (past memory whole (item_bytes g.layout.sizes item) (item_start item) to (omega (arith, low, high, same)) there))
-      (items_lie to whole next items (and_last (item_fits p f item) (items_fit p f whole next items) rest) (fit_last p memory (copy_of g.layout) (item_calls item) (items_calls items) o) (omega (arith, b)) there)
+      (item_lies to item (and_first (item_fits p f item) (items_fit p f whole next items) rest) (part_first p memory (copy_of g.layout) (item_calls item) (items_calls items) (item_registers item) (items_registers items) o) (omega (arith, b)) (past memory whole (item_bytes g.layout.sizes item) (item_start item) to (omega (arith, low, high, same)) there))
+      (items_lie to whole next items (and_last (item_fits p f item) (items_fit p f whole next items) rest) (part_last p memory (copy_of g.layout) (item_calls item) (items_calls items) (item_registers item) (items_registers items) o) (omega (arith, b)) there)
 
-  list_lies : (local : ℕ) (o : Option VariableTree) (items : List Item) → slice_get f.locals local ≡ o → list_fits p f o items ≡ true → CallsFit p memory (copy_of g.layout) (items_calls items) → g.base + items_room g.layout.sizes items ≤ size → Lie (list_code g local items)
+  list_lies : (local : ℕ) (o : Option VariableTree) (items : List Item) → slice_get f.locals local ≡ o → list_fits p f o items ≡ true → PartFits p memory (copy_of g.layout) (items_calls items) (items_registers items) → g.base + items_room g.layout.sizes items ≤ size → Lie (list_code g local items)
   list_lies local None items there h o b = never h
   list_lies local (Some v) items there h o b =
       let to = local_byte g local in
@@ -129,7 +130,7 @@ module _ (size : ℕ) (memory : Memory) (p : Program) (f : FunctionTree) (g : Gr
       (rest_lies to items (local_bytes g local) (less memory (type_bytes g.layout.sizes v.ty.ty) (local_bytes g local) to (omega (arith, n)) at))
 
   -- ---- conditions and loops
-  condition_lies : (o : Option Expression) → any_condition_fits p f o ≡ true → CallsFit p memory (copy_of g.layout) (any_calls o) → g.base + any_room g.layout.sizes o ≤ size → Lie (condition_code g o)
+  condition_lies : (o : Option Expression) → any_condition_fits p f o ≡ true → PartFits p memory (copy_of g.layout) (any_calls o) (any_registers o) → g.base + any_room g.layout.sizes o ≤ size → Lie (condition_code g o)
   condition_lies None h o b = tt
   condition_lies (Some e) h o b =
       let fit = and_last (is_scalar (type_of e)) (fits p f Used e) h in
@@ -139,7 +140,7 @@ module _ (size : ℕ) (memory : Memory) (p : Program) (f : FunctionTree) (g : Gr
       lie_on memory (value_code g e) (core.If (first g) (test_size (ground.width g e)) (many []) (core.Exit 0) ∷ []) (value_lies e fit o b)
       ((at_first (test_size (ground.width g e)) (omega (arith, b, held, w, test)), tt, tt), tt)
 
-  any_lies : (o : Option Expression) → any_fits p f o ≡ true → CallsFit p memory (copy_of g.layout) (any_calls o) → g.base + any_room g.layout.sizes o ≤ size → Lie (any_code g o)
+  any_lies : (o : Option Expression) → any_fits p f o ≡ true → PartFits p memory (copy_of g.layout) (any_calls o) (any_registers o) → g.base + any_room g.layout.sizes o ≤ size → Lie (any_code g o)
   any_lies None h o b = tt
   any_lies (Some e) h o b = expr_lies g.copy size memory g.layout p f has_all false g.base Used e h o b
 
@@ -150,7 +151,7 @@ module _ (size : ℕ) (memory : Memory) (p : Program) (f : FunctionTree) (g : Gr
   once_lies body h = turn_lies (body ++ core.Exit 0 ∷ []) (lie_on memory body (core.Exit 0 ∷ []) h (tt, tt))
 
   loop_lies : (shape : LoopForm) (begin condition step : Option Expression) (body : List Tree) → any_fits p f begin ≡ true → any_condition_fits p f condition ≡ true → any_fits p f step ≡ true
-      → CallsFit p memory (copy_of g.layout) (any_calls begin) → CallsFit p memory (copy_of g.layout) (any_calls condition) → CallsFit p memory (copy_of g.layout) (any_calls step)
+      → PartFits p memory (copy_of g.layout) (any_calls begin) (any_registers begin) → PartFits p memory (copy_of g.layout) (any_calls condition) (any_registers condition) → PartFits p memory (copy_of g.layout) (any_calls step) (any_registers step)
       → g.base + max (any_room g.layout.sizes begin) (max (any_room g.layout.sizes condition) (any_room g.layout.sizes step)) ≤ size → Lie body → Lie (loop_code g shape begin condition step body)
   loop_lies While begin condition step body a b d x y z m h = turn_lies (condition_code g condition ++ body) (lie_on memory (condition_code g condition) body (condition_lies condition b y (omega (arith, m))) h)
   loop_lies Do begin condition step body a b d x y z m h = turn_lies (once body ++ condition_code g condition) (lie_on memory (once body) (condition_code g condition) (once_lies body h) (condition_lies condition b y (omega (arith, m))))
@@ -159,7 +160,7 @@ module _ (size : ℕ) (memory : Memory) (p : Program) (f : FunctionTree) (g : Gr
       (turn_lies (condition_code g condition ++ once body ++ any_code g step)
       (lie_on memory (condition_code g condition ++ once body) (any_code g step) (lie_on memory (condition_code g condition) (once body) (condition_lies condition b y (omega (arith, m))) (once_lies body h)) (any_lies step d z (omega (arith, m)))))
 
-  return_lies : (o : Option Expression) → return_fits p f o ≡ true → CallsFit p memory (copy_of g.layout) (any_calls o) → g.base + any_room g.layout.sizes o ≤ size → Lie (return_code g o)
+  return_lies : (o : Option Expression) → return_fits p f o ≡ true → PartFits p memory (copy_of g.layout) (any_calls o) (any_registers o) → g.base + any_room g.layout.sizes o ≤ size → Lie (return_code g o)
   return_lies None h o b = (tt, tt)
   return_lies (Some e) h o b =
       let goes = goes_to p (source_of e) (type_of e) f.result in
@@ -226,7 +227,7 @@ module _ (size : ℕ) (memory : Memory) (p : Program) (f : FunctionTree) (g : Gr
   labels_lie [] code h = tt
   labels_lie (one ∷ labels) code h = h
 
-  switch_lies : (value : Expression) (cases : List TCase) (default : Option ℕ) (labels : List ℕ) (count : ℕ) (s : Segments) → switch_rule p f value ≡ true → CallsFit p memory (copy_of g.layout) (calls value)
+  switch_lies : (value : Expression) (cases : List TCase) (default : Option ℕ) (labels : List ℕ) (count : ℕ) (s : Segments) → switch_rule p f value ≡ true → PartFits p memory (copy_of g.layout) (calls value) (registers value)
       → g.base + switch_room (room g.layout.sizes value) (value_bytes g.layout.sizes value) ≤ size → SegmentsLie s → Lie (value_code g value ++ for_labels labels (around (comparisons g value cases default labels count) s))
   switch_lies value cases default labels count s h o b t =
       let promoted = and_first (is_promoted (type_of value)) (fits p f Used value) h in
@@ -238,9 +239,9 @@ module _ (size : ℕ) (memory : Memory) (p : Program) (f : FunctionTree) (g : Gr
 
   -- ---- all statements
   mutual
-    unfolding stmt_code statement_fits statement_room statement_calls
+    unfolding stmt_code statement_fits statement_room statement_calls statement_registers
 
-    pub statement_lies : (j : Jumps) (declares leaves repeats : Bool) (s : Statement) → statement_fits p f declares leaves repeats s ≡ true → CallsFit p memory (copy_of g.layout) (statement_calls s) → g.base + statement_room g.layout.sizes s ≤ size → AllLie memory (stmt_code g j s)
+    pub statement_lies : (j : Jumps) (declares leaves repeats : Bool) (s : Statement) → statement_fits p f declares leaves repeats s ≡ true → PartFits p memory (copy_of g.layout) (statement_calls s) (statement_registers s) → g.base + statement_room g.layout.sizes s ≤ size → AllLie memory (stmt_code g j s)
     statement_lies j declares leaves repeats (tree.Block statements line) h o b = statements_lie j true leaves repeats statements h o b
     statement_lies j declares leaves repeats (tree.Empty line) h o b = tt
     statement_lies j declares leaves repeats (tree.Expr value line) h o b = expr_lies g.copy size memory g.layout p f has_all false g.base Alone value h o b
@@ -249,18 +250,18 @@ module _ (size : ℕ) (memory : Memory) (p : Program) (f : FunctionTree) (g : Gr
     statement_lies j declares leaves repeats (tree.InitList local items line) h o b = list_lies local (slice_get f.locals local) items refl (and_last declares (list_fits p f (slice_get f.locals local) items) h) o b
     statement_lies j declares leaves repeats (tree.If arms otherwise line) h o b =
         let parts = and_last (is_some_arm arms) (arms_fit p f leaves repeats arms && last_fits p f leaves repeats otherwise) h in
-        arms_lie j leaves repeats (last_code g j otherwise) arms (and_first (arms_fit p f leaves repeats arms) (last_fits p f leaves repeats otherwise) parts) (fit_first p memory (copy_of g.layout) (arms_calls arms) (last_calls otherwise) o) (omega (arith, b))
-        (last_lies j leaves repeats otherwise (and_last (arms_fit p f leaves repeats arms) (last_fits p f leaves repeats otherwise) parts) (fit_last p memory (copy_of g.layout) (arms_calls arms) (last_calls otherwise) o) (omega (arith, b)))
+        arms_lie j leaves repeats (last_code g j otherwise) arms (and_first (arms_fit p f leaves repeats arms) (last_fits p f leaves repeats otherwise) parts) (part_first p memory (copy_of g.layout) (arms_calls arms) (last_calls otherwise) (arms_registers arms) (last_registers otherwise) o) (omega (arith, b))
+        (last_lies j leaves repeats otherwise (and_last (arms_fit p f leaves repeats arms) (last_fits p f leaves repeats otherwise) parts) (part_last p memory (copy_of g.layout) (arms_calls arms) (last_calls otherwise) (arms_registers arms) (last_registers otherwise) o) (omega (arith, b)))
     statement_lies j declares leaves repeats (tree.Loop shape begin condition step body line) h o b =
         let inner = statement_fits p f false true true body in
         let parts = and_last (loop_fits shape (is_some begin) (is_some condition) (is_some step)) (any_fits p f begin && (any_condition_fits p f condition && (any_fits p f step && inner))) h in
         let later = and_last (any_fits p f begin) (any_condition_fits p f condition && (any_fits p f step && inner)) parts in
         let last = and_last (any_condition_fits p f condition) (any_fits p f step && inner) later in
-        let three = fit_first p memory (copy_of g.layout) (any_calls begin ++ any_calls condition ++ any_calls step) (statement_calls body) o in
-        let two = fit_first p memory (copy_of g.layout) (any_calls begin ++ any_calls condition) (any_calls step) three in
+        let three = part_first p memory (copy_of g.layout) (any_calls begin ++ any_calls condition ++ any_calls step) (statement_calls body) (any_registers begin ++ any_registers condition ++ any_registers step) (statement_registers body) o in
+        let two = part_first p memory (copy_of g.layout) (any_calls begin ++ any_calls condition) (any_calls step) (any_registers begin ++ any_registers condition) (any_registers step) three in
         loop_lies shape begin condition step (stmt_code g (jumps_in shape) body) (and_first (any_fits p f begin) (any_condition_fits p f condition && (any_fits p f step && inner)) parts) (and_first (any_condition_fits p f condition) (any_fits p f step && inner) later) (and_first (any_fits p f step) inner last)
-        (fit_first p memory (copy_of g.layout) (any_calls begin) (any_calls condition) two) (fit_last p memory (copy_of g.layout) (any_calls begin) (any_calls condition) two) (fit_last p memory (copy_of g.layout) (any_calls begin ++ any_calls condition) (any_calls step) three) (omega (arith, b))
-        (statement_lies (jumps_in shape) false true true body (and_last (any_fits p f step) inner last) (fit_last p memory (copy_of g.layout) (any_calls begin ++ any_calls condition ++ any_calls step) (statement_calls body) o) (omega (arith, b)))
+        (part_first p memory (copy_of g.layout) (any_calls begin) (any_calls condition) (any_registers begin) (any_registers condition) two) (part_last p memory (copy_of g.layout) (any_calls begin) (any_calls condition) (any_registers begin) (any_registers condition) two) (part_last p memory (copy_of g.layout) (any_calls begin ++ any_calls condition) (any_calls step) (any_registers begin ++ any_registers condition) (any_registers step) three) (omega (arith, b))
+        (statement_lies (jumps_in shape) false true true body (and_last (any_fits p f step) inner last) (part_last p memory (copy_of g.layout) (any_calls begin ++ any_calls condition ++ any_calls step) (statement_calls body) (any_registers begin ++ any_registers condition ++ any_registers step) (statement_registers body) o) (omega (arith, b)))
     statement_lies j declares leaves repeats (tree.Switch value cases default statements line) h o b =
         let labels = labels_of cases default in
         let count = segments_in statements labels in
@@ -268,41 +269,41 @@ module _ (size : ℕ) (memory : Memory) (p : Program) (f : FunctionTree) (g : Gr
         let parts = and_last (switch_rule p f value) (cases_fit (type_of value) (count_of statements) cases && (default_fits (count_of statements) default && inner)) h in
         let later = and_last (cases_fit (type_of value) (count_of statements) cases) (default_fits (count_of statements) default && inner) parts in
         switch_lies value cases default labels count (segments_code g j labels count 0 0 statements) (and_first (switch_rule p f value) (cases_fit (type_of value) (count_of statements) cases && (default_fits (count_of statements) default && inner)) h)
-        (fit_first p memory (copy_of g.layout) (calls value) (statements_calls statements) o) (omega (arith, b))
-        (segments_lie j labels count 0 0 repeats statements (and_last (default_fits (count_of statements) default) inner later) (fit_last p memory (copy_of g.layout) (calls value) (statements_calls statements) o) (omega (arith, b)))
+        (part_first p memory (copy_of g.layout) (calls value) (statements_calls statements) (registers value) (statements_registers statements) o) (omega (arith, b))
+        (segments_lie j labels count 0 0 repeats statements (and_last (default_fits (count_of statements) default) inner later) (part_last p memory (copy_of g.layout) (calls value) (statements_calls statements) (registers value) (statements_registers statements) o) (omega (arith, b)))
     statement_lies j declares leaves repeats (tree.Break line) h o b = (tt, tt)
     statement_lies j declares leaves repeats (tree.Continue line) h o b = continue_lies j.again j.turn
     statement_lies j declares leaves repeats (tree.Return value line) h o b = return_lies value h o b
 
-    pub statements_lie : (j : Jumps) (declares leaves repeats : Bool) (ss : Statements) → statements_fit p f declares leaves repeats ss ≡ true → CallsFit p memory (copy_of g.layout) (statements_calls ss) → g.base + statements_room g.layout.sizes ss ≤ size → AllLie memory (stmts_code g j ss)
+    pub statements_lie : (j : Jumps) (declares leaves repeats : Bool) (ss : Statements) → statements_fit p f declares leaves repeats ss ≡ true → PartFits p memory (copy_of g.layout) (statements_calls ss) (statements_registers ss) → g.base + statements_room g.layout.sizes ss ≤ size → AllLie memory (stmts_code g j ss)
     statements_lie j declares leaves repeats tree.NoStatement h o b = tt
     statements_lie j declares leaves repeats (tree.AndStatement s ss) h o b =
         let one = statement_fits p f declares leaves repeats s in
         let more = statements_fit p f declares leaves repeats ss in
-        lie_on memory (stmt_code g j s) (stmts_code g j ss) (statement_lies j declares leaves repeats s (and_first one more h) (fit_first p memory (copy_of g.layout) (statement_calls s) (statements_calls ss) o) (omega (arith, b)))
-        (statements_lie j declares leaves repeats ss (and_last one more h) (fit_last p memory (copy_of g.layout) (statement_calls s) (statements_calls ss) o) (omega (arith, b)))
+        lie_on memory (stmt_code g j s) (stmts_code g j ss) (statement_lies j declares leaves repeats s (and_first one more h) (part_first p memory (copy_of g.layout) (statement_calls s) (statements_calls ss) (statement_registers s) (statements_registers ss) o) (omega (arith, b)))
+        (statements_lie j declares leaves repeats ss (and_last one more h) (part_last p memory (copy_of g.layout) (statement_calls s) (statements_calls ss) (statement_registers s) (statements_registers ss) o) (omega (arith, b)))
 
-    arms_lie : (j : Jumps) (leaves repeats : Bool) (otherwise : List Tree) (arms : Arms) → arms_fit p f leaves repeats arms ≡ true → CallsFit p memory (copy_of g.layout) (arms_calls arms) → g.base + arms_room g.layout.sizes arms ≤ size → AllLie memory otherwise → AllLie memory (arms_code g j otherwise arms)
+    arms_lie : (j : Jumps) (leaves repeats : Bool) (otherwise : List Tree) (arms : Arms) → arms_fit p f leaves repeats arms ≡ true → PartFits p memory (copy_of g.layout) (arms_calls arms) (arms_registers arms) → g.base + arms_room g.layout.sizes arms ≤ size → AllLie memory otherwise → AllLie memory (arms_code g j otherwise arms)
     arms_lie j leaves repeats otherwise tree.NoArm h o b q = q
     arms_lie j leaves repeats otherwise (tree.AndArm arm arms) h o b q =
         let one = arm_fits p f leaves repeats arm in
         let more = arms_fit p f leaves repeats arms in
-        arm_lies j leaves repeats (arms_code g j otherwise arms) arm (and_first one more h) (fit_first p memory (copy_of g.layout) (arm_calls arm) (arms_calls arms) o) (omega (arith, b))
-        (arms_lie j leaves repeats otherwise arms (and_last one more h) (fit_last p memory (copy_of g.layout) (arm_calls arm) (arms_calls arms) o) (omega (arith, b)) q)
+        arm_lies j leaves repeats (arms_code g j otherwise arms) arm (and_first one more h) (part_first p memory (copy_of g.layout) (arm_calls arm) (arms_calls arms) (arm_registers arm) (arms_registers arms) o) (omega (arith, b))
+        (arms_lie j leaves repeats otherwise arms (and_last one more h) (part_last p memory (copy_of g.layout) (arm_calls arm) (arms_calls arms) (arm_registers arm) (arms_registers arms) o) (omega (arith, b)) q)
 
-    arm_lies : (j : Jumps) (leaves repeats : Bool) (otherwise : List Tree) (arm : Arm) → arm_fits p f leaves repeats arm ≡ true → CallsFit p memory (copy_of g.layout) (arm_calls arm) → g.base + arm_room g.layout.sizes arm ≤ size → AllLie memory otherwise → AllLie memory (arm_code g j arm otherwise)
+    arm_lies : (j : Jumps) (leaves repeats : Bool) (otherwise : List Tree) (arm : Arm) → arm_fits p f leaves repeats arm ≡ true → PartFits p memory (copy_of g.layout) (arm_calls arm) (arm_registers arm) → g.base + arm_room g.layout.sizes arm ≤ size → AllLie memory otherwise → AllLie memory (arm_code g j arm otherwise)
     arm_lies j leaves repeats otherwise (tree.OneArm condition chosen line) h o b q =
         let inner = statement_fits p f false leaves repeats chosen in
         let fit = and_last (is_scalar (type_of condition)) (fits p f Used condition) (and_first (condition_fits p f condition) inner h) in
         choice_within g.copy size memory g.layout p f has_all g.base (room g.layout.sizes condition) (type_of condition) (value_code g condition) (stmt_code g j chosen) otherwise (room_holds g.layout.sizes p f Used condition fit) (omega (arith, b))
-        (value_lies condition fit (fit_first p memory (copy_of g.layout) (calls condition) (statement_calls chosen) o) (omega (arith, b)))
-        (statement_lies j false leaves repeats chosen (and_last (condition_fits p f condition) inner h) (fit_last p memory (copy_of g.layout) (calls condition) (statement_calls chosen) o) (omega (arith, b))) q
+        (value_lies condition fit (part_first p memory (copy_of g.layout) (calls condition) (statement_calls chosen) (registers condition) (statement_registers chosen) o) (omega (arith, b)))
+        (statement_lies j false leaves repeats chosen (and_last (condition_fits p f condition) inner h) (part_last p memory (copy_of g.layout) (calls condition) (statement_calls chosen) (registers condition) (statement_registers chosen) o) (omega (arith, b))) q
 
-    last_lies : (j : Jumps) (leaves repeats : Bool) (last : LastArm) → last_fits p f leaves repeats last ≡ true → CallsFit p memory (copy_of g.layout) (last_calls last) → g.base + last_room g.layout.sizes last ≤ size → AllLie memory (last_code g j last)
+    last_lies : (j : Jumps) (leaves repeats : Bool) (last : LastArm) → last_fits p f leaves repeats last ≡ true → PartFits p memory (copy_of g.layout) (last_calls last) (last_registers last) → g.base + last_room g.layout.sizes last ≤ size → AllLie memory (last_code g j last)
     last_lies j leaves repeats tree.NoLast h o b = tt
     last_lies j leaves repeats (tree.Last s) h o b = statement_lies j false leaves repeats s h o b
 
-    segments_lie : (j : Jumps) (labels : List ℕ) (count i begun : ℕ) (repeats : Bool) (ss : Statements) → statements_fit p f false true repeats ss ≡ true → CallsFit p memory (copy_of g.layout) (statements_calls ss) → g.base + statements_room g.layout.sizes ss ≤ size → SegmentsLie (segments_code g j labels count i begun ss)
+    segments_lie : (j : Jumps) (labels : List ℕ) (count i begun : ℕ) (repeats : Bool) (ss : Statements) → statements_fit p f false true repeats ss ≡ true → PartFits p memory (copy_of g.layout) (statements_calls ss) (statements_registers ss) → g.base + statements_room g.layout.sizes ss ≤ size → SegmentsLie (segments_code g j labels count i begun ss)
     segments_lie j labels count i begun repeats tree.NoStatement h o b = cut_lies (has labels i) no_segments (tt, tt)
     segments_lie j labels count i begun repeats (tree.AndStatement s ss) h o b =
         let one = statement_fits p f false true repeats s in
@@ -311,5 +312,5 @@ module _ (size : ℕ) (memory : Memory) (p : Program) (f : FunctionTree) (g : Gr
         let here = in_segment j (count - now) in
         let rest = segments_code g j labels count (i + 1) now ss in
         cut_lies (has labels i) (joined (stmt_code g here s) rest)
-        (joined_lies (stmt_code g here s) rest (statement_lies here false true repeats s (and_first one more h) (fit_first p memory (copy_of g.layout) (statement_calls s) (statements_calls ss) o) (omega (arith, b)))
-        (segments_lie j labels count (i + 1) now repeats ss (and_last one more h) (fit_last p memory (copy_of g.layout) (statement_calls s) (statements_calls ss) o) (omega (arith, b))))
+        (joined_lies (stmt_code g here s) rest (statement_lies here false true repeats s (and_first one more h) (part_first p memory (copy_of g.layout) (statement_calls s) (statements_calls ss) (statement_registers s) (statements_registers ss) o) (omega (arith, b)))
+        (segments_lie j labels count (i + 1) now repeats ss (and_last one more h) (part_last p memory (copy_of g.layout) (statement_calls s) (statements_calls ss) (statement_registers s) (statements_registers ss) o) (omega (arith, b))))

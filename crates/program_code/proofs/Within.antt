@@ -31,7 +31,8 @@ use Rattle.core_puts.specs.Puts.{copies_if, sets, operator, choice}
 use Rattle.lower_expr.specs.Rows.{tested, type_of_size, unary_row, logical_row, binary_row, widened, read_row, written_row, value_row, assigned_row, called_row, change_of, change_row, given_byte, keeps_old, update_row, step_row, step_number}
 use Rattle.lower_expr.specs.Spots.{spot_of, pointer_bytes}
 use Rattle.lower_expr.specs.declared.places.Spot.{Spot}
-use Rattle.program_code.specs.Naming.{Memory, HasBytes, Lies, TreeLies, count_bytes}
+use Rattle.named_registers.specs.Registers.{place_registers}
+use Rattle.program_code.specs.Naming.{Memory, HasBytes, Lies, TreeLies, RegistersFit, count_bytes}
 use Rattle.program_code.proofs.Chain.{never}
 use Rattle.program_code.proofs.Rows.{some_bytes}
 use Rattle.program_code.proofs.Typing.{Operates, OnInteger, OnPointer, and_first, and_last, unary_number, binary_number, update_operates, step_operates}
@@ -54,15 +55,15 @@ few_of_size n = by (nat_lt n 2) (nat_lt n 4) refl
     by false false e = let l = not_below n 2 e in omega (arith, l)
 
 module _ (c size : ℕ) (memory : Memory) (l : Layout) (p : Program) (f : FunctionTree) (has : Stand c size memory l p f) where
-  pub read_within : (base : ℕ) (place : Place) (ty : Ty) (address : List Tree) → place_fits p f place ≡ true → read_fits (place_type place) ty ≡ true → base + (address_bytes (form_of place) + type_bytes l.sizes ty) ≤ size → AllLie memory address
+  pub read_within : (base : ℕ) (place : Place) (ty : Ty) (address : List Tree) → place_fits p f place ≡ true → RegistersFit memory (place_registers place) → read_fits (place_type place) ty ≡ true → base + (address_bytes (form_of place) + type_bytes l.sizes ty) ≤ size → AllLie memory address
       → AllLie memory (address ++ value_row (spot_of l c place) (bytes.Frame c base) (width l ty))
-  read_within base place ty address h rule b q =
+  read_within base place ty address h named rule b q =
       let spot = spot_of l c place in
       let same = same_type_bytes l.sizes (place_type place).ty ty (and_first (same_type (place_type place).ty ty) (not (is_array ty)) rule) in
       let w = width_within l ty in
       let pointer = pointer_same l c place in
       lie_on memory address (value_row spot (bytes.Frame c base) (width l ty)) q
-      (value_lie memory spot (bytes.Frame c base) (width l ty) (spot_lies c size memory l p f has place (width l ty) h (omega (arith, w, same))) (at_base c size memory l p f has (pointer_bytes spot + width l ty) base (omega (arith, b, w, pointer)))
+      (value_lie memory spot (bytes.Frame c base) (width l ty) (spot_lies c size memory l p f has place (width l ty) h named (omega (arith, w, same))) (at_base c size memory l p f has (pointer_bytes spot + width l ty) base (omega (arith, b, w, pointer)))
       (subst (λ (k : ℕ). BitHas memory k spot) (ap (beyond 0) same) (bit_has c size memory l p f has place)))
 
   pub convert_within : (base : ℕ) (from to : Ty) (operand : List Tree) → base + type_bytes l.sizes to ≤ size → AllLie memory operand → AllLie memory (operand ++ widened from to (bytes.Frame c base))
@@ -106,15 +107,15 @@ module _ (c size : ℕ) (memory : Memory) (l : Layout) (p : Program) (f : Functi
       (binary_lie memory shifts op (operation_type left) (bytes.Frame c base) (bytes.Frame c (beyond base (width l left))) count (width l right) n (type_bytes l.sizes right) (omega (arith, number)) (omega arith) (at_base c size memory l p f has n base b) v counts
       (at_base c size memory l p f has (type_bytes l.sizes right) (beyond base (width l left)) (omega (arith, b, w, next))))
 
-  pub assign_within : (wanted : Bool) (base : ℕ) (place : Place) (ty : Ty) (n : ℕ) (address value : List Tree) → place_fits p f place ≡ true → assign_fits (place_type place) ty ≡ true → type_bytes l.sizes ty ≤ n → base + (address_bytes (form_of place) + n + 2) ≤ size → AllLie memory address → AllLie memory value
+  pub assign_within : (wanted : Bool) (base : ℕ) (place : Place) (ty : Ty) (n : ℕ) (address value : List Tree) → place_fits p f place ≡ true → RegistersFit memory (place_registers place) → assign_fits (place_type place) ty ≡ true → type_bytes l.sizes ty ≤ n → base + (address_bytes (form_of place) + n + 2) ≤ size → AllLie memory address → AllLie memory value
       → AllLie memory (address ++ value ++ assigned_row wanted (spot_of l c place) l.root (bytes.Frame c base) (width l ty))
-  assign_within wanted base place ty n address value h rule m b q r =
+  assign_within wanted base place ty n address value h named rule m b q r =
       let spot = spot_of l c place in
       let same = same_type_bytes l.sizes (place_type place).ty ty (and_last (is_writable (place_type place)) (same_type (place_type place).ty ty) rule) in
       let w = width_within l ty in
       let pointer = pointer_same l c place in
       lie_on memory (address ++ value) (assigned_row wanted spot l.root (bytes.Frame c base) (width l ty)) (lie_on memory address value q r)
-      (assigned_lie memory wanted spot l.root (bytes.Frame c base) (width l ty) (spot_lies c size memory l p f has place (width l ty) h (omega (arith, w, same))) (at_base c size memory l p f has (pointer_bytes spot + width l ty + 2) base (omega (arith, b, w, pointer, m))))
+      (assigned_lie memory wanted spot l.root (bytes.Frame c base) (width l ty) (spot_lies c size memory l p f has place (width l ty) h named (omega (arith, w, same))) (at_base c size memory l p f has (pointer_bytes spot + width l ty + 2) base (omega (arith, b, w, pointer, m))))
 
   pub logical_within : (op : LogicalOp) (base n m : ℕ) (left right : Ty) (first second : List Tree) → type_bytes l.sizes left ≤ n → type_bytes l.sizes right ≤ m → base + max n (max m 2) ≤ size → AllLie memory first → AllLie memory second
       → AllLie memory (first ++ logical_row op (bytes.Frame c base) (width l left) (second ++ tested (bytes.Frame c base) (width l right) 1 0 ∷ []) ∷ [])
@@ -187,10 +188,10 @@ module _ (c size : ℕ) (memory : Memory) (l : Layout) (p : Program) (f : Functi
       (written_lie memory spot l.root at left w s h g two))
       (copies_if_lie memory wanted at value w (λ e. (a, v e)))
 
-  pub update_within : (wanted : Bool) (op : BinOp) (place : Place) (value : Expression) (operation : Ty) (elements : ℕ) (ty : Ty) (base : ℕ) (address other : List Tree) → update_fits p op (place_type place) (type_of value) operation elements ty ≡ true → place_fits p f place ≡ true
+  pub update_within : (wanted : Bool) (op : BinOp) (place : Place) (value : Expression) (operation : Ty) (elements : ℕ) (ty : Ty) (base : ℕ) (address other : List Tree) → update_fits p op (place_type place) (type_of value) operation elements ty ≡ true → place_fits p f place ≡ true → RegistersFit memory (place_registers place)
       → base + (address_bytes (form_of place) + value_bytes l.sizes value + place_bytes l.sizes place + 3 * type_bytes l.sizes operation + 2) ≤ size → AllLie memory address → AllLie memory other
       → AllLie memory (address ++ change_code (shifts_by_constant op value) other ++ update_row (update_of wanted l op place value operation elements) (spot_of l c place) l.root (bytes.Frame c base) (place_width l place) (place_type place).ty)
-  update_within wanted op place value operation elements ty base address other rule h b q r =
+  update_within wanted op place value operation elements ty base address other rule h named b q r =
       let operates = update_operates l.sizes p op (place_type place) (type_of value) operation elements ty rule in
       let two = two_bytes op (place_type place).ty (type_of value) operation operates in
       let room = two.1 in
@@ -215,7 +216,7 @@ module _ (c size : ℕ) (memory : Memory) (l : Layout) (p : Program) (f : Functi
       let small = type_some operation operates in
       lie_on memory (address ++ change_code (shifts_by_constant op value) other) (update_row (update_of wanted l op place value operation elements) spot l.root at (place_width l place) (place_type place).ty)
       (lie_on memory address (change_code (shifts_by_constant op value) other) q (left_out (shifts_by_constant op value) other r))
-      (update_lies operation (wanted && false) wanted change spot (place_width l place) (place_type place).ty at left old left (spot_lies c size memory l p f has place (place_width l place) h w) (bit_has c size memory l p f has place) (less memory N (pointer_bytes spot) at (omega arith) all)
+      (update_lies operation (wanted && false) wanted change spot (place_width l place) (place_type place).ty at left old left (spot_lies c size memory l p f has place (place_width l place) h named w) (bit_has c size memory l p f has place) (less memory N (pointer_bytes spot) at (omega arith) all)
       (less memory N (place_width l place) at (omega (arith, w)) all) (less memory K (place_width l place) left (omega (arith, w)) here) (less memory K 2 left (omega arith) here) (less memory K O left (omega arith) here)
       (λ e. never (not_both wanted e)) (λ e. less memory K (place_width l place) left (omega (arith, w)) here)
       (change_lies op (shifts_by_constant op value) (place_type place).ty (type_of value) operation left right (constant_bits value) elements (value_width l value) K M operates (omega arith) (omega (arith, small)) here (omega (arith, count)) (omega arith) (omega arith) there))
@@ -228,10 +229,10 @@ module _ (c size : ℕ) (memory : Memory) (l : Layout) (p : Program) (f : Functi
       type_some operation (OnInteger t is room few) = let e = ap (type_bytes l.sizes) is in let s = some_bytes t in omega (arith, e, s)
       type_some operation (OnPointer target is room moves) = let e = ap (type_bytes l.sizes) is in omega (arith, e)
 
-  pub step_within : (wanted : Bool) (op : StepOp) (place : Place) (operation : Ty) (elements : ℕ) (ty : Ty) (base : ℕ) (address : List Tree) → step_fits p (place_type place) operation elements ty ≡ true → place_fits p f place ≡ true
+  pub step_within : (wanted : Bool) (op : StepOp) (place : Place) (operation : Ty) (elements : ℕ) (ty : Ty) (base : ℕ) (address : List Tree) → step_fits p (place_type place) operation elements ty ≡ true → place_fits p f place ≡ true → RegistersFit memory (place_registers place)
       → base + (address_bytes (form_of place) + 2 + place_bytes l.sizes place + 3 * type_bytes l.sizes operation + 2) ≤ size → AllLie memory address
       → AllLie memory (address ++ step_row (step_of wanted l op operation) (step_number operation elements) (spot_of l c place) l.root (bytes.Frame c base) (place_width l place) (place_type place).ty)
-  step_within wanted op place operation elements ty base address rule h b q =
+  step_within wanted op place operation elements ty base address rule h named b q =
       let by = step_operator op in
       let operates = step_operates l.sizes p by (place_type place) operation elements ty (step_moves op) rule in
       let two = two_bytes by (place_type place).ty Void operation operates in
@@ -260,7 +261,7 @@ module _ (c size : ℕ) (memory : Memory) (l : Layout) (p : Program) (f : Functi
       let before = less memory J (place_width l place) old (omega (arith, w)) kept in
       lie_on memory address (step_row (step_of wanted l op operation) (step_number operation elements) spot l.root at (place_width l place) (place_type place).ty) q
       (lie_on memory (sets right (step_number operation elements) (width l operation)) (update_row (step_of wanted l op operation) spot l.root at (place_width l place) (place_type place).ty) (sets_lie memory right (step_number operation elements) (width l operation) (less memory M (width l operation) right (omega (arith, count)) there))
-      (update_lies operation (wanted && keeps_old op) wanted (change ∷ []) spot (place_width l place) (place_type place).ty at left old (given_byte (keeps_old op) old left) (spot_lies c size memory l p f has place (place_width l place) h w) (bit_has c size memory l p f has place) (less memory N (pointer_bytes spot) at (omega arith) all)
+      (update_lies operation (wanted && keeps_old op) wanted (change ∷ []) spot (place_width l place) (place_type place).ty at left old (given_byte (keeps_old op) old left) (spot_lies c size memory l p f has place (place_width l place) h named w) (bit_has c size memory l p f has place) (less memory N (pointer_bytes spot) at (omega arith) all)
       (less memory N (place_width l place) at (omega (arith, w)) all) within (less memory K 2 left (omega arith) here) (less memory K O left (omega arith) here)
       (λ e. before) (λ e. one_of (keeps_old op) old left before within)
       (operator_lie memory by (operation_type operation) left right K M (omega (arith, number)) (omega arith) here (count_within by (bytes_of (operation_type operation)) M (omega (arith, number)) (omega arith)) there, tt)))

@@ -1,5 +1,5 @@
 -- That the bytes that operations of byte code name, with those that stand behind them, are there.
-use Rattle.std.specs.Prelude.{◌≡◌, ℕ, ◌+◌, ◌<◌, ◌≤◌, List, [], ◌∷◌, Option, Some, None, slice_get}
+use Rattle.std.specs.Prelude.{◌≡◌, ℕ, ◌+◌, ◌<◌, ◌≤◌, Bool, true, List, [], ◌∷◌, Option, Some, None, slice_get}
 use Rattle.c_ints.specs.Range.{bytes_of}
 use Rattle.c_ints.specs.declared.operators.BinOp.{BinOp}
 use Rattle.c_ints.specs.declared.operators.BinOp.TheVariants as binop
@@ -12,6 +12,7 @@ use Rattle.core_code.specs.Tree as code
 use Rattle.core_code.specs.Tree.{Tree, Trees}
 use Rattle.core_code.specs.declared.code.Byte.{Byte}
 use Rattle.core_code.specs.declared.code.Byte.TheVariants as bytes
+use Rattle.named_registers.specs.Registers.{Naming}
 use Rattle.sym_code.specs.declared.code.Literal.{Literal}
 use Rattle.sym_code.specs.declared.code.Literal.TheVariants as values
 use Rattle.sym_code.specs.declared.code.Operand.{Operand}
@@ -19,10 +20,12 @@ use Rattle.sym_code.specs.declared.code.Operand.TheVariants as operands
 use Rattle.sym_code.specs.declared.code.Sym.{Sym}
 use Rattle.sym_code.specs.declared.code.Sym.TheVariants as syms
 
--- The bytes that there are: how many the frame of each copy has, and how many each static object, where there is one of the number.
+-- The bytes that there are: how many the frame of each copy has, and how many each static object, where there is one of the number. And
+-- the device registers, by their lowest addresses.
 pub record Memory : Type 0 where
   pub frames : ℕ → Option ℕ
   pub objects : ℕ → Option ℕ
+  pub devices : ℕ → Bool
 
 -- what is there has so many bytes
 abbrev pub HasBytes : Option ℕ → ℕ → Type 0
@@ -30,12 +33,12 @@ HasBytes None n = ⊥
 HasBytes (Some size) n = n ≤ size
 
 -- So many bytes from the byte on are there: in the frame of a copy, in a static object, or among the four bytes of a result. A device
--- register is named by its lowest address, which is below 100h (Microchip data sheet DS39582, register file map).
+-- register has one byte, and is named by its lowest address, which is below 100h (Microchip data sheet DS39582, register file map).
 abbrev pub Lies : Memory → ℕ → Byte → Type 0
 Lies memory n (bytes.Frame copy k) = HasBytes (memory.frames copy) (k + n)
 Lies memory n (bytes.Static object k) = HasBytes (memory.objects object) (k + n)
 Lies memory n (bytes.Result r k) = k + n ≤ 4
-Lies memory n (bytes.Device address) = address < 0x100
+Lies memory n (bytes.Device address) = (address < 0x100) × (n ≤ 1) × (1 ≤ n → memory.devices address ≡ true)
 
 -- What has an address that is told as a number is there, and is no result. It may be the end of an object.
 abbrev pub Points : Memory → Byte → Type 0
@@ -65,6 +68,11 @@ CallsFit p memory copy_of [] = Unit {0}
 CallsFit p memory copy_of (callee.User function ∷ calls) = HasBytes (memory.frames (copy_of function)) (variables_bytes p.sizes (params_of (slice_get p.functions function))) × CallsFit p memory copy_of calls
 CallsFit p memory copy_of (callee.Helper helper ∷ calls) = CallsFit p memory copy_of calls
 
+-- Each register that is named is there.
+abbrev pub RegistersFit : Memory → List Naming → Type 0
+RegistersFit memory [] = Unit {0}
+RegistersFit memory (n ∷ ns) = (memory.devices n.register ≡ true) × RegistersFit memory ns
+
 -- Each function that is called has a copy, by the copies' numbers.
 abbrev pub HaveCopies : List (Option ℕ) → List FnId → Type 0
 HaveCopies numbers [] = Unit {0}
@@ -82,8 +90,8 @@ abbrev mutual
   TreeLies memory (code.Unary op ty at) = Lies memory (bytes_of ty) at × Lies memory 2 at
   TreeLies memory (code.Binary op ty to left right) = Lies memory (answer_bytes op (bytes_of ty)) to × Lies memory (bytes_of ty) left × Lies memory (count_bytes op (bytes_of ty)) right
   TreeLies memory (code.Convert from to at) = Lies memory (bytes_of to) at
-  TreeLies memory (code.BitRead to register bit) = Lies memory 1 to × (register < 0x100)
-  TreeLies memory (code.BitWrite register bit from) = Lies memory 1 from × (register < 0x100)
+  TreeLies memory (code.BitRead to register bit) = Lies memory 1 to × Lies memory 1 (bytes.Device register)
+  TreeLies memory (code.BitWrite register bit from) = Lies memory 1 from × Lies memory 1 (bytes.Device register)
   TreeLies memory (code.Call copy) = Unit {0}
   TreeLies memory code.Leave = Unit {0}
   TreeLies memory (code.Many parts) = TreesLie memory parts

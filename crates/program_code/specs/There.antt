@@ -19,6 +19,7 @@ use Rattle.isr_save.specs.Start.{start_code}
 use Rattle.lower_stmt.specs.Bodies.{first_bytes}
 use Rattle.lower_stmt.specs.FirstBytes.{items_of}
 use Rattle.math_helpers.specs.Routines.{helper_code}
+use Rattle.named_registers.specs.Registers.{names_register}
 use Rattle.pic_map.specs.MapView.{object_of, frame_of}
 use Rattle.pic_map.specs.declared.Placed.{Placed}
 use Rattle.pic_world.specs.declared.Root.{Root}
@@ -31,9 +32,9 @@ use Rattle.sym_code.specs.declared.code.SymBlock.{SymBlock}
 use Rattle.program_code.specs.Bounds.{IsProgram, IsBlockOf}
 use Rattle.program_code.specs.Naming.{Memory, SymsLie}
 
--- the bytes of a program's copies and static objects
+-- the bytes of a program's copies and static objects, and the registers that it names
 abbrev pub memory_of : Program → List FnCopy → Memory
-memory_of p copies = record { frames = λ k. option_map (λ (c : FnCopy). frame_bytes p c.function) (slice_get copies k); objects = λ k. option_map (λ (s : StaticTree). type_bytes p.sizes s.ty.ty) (slice_get p.statics k) }
+memory_of p copies = record { frames = λ k. option_map (λ (c : FnCopy). frame_bytes p c.function) (slice_get copies k); objects = λ k. option_map (λ (s : StaticTree). type_bytes p.sizes s.ty.ty) (slice_get p.statics k); devices = names_register p }
 
 -- The block of a function's copy names bytes alone that are there. The number of a static object has two bytes.
 abbrev pub BlocksKeepThere : Type 0

@@ -5,10 +5,11 @@
 //! addresses (`IsPassed`); of the words that are stated of them and where blocks of so many words stand (`IsPaged`); and of the whole, from
 //! a typed program to its image and its map (`IsTranslation`, `IsTranslated`).
 //! The promise: the block of each copy of a function, with its selects, has at most the function's stated words, and it names bytes alone
-//! that are there, which have addresses where frames and objects are placed; so do the routines and the start block. Each target of a jump, a
-//! call and a select of a page is there. Before a block has selects, a skip and what it skips can run with no select between them, so selects can
-//! be put into each. Each leaner block is what rows make of the given block; rows leave no label out. picc_core's `joined` promises such
-//! blocks and its `compile` such an image and map, and what links ask for is shown of them (headline_trace).
+//! that are there, which have addresses where frames and objects are placed, and device registers alone that the program names; so do the
+//! routines and the start block. Each target of a jump, a call and a select of a page is there. Before a block has selects, a skip and what
+//! it skips can run with no select between them, so selects can be put into each. Each leaner block is what rows make of the given block;
+//! rows leave no label out. picc_core's `joined` promises such blocks and its `compile` such an image and map, and what links ask for is
+//! shown of them (headline_trace).
 #![tactic(auto)]
 
 mod leaner;
