@@ -26,7 +26,8 @@ use Rattle.pic_chip.proofs.Ranges.{IsRanged, executed_ranged}
 use Rattle.chip_trace.proofs.Relations.{Ground, Sees, IsAt, words, spot}
 use Rattle.chip_trace.proofs.Runs.{inside_steps, due_steps, enters, isr_leaves, isr_cost, due_cost, leave_cost, comes_silent, over, raised, exactly, raised_none}
 use Rattle.chip_trace.proofs.Sound.{IsGood, is_out, is_copy, stand_block}
-use Rattle.chip_trace.proofs.Stands.{Trail, Stays, IsMain, Mode, InMain, Saving, Selecting, InHandler, Leaving, IsEntered, IsLeft, IsSaved, IsSelected, Vector, main_words, saved, given, like, found, cell, status, saving_ins, restoring_ins, ram_1, ram_2, ram_3, ram_4, IsThere, IsSince}
+use Rattle.chip_trace.specs.Entries.{found}
+use Rattle.chip_trace.proofs.Stands.{Trail, Stays, IsMain, Mode, InMain, Saving, Selecting, InHandler, Leaving, IsEntered, IsLeft, IsSaved, IsSelected, Vector, main_words, saved, given, like, cell, status, saving_ins, restoring_ins, ram_1, ram_2, ram_3, ram_4, IsThere, IsSince}
 use Rattle.chip_trace.proofs.MainStep.{dear_prices, St, IsClean, Stepped, not_stuck}
 use Rattle.chip_trace.proofs.Trails.{context_apart, mains_spared, same_in_use, seen_as}
 use Rattle.pic_isa.specs.declared.Ins.{Ins}

@@ -3,10 +3,9 @@ use Rattle.std.proofs.Common.{◌≡◌, ℕ, zero, suc, ◌+◌, ◌-◌, ◌<�
 use Rattle.std.specs.Prelude.{slice_index}
 use Rattle.std.proofs.lemmas.Bool.{cases_lt}
 use Rattle.pic_chip.specs.Run as chip
-use Rattle.pic_chip.specs.Run.{IsStart, Moment, moment, takes, is_handling, observed}
+use Rattle.pic_chip.specs.Run.{IsStart, moment, is_handling}
 use Rattle.pic_chip.specs.State.{State}
-use Rattle.pic_chip.specs.Interrupts.{begun}
-use Rattle.chip_trace.specs.Keeping.{TouchesThere}
+use Rattle.chip_trace.specs.Within.{KeepsWithin}
 use Rattle.pic_world.specs.World.{Schedule, event_of}
 use Rattle.pic_world.specs.Arrivals.{arriving}
 use Rattle.core_code.specs.Bytes.{Held}
@@ -28,7 +27,7 @@ use Rattle.chip_trace.proofs.Stands.{Mode, InMain, Saving, Selecting, InHandler,
 use Rattle.pic_world.specs.declared.Cell.{Cell}
 use Rattle.chip_trace.proofs.Effects.{writes_silently}
 use Rattle.chip_trace.proofs.Past.{ahead_outside, watched_somebody}
-use Rattle.chip_trace.proofs.Whole.{at, begins, memory_at, t0, traces, P, e, outside_is, Known, known, kept_on, touches_on, below_on}
+use Rattle.chip_trace.proofs.Whole.{at, begins, memory_at, t0, traces, P, e, outside_is, Known, known, kept_on, touches_on, stands_on, below_on}
 
 saved_stack : (k : ℕ) (a : State) → ((saved k a).pushes ≡ a.pushes) × ((saved k a).pops ≡ a.pops)
 saved_stack zero a = (refl, refl)
@@ -147,20 +146,20 @@ module _ (g : Setting) (h : Ground) (c : chip.Setting) (hd : ℕ) (x : IsImage g
     pub depth : (k : ℕ) → k ≤ N → ((moment c k).state.pops ≤ (moment c k).state.pushes) × ((moment c k).state.pushes ≤ (moment c k).state.pops + 8)
     depth k le = ⊎_elim (λ lt. let q = started.level k (omega arith) in (omega arith, omega arith)) (λ ge. let z = (stands k ge le).1 in let y = z.stands in depth_by z.ground z.image_then y.early y.thread z.trail.context (moment c k).state y.done y.good.deep y.mode) (cases_lt k A)
 
-    pub low : (k : ℕ) → k ≤ N → (moment c k).met ≡ true → all_near g.program.layout ≡ true → (moment c k).state.bank < 2
-    low k le met near =
-        ⊎_elim (λ early'. let f = sym met ∙ started.first_met k early' in absurd (cc))
-        (λ ge. let z = (stands k ge le).1 in let y = z.stands in low_by g z.ground c.image c.inputs hd z.image_then near y.early y.thread z.trail.context (moment c k).state y.done y.good y.mode) (cases_lt k A)
+    -- ---- how far the code goes, and what it touches, from main's first moment on
+    pub low : (k : ℕ) → A ≤ k → k ≤ N → all_near g.program.layout ≡ true → (moment c k).state.bank < 2
+    low k ge le near =
+        let z = (stands k ge le).1 in let y = z.stands in low_by g z.ground c.image c.inputs hd z.image_then near y.early y.thread z.trail.context (moment c k).state y.done y.good y.mode
 
-    pub touches : (k : ℕ) → k ≤ N → (moment c k).met ≡ true → TouchesThere g.program c.image (begun (arriving c.arrivals k) (moment c k).state)
-    touches k le met =
-        ⊎_elim (λ early'. let f = sym met ∙ started.first_met k early' in absurd (cc))
-        (λ ge. let z = stands k ge le in touches_on g h c hd x halt_is ranges_is start only main_is first started N running k 100 A z.0 ge le z.1) (cases_lt k A)
-
-    pub below : (end : ℕ) → IsBelow g h end → (k : ℕ) → k ≤ N → (moment c k).met ≡ true → (begun (arriving c.arrivals k) (moment c k).state).pc < end
-    below end b k le met =
-        ⊎_elim (λ early'. let f = sym met ∙ started.first_met k early' in absurd (cc))
-        (λ ge. let z = stands k ge le in below_on g h c hd x halt_is ranges_is start only main_is first started N running k 100 A z.0 ge le z.1 end b) (cases_lt k A)
+    pub within : (end : ℕ) → IsBelow g h end → (k : ℕ) → A ≤ k → k ≤ N → KeepsWithin g c end k
+    within end b k ge le =
+        let z = stands k ge le in
+        record {
+          pc = stands_on g h c hd x halt_is ranges_is start only main_is first started N running k 100 A z.0 ge le z.1 end b;
+          begun_pc = below_on g h c hd x halt_is ranges_is start only main_is first started N running k 100 A z.0 ge le z.1 end b;
+          low = low k ge le;
+          touches = touches_on g h c hd x halt_is ranges_is start only main_is first started N running k 100 A z.0 ge le z.1;
+        }
 
     -- ---- frames
     pub frames : (k b : ℕ) → k < N → (moment c k).met ≡ true → is_kept (is_handling (arriving c.arrivals k) (moment c k)) (owner g.program.layout b) ≡ true

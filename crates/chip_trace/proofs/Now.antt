@@ -1,40 +1,32 @@
 -- What the instruction touches that begins here, whatever is under way.
-use Rattle.std.proofs.Common.{◌≡◌, ◌≢◌, ℕ, zero, suc, ◌+◌, ◌*◌, ◌/◌, ◌%◌, ◌<◌, ◌≤◌, ◌⊎◌, inl, inr, Bool, true, false, List, length, Option, Some, None, refl, sym, ap, ◌∙◌, subst, ⊎_elim, arith}
-use Rattle.std.specs.Prelude.{not, nat_eq, nat_lt, slice_index, if◌then◌else◌}
-use Rattle.std.proofs.lemmas.Bool.{cases_lt, ltb-true, ltb-false}
-use Rattle.pic_isa.specs.declared.Ins.TheVariants as isa
+use Rattle.std.proofs.Common.{◌≡◌, ◌≢◌, ℕ, zero, suc, ◌+◌, ◌/◌, ◌<◌, ◌⊎◌, inl, inr, Bool, true, false, List, length, Option, Some, None, refl, sym, ap, ◌∙◌, ⊎_elim, arith}
+use Rattle.std.specs.Prelude.{slice_index, if◌then◌else◌}
+use Rattle.std.proofs.lemmas.Bool.{cases_lt}
 use Rattle.pic_isa.specs.Lookup.{row_of}
-use Rattle.pic_chip.specs.Act.{Act, effect, perform}
-use Rattle.pic_chip.specs.Address.{Place, General, Status, Fsr, Pclath, operand}
+use Rattle.pic_chip.specs.Act.{perform}
+use Rattle.pic_chip.specs.Address.{General, Status, Fsr, Pclath}
 use Rattle.pic_chip.specs.Interrupts.{control_of, enter}
 use Rattle.pic_chip.specs.Run.{Moment, Watch}
 use Rattle.pic_chip.specs.State.{State}
 use Rattle.pic_world.specs.Control as control
-use Rattle.pic_world.specs.Control.{Control, is_enabled}
+use Rattle.pic_world.specs.Control.{is_enabled}
 use Rattle.pic_world.specs.World.{Schedule, Outside}
 use Rattle.pic_world.proofs.ControlLaws.{disabled_not_due}
-use Rattle.code_place.specs.Instructions.{bit_set}
-use Rattle.sym_code.specs.Effect.{Setting, Thread}
+use Rattle.sym_code.specs.Effect.{Setting}
 use Rattle.sym_code.specs.Machine.{Machine, Entry, Stops, sym_step_at, lands_at}
 use Rattle.sym_code.specs.Machine as sym'
 use Rattle.sym_code.specs.Programs.{Program, Position, lands}
-use Rattle.sym_code.specs.declared.code.PageBit.{PageBit}
-use Rattle.sym_code.specs.declared.code.PageBit.TheVariants.{Low, High}
-use Rattle.chip_trace.specs.Keeping.{file_of, file_in, IsTouched, Touches, TouchesThere}
+use Rattle.chip_trace.specs.Keeping.{file_of, file_in, Touches, TouchesThere}
 use Rattle.chip_trace.proofs.Context.{saved_pc, given_pc}
 use Rattle.chip_trace.proofs.HandlerStep.{handler_touches}
 use Rattle.chip_trace.proofs.Image.{IsImage, same_length}
 use Rattle.chip_trace.proofs.MainStep.{St, IsClean, not_stuck, main_touches}
-use Rattle.chip_trace.proofs.Relations.{Ground, IsBelow, spot, page_row}
+use Rattle.chip_trace.proofs.Relations.{Ground, IsBelow, spot}
 use Rattle.chip_trace.proofs.Runs.{due_steps, over, exactly, raised_none}
-use Rattle.chip_trace.proofs.Stands.{Trail, Mode, InMain, Saving, Selecting, InHandler, Leaving, IsMain, IsHandling, IsThere, saved, given, saving_ins, restoring_ins}
+use Rattle.chip_trace.proofs.Touched.{at_place, select_touches}
+use Rattle.chip_trace.proofs.Stands.{Trail, Mode, InMain, Saving, Selecting, InHandler, Leaving, IsMain, IsHandling, IsThere, saving_ins, restoring_ins}
 
 -- ---- the words of saving and restoring
-at_place : (l : Program) (s : State) (a : ℕ) (p : Place) → ((next : Place → Act) → effect (operand a next) s ≡ effect (next p) s) → IsTouched l (not (nat_eq a 0)) p → (f : ℕ) → Some a ≡ Some f → Touches l f s
-at_place l s a p leads t f e = subst (λ z. Touches l z s) (number a f e) (record { place = p; leads = leads; touched = t }) where
-  number : (a b : ℕ) → Some a ≡ Some b → a ≡ b
-  number a b q = cc
-
 saving_touches : (l : Program) (s : State) (k f : ℕ) → file_of (saving_ins k) ≡ Some f → Touches l f s
 saving_touches l s zero f q = at_place l s 0x78 (General 88) (λ next. refl) (inr (refl, omega arith, omega arith)) f q
 saving_touches l s (suc zero) f q = at_place l s 3 Status (λ next. refl) tt f q
@@ -54,15 +46,6 @@ restoring_touches l s (suc (suc (suc (suc (suc zero))))) f q = at_place l s 3 St
 restoring_touches l s (suc (suc (suc (suc (suc (suc zero)))))) f q = at_place l s 0x78 (General 88) (λ next. refl) (inr (refl, omega arith, omega arith)) f q
 restoring_touches l s (suc (suc (suc (suc (suc (suc (suc zero))))))) f q = at_place l s 0x78 (General 88) (λ next. refl) (inr (refl, omega arith, omega arith)) f q
 restoring_touches l s (suc (suc (suc (suc (suc (suc (suc (suc k)))))))) f q = absurd (cc)
-
--- a select of a page
-set_touches : (l : Program) (s : State) (b : ℕ) (on : Bool) (f : ℕ) → file_of (bit_set 0x0a b on) ≡ Some f → Touches l f s
-set_touches l s b true f q = at_place l s 10 Pclath (λ next. refl) tt f q
-set_touches l s b false f q = at_place l s 10 Pclath (λ next. refl) tt f q
-
-select_touches : (l : Program) (s : State) (which : PageBit) (pg f : ℕ) → file_of (page_row which pg) ≡ Some f → Touches l f s
-select_touches l s Low pg f q = set_touches l s 3 (nat_eq (pg % 2) 1) f q
-select_touches l s High pg f q = set_touches l s 4 (nat_eq (pg / 2 % 2) 1) f q
 
 module _ (g : Setting) (h : Ground) (image input : List ℕ) (hd : ℕ) (x : IsImage g h image input hd) (watch : Watch) (halt_is : watch.halt ≡ h.halt) (e : Entry) (t0 : Machine) (start from to : ℕ) where
   module _ (s : Schedule) (runs n : ℕ) (c : Moment) (debt : ℕ) (trail : Trail) (st : St g h image input hd x watch halt_is e t0 start from to s runs n c debt trail) (clean : IsClean g h image input hd x watch halt_is e t0 start from to s n (length c.trace))
@@ -172,24 +155,29 @@ module _ (g : Setting) (h : Ground) (image input : List ℕ) (hd : ℕ) (x : IsI
       main_below a (inl y) = place_by st.thread.at S a.at.pc y.0
       main_below a (inr y) = let l = x.within in let b = below.start in let p = a.at.pc ∙ ap (spot g h) y.0 ∙ x.rests in let q = x.turn_small in omega arith
 
-      pub below_now : (b : Bool) → control.is_due (control_of S) ≡ b → (if b then perform enter S else S).pc < end
-      below_now b due = by_mode st.mode b due where
-        by_mode : Mode g h image hd x.vector t st.thread trail.context S st.done → (b : Bool) → control.is_due (control_of S) ≡ b → (if b then perform enter S else S).pc < end
-        by_mode (InMain q a) true due =
-            let vec = x.vector (has_case a due g.program.handler refl) in let l = vec.within in let b = below.start in
-            let four : (perform enter S).pc ≡ 4 = refl in omega arith
-        by_mode (InMain q a) false due = main_below a st.there
-        by_mode (Saving has k a le lt q en is) true due = absurd (differ (control.is_due (control_of S)) due (not_due en.gie))
-        by_mode (Saving has k a le lt q en is) false due =
+      pub stands_below : S.pc < end
+      stands_below = by_mode st.mode where
+        by_mode : Mode g h image hd x.vector t st.thread trail.context S st.done → S.pc < end
+        by_mode (InMain q a) = main_below a st.there
+        by_mode (Saving has k a le lt q en is) =
             let vec = x.vector has in let l = vec.within in let b = below.start in
             let pc : S.pc ≡ 4 + k = ap (λ (z : State). z.pc) is ∙ saved_pc input k a (omega arith) in omega arith
-        by_mode (Selecting has j p a le q en sel is) true due = absurd (differ (control.is_due (control_of S)) due (not_due en.gie))
-        by_mode (Selecting has j p a le q en sel is) false due =
+        by_mode (Selecting has j p a le q en sel is) =
             let vec = x.vector has in let l = vec.within in let b = below.start in
             let pc : S.pc ≡ 11 + j = ap (λ (z : State). z.pc) is in omega arith
-        by_mode (InHandler has q a) true due = absurd (differ (control.is_due (control_of S)) due (not_due a.gie))
-        by_mode (InHandler has q a) false due = place_by t.isr.at S a.at.pc a.lands
-        by_mode (Leaving has k a le q lf is) true due = absurd (differ (control.is_due (control_of S)) due (not_due lf.gie))
-        by_mode (Leaving has k a le q lf is) false due =
+        by_mode (InHandler has q a) = place_by t.isr.at S a.at.pc a.lands
+        by_mode (Leaving has k a le q lf is) =
             let vec = x.vector has in let l = vec.within_back in let b = below.start in
             let pc : S.pc ≡ h.restore + k = ap (λ (z : State). z.pc) is ∙ given_pc input h.restore k a (omega arith) in omega arith
+
+      pub below_now : (b : Bool) → control.is_due (control_of S) ≡ b → (if b then perform enter S else S).pc < end
+      below_now false due = stands_below
+      below_now true due = by_mode st.mode where
+        by_mode : Mode g h image hd x.vector t st.thread trail.context S st.done → (perform enter S).pc < end
+        by_mode (InMain q a) =
+            let vec = x.vector (has_case a due g.program.handler refl) in let l = vec.within in let b = below.start in
+            let four : (perform enter S).pc ≡ 4 = refl in omega arith
+        by_mode (Saving has k a le lt q en is) = absurd (differ (control.is_due (control_of S)) due (not_due en.gie))
+        by_mode (Selecting has j p a le q en sel is) = absurd (differ (control.is_due (control_of S)) due (not_due en.gie))
+        by_mode (InHandler has q a) = absurd (differ (control.is_due (control_of S)) due (not_due a.gie))
+        by_mode (Leaving has k a le q lf is) = absurd (differ (control.is_due (control_of S)) due (not_due lf.gie))

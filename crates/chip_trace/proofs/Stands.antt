@@ -19,7 +19,7 @@ use Rattle.pic_world.specs.declared.Root.TheVariants.{Main}
 use Rattle.sym_code.specs.Layout.{owner, Of, Nobody, all_near}
 use Rattle.sym_code.specs.Machine.{Machine, Entry, lands_at, at_front}
 use Rattle.sym_code.specs.Programs.{Position, lands, front}
-use Rattle.sym_code.specs.Registers.{Registers, page}
+use Rattle.sym_code.specs.Registers.{page}
 use Rattle.sym_code.specs.declared.code.BlockName.TheVariants.{Copy}
 use Rattle.sym_code.specs.declared.code.PageBit.{PageBit}
 use Rattle.sym_code.specs.declared.code.PageBit.TheVariants.{Low, High}
@@ -29,6 +29,7 @@ use Rattle.chip_trace.specs.Context.{HasRegisters, IsBack}
 use Rattle.chip_trace.proofs.Relations.{Sees, Ground, words, spot, IsAt, page_row}
 use Rattle.chip_trace.proofs.Runs.{Comes, Ahead}
 use Rattle.chip_trace.proofs.Sound.{IsGood}
+use Rattle.chip_trace.specs.Entries.{found}
 use Rattle.chip_trace.proofs.StatusBits.{packed}
 
 -- ---- the words of saving and restoring
@@ -106,21 +107,6 @@ given r (suc (suc (suc (suc (suc (suc (suc (suc k)))))))) s =
 -- a state with the interrupt registers of another
 abbrev pub like : State → State → State
 like a s = record a { intcon = s.intcon; pir1 = s.pir1; pie1 = s.pie1 }
-
--- what the handler finds in the registers
-abbrev pub found : State → ℕ → Registers
-found s pg = record {
-  w = s.pclath % 256;
-  z = truth (nat_eq s.pclath 0);
-  dc = s.dc % 2;
-  c = s.c % 2;
-  fsr = s.fsr % 256;
-  rp0 = s.bank % 2;
-  rp1 = s.bank / 2 % 2;
-  irp = s.bank / 4 % 2;
-  page_low = pg % 2;
-  page_high = pg / 2 % 2;
-}
 
 -- ---- the vector
 pub record Vector (g : Setting) (h : Ground) (image : List ℕ) (hd : ℕ) : Type 0 where

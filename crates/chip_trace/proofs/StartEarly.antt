@@ -63,6 +63,16 @@ module _ (c : Setting) where
   not_due k s e =
       ap is_due (control_on k s e) ∙ disabled_not_due (raised_by (arrived_before c.arrivals (suc k)) control_at_reset) (raised_enabled (arrived_before c.arrivals (suc k)) control_at_reset)
 
+  -- no interrupt is taken where the next instruction begins
+  pub untaken : (k : ℕ) (s : State) → Early c k false s → takes (arriving c.arrivals k) (moment c k) ≡ false
+  untaken k s x = ap (λ z. is_due (control_of (raised (arriving c.arrivals k) z))) x.state ∙ not_due k s x.control
+
+  pub begun_is : (k : ℕ) (s : State) → Early c k false s → begun (arriving c.arrivals k) (moment c k).state ≡ after_flags k s
+  begun_is k s x =
+      let m = moment c k in
+      let mask = arriving c.arrivals k in
+      ap (λ z. if z then perform enter (raised mask m.state) else raised mask m.state) (untaken k s x) ∙ ap (raised mask) x.state
+
   abbrev shape : Moment → Bool → State → Bool → Moment
   shape m met s h = record m {
     state = perform (execute c.image c.inputs) s;
@@ -80,8 +90,8 @@ module _ (c : Setting) where
       let m = moment c k in
       let mask = arriving c.arrivals k in
       let a = after_flags k s in
-      let d : is_due (control_of (raised mask m.state)) ≡ false = ap (λ z. is_due (control_of (raised mask z))) x.state ∙ not_due k s x.control in
-      let b : begun mask m.state ≡ a = ap (λ z. if z then perform enter (raised mask m.state) else raised mask m.state) d ∙ ap (raised mask) x.state in
+      let d : is_due (control_of (raised mask m.state)) ≡ false = untaken k s x in
+      let b : begun mask m.state ≡ a = begun_is k s x in
       let e : ends_at c.image mask m ≡ false = ap (λ z. z || not (is_modelled (fetched c.image (begun mask m.state)))) x.stopped ∙ ap (λ z. not (is_modelled (fetched c.image z))) b ∙ ap not modelled in
       ap (λ z. if z then record m { stopped = true } else observed c.watch (stepped c.image c.inputs c.watch.ranges mask m)) e
       ∙ ap (observed c.watch) (ap (λ z. shape m z (begun mask m.state) (m.handling || takes mask m)) x.met ∙ ap (λ z. shape m false z (m.handling || takes mask m)) b

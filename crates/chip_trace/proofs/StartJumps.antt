@@ -25,12 +25,13 @@ use Rattle.bank_page.specs.Near.{none_sets_rp1}
 use Rattle.bank_page.specs.Selected.{is_right}
 use Rattle.bank_page.specs.declared.known.Known.{Known}
 use Rattle.chip_trace.specs.Arriving.{IsAssembled}
-use Rattle.chip_trace.proofs.Blocks.{some_eq, Found, found, have_address, names_same}
+use Rattle.chip_trace.specs.Keeping.{Touches}
+use Rattle.chip_trace.proofs.Blocks.{words_append, words_cons, some_eq, Found, found, have_address, names_same}
 use Rattle.chip_trace.proofs.Sound.{left_of, right_of}
 use Rattle.chip_trace.proofs.StartEarly as moments
 use Rattle.chip_trace.proofs.StartEarly.{Early, after_flags}
 use Rattle.chip_trace.proofs.StartRows.{goto_goes}
-use Rattle.chip_trace.proofs.StartWalk.{g, LS, pages, At, get_at, take_words, past_on, level_on}
+use Rattle.chip_trace.proofs.StartWalk.{g, LS, pages, At, Earlier, get_at, take_words, past_on, earlier_on, now_earlier, level_on}
 
 page_is : (o : Option BlockName) (m : BlockName) → is_page o m ≡ true → o ≡ Some m
 page_is None m e = absurd (cc)
@@ -63,6 +64,7 @@ module _ (blocks : List SymBlock) (at : List ℕ) (placed : Placed) (handler : O
     pub w : s.w ≡ v
     pub ram : s.ram ≡ bytes
     pub past : (j : ℕ) → j < suc k → (moment c j).met ≡ false
+    pub earlier : (j : ℕ) → j < suc k → Earlier blocks at placed handler limit c start small j
     pub level : (j : ℕ) → j ≤ suc k → (moment c j).state.pushes ≡ (moment c j).state.pops
     pub low : none_sets_rp1 L ≡ true → s.bank < 2
 
@@ -71,6 +73,11 @@ module _ (blocks : List SymBlock) (at : List ℕ) (placed : Placed) (handler : O
   jump k pre κ w ram rest t P x e tg right page lt =
       let s0 = x.s in
       let s1 = after_flags c k s0 in
+      let wa = words_append pre (syms.Goto t ∷ rest) in
+      let wc = words_cons (syms.Goto t) rest in
+      let wl = ap words_in e in
+      let inside : words_in pre < words_in L = omega arith in
+      let none : (f : ℕ) → None ≡ Some f → Touches (g blocks at placed handler limit c start small).program f s1 = λ f q. absurd (cc) in
       let m = block_of Start t in
       let hi = ap (λ z. z / 2 % 2) page in
       let lo = ap (λ z. z % 2) page in
@@ -89,6 +96,9 @@ module _ (blocks : List SymBlock) (at : List ℕ) (placed : Placed) (handler : O
         w = x.w;
         ram = x.ram;
         past = past_on blocks at placed handler limit c start small a main_behind short k x.past x.early.met;
+        earlier =
+            earlier_on blocks at placed handler limit c start small a main_behind short k x.earlier
+            (now_earlier blocks at placed handler limit c start small a main_behind short k pre κ w ram (isa.Goto (P % 2048)) x inside (goto_row pre rest t P e tg) (λ f q. none f q));
         level = level_on blocks at placed handler limit c start small a main_behind short k x.level (ap (λ (z : State). z.pushes) y.state ∙ lv0 ∙ ap (λ (z : State). z.pops) (sym y.state));
         low = x.low;
       }

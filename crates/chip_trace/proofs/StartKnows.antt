@@ -5,15 +5,9 @@ use Rattle.pic_world.specs.Bits.{set_bit, clear_bit, truth}
 use Rattle.sym_code.specs.declared.code.BlockName.{BlockName}
 use Rattle.bank_page.specs.declared.known.Known.{Known}
 use Rattle.pic_chip.proofs.Ranges.{IsRanged}
+use Rattle.chip_trace.specs.Context.{Knows}
 use Rattle.chip_trace.proofs.StatusBits.{set_5, clear_5, set_6, clear_6, low_set, low_clear, high_set, high_clear}
 use Rattle.chip_trace.proofs.StartRows.{S}
-
--- where a block's page is known to be selected, PCLATH has its bits
-pub record Knows (pages : BlockName → ℕ) (k : Known) (s : State) : Type 0 where
-  pub rp0 : (b : Bool) → k.rp0 ≡ Some b → s.bank % 2 ≡ truth b
-  pub rp1 : (b : Bool) → k.rp1 ≡ Some b → s.bank / 2 % 2 ≡ truth b
-  pub low : (n : BlockName) → k.low ≡ Some n → s.pclath / 8 % 2 ≡ pages n % 2
-  pub high : (n : BlockName) → k.high ≡ Some n → s.pclath / 8 / 2 % 2 ≡ pages n / 2 % 2
 
 some_is : {A : Type 0} (x y : A) → Some x ≡ Some y → x ≡ y
 some_is x y e = ap (λ o. elim o [ None ↦ x | Some z ↦ z ]) e

@@ -1,11 +1,12 @@
 -- One instruction of the start block behind its first jump, on the chip and on what its stores leave.
-use Rattle.std.proofs.Common.{◌≡◌, ℕ, ◌+◌, ◌/◌, ◌%◌, ◌<◌, Bool, true, false, List, Option, Some, None, refl, sym, ap, ◌∙◌, true≢false, arith}
+use Rattle.std.proofs.Common.{◌≡◌, ℕ, ◌+◌, ◌/◌, ◌%◌, ◌<◌, inl, Bool, true, false, List, Option, Some, None, refl, sym, ap, ◌∙◌, true≢false, arith}
 use Rattle.std.specs.Prelude.{nat_eq, option_map}
 use Rattle.std.proofs.lemmas.Bool.{eqb-true, eqb-false}
 use Rattle.core_code.specs.declared.code.Byte.TheVariants.{Static}
 use Rattle.pic_isa.specs.declared.Ins.{Ins}
 use Rattle.pic_isa.specs.declared.Ins.TheVariants as isa
 use Rattle.pic_chip.specs.Act.{Act, effect}
+use Rattle.pic_chip.specs.Address as chip
 use Rattle.pic_chip.specs.Address.{Place, General, place, operand}
 use Rattle.pic_chip.specs.Interrupts.{control_of}
 use Rattle.pic_chip.specs.State.{State}
@@ -13,8 +14,8 @@ use Rattle.pic_map.specs.declared.Placed.{Placed}
 use Rattle.pic_world.specs.Bits.{set_bit, clear_bit, truth}
 use Rattle.sym_code.specs.Effect.{literal_value}
 use Rattle.sym_code.specs.Layout as layouts
-use Rattle.sym_code.specs.Layout.{DataLayout, object, IsLaidOut}
-use Rattle.sym_code.specs.Programs.{block_of}
+use Rattle.sym_code.specs.Layout.{DataLayout, object, is_covered, IsLaidOut}
+use Rattle.sym_code.specs.Programs.{Program, block_of}
 use Rattle.sym_code.specs.declared.code.BankBit.TheVariants.{Rp0, Rp1}
 use Rattle.sym_code.specs.declared.code.BlockName.{BlockName}
 use Rattle.sym_code.specs.declared.code.BlockName.TheVariants.{Start}
@@ -36,12 +37,14 @@ use Rattle.bank_page.specs.Selected.{is_right, has_bank, reaches_byte}
 use Rattle.bank_page.specs.Step.{rp0_of, rp1_of}
 use Rattle.bank_page.specs.declared.known.Known.{Known}
 use Rattle.pic_chip.proofs.Ranges.{IsRanged}
+use Rattle.chip_trace.specs.Keeping.{file_of, Touches}
 use Rattle.chip_trace.proofs.Relations.{page_row}
 use Rattle.chip_trace.proofs.Sound.{left_of, right_of}
 use Rattle.chip_trace.proofs.StartKnows as selects
-use Rattle.chip_trace.proofs.StartKnows.{Knows}
+use Rattle.chip_trace.specs.Context.{Knows}
 use Rattle.chip_trace.proofs.StartNumbers.{IsGeneral, number_at, byte_general, number_is, small}
 use Rattle.chip_trace.proofs.StartRows.{Goes, S, with_status, with_pclath, movlw_goes, movwf_goes, clrf_goes, bsf_status, bcf_status, bsf_pclath, bcf_pclath}
+use Rattle.chip_trace.proofs.Touched.{at_place, bank_touches, select_touches, object_covered}
 use Rattle.chip_trace.proofs.StartStores.{number_of, w_after, ram_after}
 
 pub data Kind : Type 0 where
@@ -206,6 +209,13 @@ module _ (reaches : ℕ → ℕ → Bool) (placed : Placed) (laid : IsLaidOut re
       leads : (go : Place → Act) → effect (operand f go) s ≡ effect (go (General (number_of l (Static n o)))) s
       leads go = ap (λ z. effect (operand (z % 128) go) s) address_is ∙ leads_at go ∙ ap (λ z. effect (go (General z)) s) (sym (number_is reaches l laid n o))
 
+      -- it is one of an object's
+      touched : (q : Program) → q.layout ≡ l → (e : ℕ) → Some f ≡ Some e → Touches q e s
+      touched q is e same =
+          at_place q s f (General (number_of l (Static n o))) leads
+          (inl (ap (λ z. is_covered z (chip.address_of (number_of l (Static n o)))) is ∙ ap (λ z. is_covered l (chip.address_of z)) (number_is reaches l laid n o) ∙ ap (is_covered l) general.back ∙ object_covered l n o fits))
+          e same
+
       store : Step (Store n o) (isa.Movwf f)
       store =
           let t : State = record s { pc = (s.pc + 1) % 8192; ram = ram_after l (sym_of (Store n o)) s.w s.ram } in
@@ -248,3 +258,12 @@ module _ (reaches : ℕ → ℕ → Bool) (placed : Placed) (laid : IsLaidOut re
     step (Load v) fits right = load v
     step (Store n o) fits right = store n o fits (left_of (reaches_byte placed k (Some (Static n o))) true right)
     step (Clear n o) fits right = clear n o fits (left_of (reaches_byte placed k (Some (Static n o))) true right)
+
+    -- it touches STATUS, PCLATH, or a byte of an object
+    pub touches : (q : Program) → q.layout ≡ l → (kind : Kind) → InSize l kind → is_right placed Start k (sym_of kind) ≡ true → (f : ℕ) → file_of (ins_of kind) ≡ Some f → Touches q f s
+    touches q is (OfRp0 on) fits right f e = bank_touches q s 5 on f e
+    touches q is (OfRp1 on) fits right f e = bank_touches q s 6 on f e
+    touches q is (OfPage which target) fits right f e = select_touches q s which (pages (block_of Start target)) f e
+    touches q is (Load v) fits right f e = absurd (cc)
+    touches q is (Store n o) fits right f e = touched n o fits (left_of (reaches_byte placed k (Some (Static n o))) true right) q is f e
+    touches q is (Clear n o) fits right f e = touched n o fits (left_of (reaches_byte placed k (Some (Static n o))) true right) q is f e

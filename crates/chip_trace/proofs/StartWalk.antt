@@ -5,7 +5,8 @@ use Rattle.std.proofs.lemmas.Bool.{ne_eqb, cases_lt}
 use Rattle.pic_isa.specs.Lookup.{row_of}
 use Rattle.pic_isa.specs.declared.Ins.{Ins}
 use Rattle.pic_chip.specs.Run as chip
-use Rattle.pic_chip.specs.Run.{IsStart, moment}
+use Rattle.pic_chip.specs.Interrupts.{begun}
+use Rattle.pic_chip.specs.Run.{IsStart, moment, takes}
 use Rattle.pic_chip.specs.State.{State}
 use Rattle.pic_map.specs.declared.Placed.{Placed}
 use Rattle.pic_world.specs.Arrivals.{arriving}
@@ -34,8 +35,9 @@ use Rattle.chip_trace.proofs.Vectors.{is_image}
 use Rattle.chip_trace.proofs.StartEarly as moments
 use Rattle.chip_trace.proofs.StartEarly.{Early, after_flags}
 use Rattle.chip_trace.proofs.StartKnows as selects
-use Rattle.chip_trace.proofs.StartKnows.{Knows}
-use Rattle.chip_trace.proofs.StartSteps.{Kind, OfRp0, OfRp1, OfPage, Load, Store, Clear, sym_of, InSize, ins_of, step}
+use Rattle.chip_trace.specs.Context.{Knows}
+use Rattle.chip_trace.specs.Keeping.{file_of, file_in, Touches, TouchesThere}
+use Rattle.chip_trace.proofs.StartSteps.{Kind, OfRp0, OfRp1, OfPage, Load, Store, Clear, sym_of, InSize, ins_of, step, touches}
 use Rattle.chip_trace.proofs.StartStores.{w_after, ram_after, ram_behind}
 
 -- ---- instructions of these kinds
@@ -93,6 +95,13 @@ module _ (blocks : List SymBlock) (at : List ℕ) (placed : Placed) (handler : O
   abbrev pub pages : BlockName → ℕ
   pages = g.page_of
 
+  -- at moment j one of these instructions begins, or a jump, and no interrupt is taken
+  pub record Earlier (j : ℕ) : Type 0 where
+    pub pc : (moment c j).state.pc < words_in LS
+    pub untaken : takes (arriving c.arrivals j) (moment c j) ≡ false
+    pub low : none_sets_rp1 LS ≡ true → (moment c j).state.bank < 2
+    pub touches : TouchesThere g.program c.image (begun (arriving c.arrivals j) (moment c j).state)
+
   -- at moment k the run stands behind these instructions, and so much is known
   pub record At (k : ℕ) (pre : List Sym) (κ : Known) (v : ℕ) (bytes : List ℕ) : Type 0 where
     pub s : State
@@ -103,6 +112,7 @@ module _ (blocks : List SymBlock) (at : List ℕ) (placed : Placed) (handler : O
     pub w : s.w ≡ v
     pub ram : s.ram ≡ bytes
     pub past : (j : ℕ) → j < k → (moment c j).met ≡ false
+    pub earlier : (j : ℕ) → j < k → Earlier j
     pub level : (j : ℕ) → j ≤ k → (moment c j).state.pushes ≡ (moment c j).state.pops
     -- where no select of the block sets RP1, it and IRP are 0
     pub low : none_sets_rp1 LS ≡ true → s.bank < 2
@@ -146,6 +156,23 @@ module _ (blocks : List SymBlock) (at : List ℕ) (placed : Placed) (handler : O
       pub past_on : (k : ℕ) → ((j : ℕ) → j < k → (moment c j).met ≡ false) → (moment c k).met ≡ false → (j : ℕ) → j < suc k → (moment c j).met ≡ false
       past_on k past now j lt = ⊎_elim (past j) (λ ge. let q : k ≡ j = omega arith in subst (λ z. (moment c z).met ≡ false) q now) (cases_lt j k)
 
+      pub earlier_on : (k : ℕ) → ((j : ℕ) → j < k → Earlier j) → Earlier k → (j : ℕ) → j < suc k → Earlier j
+      earlier_on k before now j lt = ⊎_elim (before j) (λ ge. let q : k ≡ j = omega arith in subst Earlier q now) (cases_lt j k)
+
+      -- the instruction that begins here, whose operand leads to what it may touch
+      pub now_earlier : (k : ℕ) (pre : List Sym) (κ : Known) (w : ℕ) (ram : List ℕ) (n : Ins) (x : At k pre κ w ram) → words_in pre < words_in LS → row_of (slice_index c.image (words_in pre)) ≡ Some n
+          → ((f : ℕ) → file_of n ≡ Some f → Touches g.program f (after_flags c k x.s)) → Earlier k
+      now_earlier k pre κ w ram n x lt row touched =
+          let e = x.early.state in
+          let pc : (moment c k).state.pc ≡ words_in pre = ap (λ (z : State). z.pc) e ∙ x.pc in
+          record {
+            pc = omega arith;
+            untaken = moments.untaken c k x.s x.early;
+            low = λ none. subst (λ (z : State). z.bank < 2) (sym e) (x.low none);
+            touches = subst (TouchesThere g.program c.image) (sym (moments.begun_is c k x.s x.early))
+                (λ f q. touched f (sym (ap file_in (ap (λ z. row_of (slice_index c.image z)) x.pc ∙ row)) ∙ q));
+          }
+
       pub level_on : (k : ℕ) → ((j : ℕ) → j ≤ k → (moment c j).state.pushes ≡ (moment c j).state.pops) → (moment c (suc k)).state.pushes ≡ (moment c (suc k)).state.pops → (j : ℕ) → j ≤ suc k → (moment c j).state.pushes ≡ (moment c j).state.pops
       level_on k level now j le = ⊎_elim (λ lt. level j (omega arith)) (λ ge. let q : suc k ≡ j = omega arith in subst (λ z. (moment c z).state.pushes ≡ (moment c z).state.pops) q now) (cases_lt j (suc k))
 
@@ -175,6 +202,9 @@ module _ (blocks : List SymBlock) (at : List ℕ) (placed : Placed) (handler : O
             w = st.w ∙ ap (w_after (layout_of placed) (sym_of kind)) x.w;
             ram = st.ram ∙ ap (λ z. ram_after (layout_of placed) (sym_of kind) z s0.ram) x.w ∙ ap (ram_after (layout_of placed) (sym_of kind) w) x.ram;
             past = past_on k x.past x.early.met;
+            earlier =
+                earlier_on k x.earlier (now_earlier k pre κ w ram (ins_of a.reaches placed a.laid_out pages c.inputs kind) x (omega arith) (code pre rest kind e)
+                (touches a.reaches placed a.laid_out pages c.inputs κ behind s1 r1 k1 g.program refl kind fits right));
             level = level_on k x.level (ap (λ (z : State). z.pushes) now.state ∙ st.pushes ∙ lv0 ∙ sym st.pops ∙ ap (λ (z : State). z.pops) (sym now.state));
             low = λ none. st.low (sets_not pre rest (sym_of kind) (ap none_sets_rp1 (sym e) ∙ none)) (x.low none);
           }

@@ -197,6 +197,7 @@ module _ (blocks : List SymBlock) (at : List ℕ) (placed : Placed) (handler : O
           w = refl;
           ram = refl;
           past = λ j lt. absurd (omega arith);
+          earlier = λ j lt. absurd (omega arith);
           level = λ j le. let q : 0 ≡ j = omega arith in
               subst (λ k. (moment c k).state.pushes ≡ (moment c k).state.pops) q (ap (λ (v : State). v.pushes) e.state ∙ ap (λ (v : State). v.pops) (sym e.state));
           low = λ none. omega arith;
@@ -269,6 +270,7 @@ module _ (blocks : List SymBlock) (at : List ℕ) (placed : Placed) (handler : O
           w = jumped1.w;
           ram = jumped1.ram;
           past = jumped1.past;
+          earlier = jumped1.earlier;
           level = jumped1.level;
           low = jumped1.low;
         }
@@ -354,7 +356,9 @@ module _ (blocks : List SymBlock) (at : List ℕ) (placed : Placed) (handler : O
             static = λ n offset k lt there. ap (λ v. slice_index v k) m ∙ found_there n offset k lt there;
           };
           control = ap control_of e.state ∙ e.control;
+          starting = λ k lt. let y = jumped2.earlier k lt in record { pc = y.pc; untaken = y.untaken; low = λ near. y.low (b.near near); touches = y.touches };
           level = jumped2.level;
           outside = e.handling;
+          pc = ap (λ (v : State). v.pc) e.state ∙ jumped2.pc;
           low = λ near. subst (λ (v : State). v.bank < 2) (sym e.state) (jumped2.low (b.near near));
         }

@@ -17,7 +17,8 @@ use Rattle.chip_trace.proofs.Image.{IsImage, after}
 use Rattle.chip_trace.proofs.Relations.{Ground, IsAt}
 use Rattle.chip_trace.proofs.Runs.{comes_raised, raised, Extends}
 use Rattle.chip_trace.specs.Context.{IsBack}
-use Rattle.chip_trace.proofs.Stands.{Trail, Mode, InMain, Saving, Selecting, InHandler, Leaving, IsEntered, IsLeft, main_words, given, like, found, IsSince}
+use Rattle.chip_trace.specs.Entries.{found}
+use Rattle.chip_trace.proofs.Stands.{Trail, Mode, InMain, Saving, Selecting, InHandler, Leaving, IsEntered, IsLeft, main_words, given, like, IsSince}
 use Rattle.chip_trace.proofs.MainStep.{main_step, dear_prices, St, IsClean, IsCleanThen, Stepped}
 use Rattle.pic_chip.specs.Interrupts.{enter}
 use Rattle.pic_chip.specs.Interrupts as chip

@@ -1,7 +1,7 @@
 -- An instruction that isn't stuck touches what it may.
-use Rattle.std.proofs.Common.{◌≡◌, ℕ, suc, ◌+◌, ◌*◌, ◌/◌, ◌%◌, ◌<◌, ◌≤◌, ◌⊎◌, inl, inr, Bool, true, false, List, [], ◌∷◌, Option, Some, None, refl, sym, ap, ◌∙◌, subst, ⊎_elim, arith}
+use Rattle.std.proofs.Common.{◌≡◌, ℕ, zero, suc, ◌+◌, ◌*◌, ◌/◌, ◌%◌, ◌<◌, ◌≤◌, ◌⊎◌, inl, inr, Bool, true, false, List, [], ◌∷◌, Option, Some, None, refl, sym, ap, ◌∙◌, subst, ⊎_elim, arith}
 use Rattle.std.specs.Prelude.{◌-◌, not, ◌&&◌, ◌||◌, nat_eq, nat_lt, nat_le, if◌then◌else◌, length, slice_index_or}
-use Rattle.std.proofs.lemmas.Bool.{agree_below, agree_below_at, leb-true, ltb-true, eqb-true}
+use Rattle.std.proofs.lemmas.Bool.{agree_below, agree_below_at, leb-true, ltb-true, eqb-true, lt-ltb, le-leb}
 use Rattle.pic_isa.specs.declared.Ins.{Ins}
 use Rattle.pic_isa.specs.declared.Ins.TheVariants as isa
 use Rattle.pic_chip.specs.Act.{Act, effect}
@@ -13,7 +13,7 @@ use Rattle.pic_world.specs.Registers.{is_register, lowest}
 use Rattle.pic_world.specs.declared.Cell.{Cell}
 use Rattle.pic_world.specs.declared.Cell.TheVariants as cells
 use Rattle.sym_code.specs.Effect.{Setting, Memory, Thread, Access, Pointer, Event, Silent, Denied, Port, Shared, Effect, Stuck, general_access, pointed_access, access_of, access_by, is_selected, file_to_w, file_to_file, store, change, test, file_bit, bits, literal_value, effect_of}
-use Rattle.sym_code.specs.Layout.{DataLayout, FrameRange, IsLaidOut, is_whole, lies_in, no_range, no_frame, general_at, covers_any, covers_frame, is_covered, Owner, Watched, Constant, Of, Nobody, frame_owner, private_owner, owner_by, owner, general_in, address_of}
+use Rattle.sym_code.specs.Layout.{DataLayout, FrameRange, IsLaidOut, is_whole, lies_in, no_range, no_frame, object, general_at, covers_any, covers_frame, is_covered, Owner, Watched, Constant, Of, Nobody, frame_owner, private_owner, owner_by, owner, general_in, address_of}
 use Rattle.sym_code.specs.Registers.{Registers, pointer}
 use Rattle.core_code.specs.declared.code.Byte.TheVariants as bytes
 use Rattle.sym_code.specs.declared.code.Operand.{Operand}
@@ -21,6 +21,7 @@ use Rattle.sym_code.specs.declared.code.Operand.TheVariants as operands
 use Rattle.sym_code.specs.declared.code.Register.TheVariants as registers
 use Rattle.pic_world.specs.declared.Root.TheVariants.{Main, Isr}
 use Rattle.chip_trace.proofs.Relations.{Sees, low_of, Ground, Means, page_row}
+use Rattle.chip_trace.proofs.Sound.{both}
 use Rattle.chip_trace.proofs.Effects.{IsAccess, access_sound, reads_silently}
 use Rattle.chip_trace.proofs.Operands.{place_for, is_allowed, leads_to}
 use Rattle.pic_world.specs.Bits.{bit, set_bit, clear_bit}
@@ -344,6 +345,35 @@ module _ (reaches : ℕ → ℕ → Bool) (g : Setting) (banked : g.banked ≡ t
     leads = leads_to g banked s r sees i w x (access_of g i w r x) refl al;
     touched = touched_access g.program (not (nat_eq (low_of l x) 0)) (access_of g i w r x) al (general_touched x al) (λ a e. named a (port_named x a e));
   }
+
+-- ---- a byte of an object
+covered_at : (rs : List Range) (n o : ℕ) → o < (slice_index_or rs n no_range).size → covers_any rs ((slice_index_or rs n no_range).address + o) ≡ true
+covered_at [] n o lt = absurd (omega arith)
+covered_at (r ∷ rs) zero o lt = or_left (covers r (r.address + o)) (covers_any rs (r.address + o)) (both (nat_le r.address (r.address + o)) (nat_lt (r.address + o) (r.address + r.size)) (le-leb r.address (r.address + o) (omega arith)) (lt-ltb (r.address + o) (r.address + r.size) (omega arith)))
+covered_at (r ∷ rs) (suc n) o lt = or_right (covers r ((slice_index_or rs n no_range).address + o)) (covers_any rs ((slice_index_or rs n no_range).address + o)) (covered_at rs n o lt)
+
+pub object_covered : (l : DataLayout) (n o : ℕ) → o < (object l n).size → is_covered l ((object l n).address + o) ≡ true
+unfolding is_covered
+object_covered l n o lt = or_left (covers_any l.objects ((object l n).address + o)) (covers_frame l.frames ((object l n).address + o)) (covered_at l.objects n o lt)
+
+-- ---- an operand that leads to a place that may be touched
+pub at_place : (l : Program) (s : State) (a : ℕ) (p : Place) → ((next : Place → Act) → effect (operand a next) s ≡ effect (next p) s) → IsTouched l (not (nat_eq a 0)) p → (f : ℕ) → Some a ≡ Some f → Touches l f s
+at_place l s a p leads t f e = subst (λ z. Touches l z s) (number a f e) (record { place = p; leads = leads; touched = t }) where
+  number : (a b : ℕ) → Some a ≡ Some b → a ≡ b
+  number a b q = cc
+
+-- a select of a bank, and one of a page
+pub bank_touches : (q : Program) (s : State) (b : ℕ) (on : Bool) (f : ℕ) → file_of (bit_set 3 b on) ≡ Some f → Touches q f s
+bank_touches q s b true f e = at_place q s 3 Status (λ next. refl) tt f e
+bank_touches q s b false f e = at_place q s 3 Status (λ next. refl) tt f e
+
+set_touches : (l : Program) (s : State) (b : ℕ) (on : Bool) (f : ℕ) → file_of (bit_set 0x0a b on) ≡ Some f → Touches l f s
+set_touches l s b true f q = at_place l s 10 Pclath (λ next. refl) tt f q
+set_touches l s b false f q = at_place l s 10 Pclath (λ next. refl) tt f q
+
+pub select_touches : (l : Program) (s : State) (which : PageBit) (pg f : ℕ) → file_of (page_row which pg) ≡ Some f → Touches l f s
+select_touches l s Low pg f q = set_touches l s 3 (nat_eq (pg % 2) 1) f q
+select_touches l s High pg f q = set_touches l s 4 (nat_eq (pg / 2 % 2) 1) f q
 
 -- ---- a symbolic instruction
 module _ (reaches : ℕ → ℕ → Bool) (g : Setting) (h : Ground) (banked : g.banked ≡ true) (laid : IsLaidOut reaches g.program.layout) (i : Bool) (th : Thread) (p : Position) (m : Memory) (s : State) (sees : Sees s th.registers) where

@@ -1,5 +1,5 @@
 -- Every moment behind main's first one.
-use Rattle.std.proofs.Common.{◌≡◌, ℕ, zero, suc, ◌+◌, ◌-◌, ◌/◌, ◌%◌, ◌<◌, ◌≤◌, ◌⊎◌, inl, inr, Bool, true, false, List, [], ◌∷◌, ◌++◌, length, Option, Some, None, refl, sym, ap, ◌∙◌, subst, ⊎_elim, arith, append-nil, length-append, append_assoc}
+use Rattle.std.proofs.Common.{◌≡◌, ℕ, zero, suc, ◌+◌, ◌-◌, ◌<◌, ◌≤◌, ◌⊎◌, inl, inr, Bool, true, false, List, [], ◌∷◌, ◌++◌, length, Option, Some, None, refl, sym, ap, ◌∙◌, subst, ⊎_elim, arith, append-nil, length-append, append_assoc}
 use Rattle.std.specs.Prelude.{if◌then◌else◌, ◌&&◌, ◌||◌, nat_eq, nat_le, slice_index, bit_or}
 use Rattle.std.proofs.lemmas.Bool.{le-leb, lt-leb}
 use Rattle.pic_chip.specs.Act.{perform}
@@ -11,12 +11,13 @@ use Rattle.pic_chip.specs.Run.{IsStart, Moment, moment, takes, is_handling, obse
 use Rattle.pic_chip.specs.State.{State}
 use Rattle.pic_world.specs.Bits.{truth}
 use Rattle.pic_world.specs.Control as control
-use Rattle.pic_world.specs.Control.{Control, control_at_reset, raised_by, is_enabled}
+use Rattle.pic_world.specs.Control.{Control, control_at_reset, raised_by}
 use Rattle.pic_world.specs.World.{Schedule, Outside}
 use Rattle.pic_world.specs.Arrivals.{arriving}
 use Rattle.pic_world.specs.declared.Event.{Event}
 use Rattle.pic_world.proofs.ControlLaws.{raised_swap, raised_both, raised_enabled, disabled_not_due}
 use Rattle.core_code.specs.Bytes.{Held}
+use Rattle.code_place.specs.Instructions as instructions
 use Rattle.sym_code.specs.Cost.{least_prices, cost_by}
 use Rattle.sym_code.specs.Effect.{Setting, Thread, Memory, Stuck, effect, effect_of, effect_if}
 use Rattle.sym_code.specs.Layout.{owner}
@@ -36,28 +37,14 @@ use Rattle.chip_trace.proofs.Relations.{Ground, IsAt, IsBelow, Sees}
 use Rattle.chip_trace.proofs.Runs.{over, raised, Extends, settled_is, off_steps, act_main}
 use Rattle.chip_trace.proofs.Schedules.{before, off_before, goes_on as schedule_goes_on, none_later, first_later, first_here}
 use Rattle.chip_trace.proofs.Sound.{IsGood, is_copy, stand_block}
-use Rattle.chip_trace.proofs.Stands.{Trail, Onward, InMain, IsSince, found}
+use Rattle.chip_trace.specs.Entries.{registers_of, found, entry_at, found_at, one_at, entered, handler_finds}
+use Rattle.chip_trace.proofs.Stands.{Trail, Onward, InMain, IsSince}
 use Rattle.chip_trace.proofs.Trails.{from_here, back_here, traced_here}
 use Rattle.chip_trace.proofs.Taken.{none_taken}
-use Rattle.chip_trace.proofs.Now.{touches_now, below_now}
+use Rattle.chip_trace.proofs.Now.{touches_now, stands_below, below_now}
 use Rattle.chip_trace.specs.Context.{is_handlers}
 use Rattle.chip_trace.specs.Keeping.{TouchesThere}
 use Rattle.chip_trace.proofs.Step.{arrives, step_by, next_by}
-
--- the registers of a thread that the chip has, whatever it has
-abbrev pub registers_of : State → Registers
-registers_of s = record {
-  w = s.w % 256;
-  z = s.z % 2;
-  dc = s.dc % 2;
-  c = s.c % 2;
-  fsr = s.fsr % 256;
-  rp0 = s.bank % 2;
-  rp1 = s.bank / 2 % 2;
-  irp = s.bank / 4 % 2;
-  page_low = s.pclath / 8 % 2;
-  page_high = s.pclath / 16 % 2;
-}
 
 pub registers_fit : (s : State) → Fits (registers_of s)
 registers_fit s = record {
@@ -100,14 +87,6 @@ found_fits s pg = record {
   by false = omega arith
 
 -- ---- lists of registers
-abbrev nothing : Registers
-nothing = record { w = 0; z = 0; dc = 0; c = 0; fsr = 0; rp0 = 0; rp1 = 0; irp = 0; page_low = 0; page_high = 0 }
-
-abbrev pub entry_at : List Registers → ℕ → Registers
-entry_at [] k = nothing
-entry_at (r ∷ rs) zero = r
-entry_at (r ∷ rs) (suc k) = entry_at rs k
-
 entry_last : (rs : List Registers) (r : Registers) (more : List Registers) → entry_at (rs ++ r ∷ more) (length rs) ≡ r
 entry_last [] r more = refl
 entry_last (q ∷ rs) r more = entry_last rs r more
@@ -124,6 +103,19 @@ entries_fit : (rs : List Registers) → AllFit rs → (k : ℕ) → Fits (entry_
 entries_fit [] a k = record { w = omega arith; flags = (omega arith, omega arith, omega arith); pointer = omega arith; banks = (omega arith, omega arith, omega arith); pages = (omega arith, omega arith) }
 entries_fit (r ∷ rs) a zero = a.0
 entries_fit (r ∷ rs) a (suc k) = entries_fit rs a.1 k
+
+module _ (c : chip.Setting) (at page : ℕ) where
+  entered_all : (k : ℕ) → AllFit (entered c at page k)
+  unfolding entered
+  entered_all zero = tt
+  entered_all (suc k) = all_append (entered c at page k) (one_at c at page (nat_le at k && takes (arriving c.arrivals k) (moment c k)) k) (entered_all k) (by (nat_le at k && takes (arriving c.arrivals k) (moment c k))) where
+    by : (b : Bool) → AllFit (one_at c at page b k)
+    by true = (found_fits (perform enter (chip_interrupts.raised (arriving c.arrivals k) (moment c k).state)) page, tt)
+    by false = tt
+
+-- both are such as a thread may begin with
+pub finds_fit : (g : Setting) (c : chip.Setting) (at n k : ℕ) → Fits (handler_finds g c at n k)
+finds_fit g c at n k = let page = g.page_of (Copy (instructions.known g.program.handler)) in entries_fit (entered c at page n) (entered_all c at page n) k
 
 module _ (g : Setting) (h : Ground) (c : chip.Setting) (hd : ℕ) (x : IsImage g h c.image c.inputs hd) (halt_is : c.watch.halt ≡ h.halt) (ranges_is : c.watch.ranges ≡ g.program.layout.objects)
     (start : IsStart c.start) (only : (k : ℕ) → g.program.handler ≡ Some k → g.program.handler ≡ Some hd) (main_is : h.place (front g.program (Copy 0)) ≡ c.watch.main)
@@ -149,56 +141,48 @@ module _ (g : Setting) (h : Ground) (c : chip.Setting) (hd : ℕ) (x : IsImage g
   abbrev pub P : ℕ → Schedule
   P n = before traces c.arrivals n
 
-  -- what the handler finds at the interrupt that is taken at this moment
-  abbrev found_at : ℕ → Registers
-  found_at k = found (perform enter (chip_interrupts.raised (arriving c.arrivals k) (moment c k).state)) (g.page_of (Copy hd))
+  -- the page of the handler's block
+  abbrev page : ℕ
+  page = g.page_of (Copy hd)
 
-  abbrev one_at : Bool → ℕ → List Registers
-  one_at b k = if b then found_at k ∷ [] else []
+  -- what the handler finds at the interrupts that were taken
+  abbrev at_entries : ℕ → List Registers
+  at_entries = entered c at page
 
-  pub entered : ℕ → List Registers
-  entered zero = []
-  entered (suc k) = entered k ++ one_at (nat_le at k && takes (arriving c.arrivals k) (moment c k)) k
+  abbrev at_entry : ℕ → Registers
+  at_entry = found_at c at page
 
-  entered_all : (k : ℕ) → AllFit (entered k)
-  unfolding entered
-  entered_all zero = tt
-  entered_all (suc k) = all_append (entered k) (one_at (nat_le at k && takes (arriving c.arrivals k) (moment c k)) k) (entered_all k) (by (nat_le at k && takes (arriving c.arrivals k) (moment c k))) where
-    by : (b : Bool) → AllFit (one_at b k)
-    by true = (found_fits (perform enter (chip_interrupts.raised (arriving c.arrivals k) (moment c k).state)) (g.page_of (Copy hd)), tt)
-    by false = tt
+  abbrev one_entry : Bool → ℕ → List Registers
+  one_entry = one_at c at page
 
-  entered_none : (k : ℕ) → k ≤ at → length (entered k) ≡ 0
+  entered_none : (k : ℕ) → k ≤ at → length (at_entries k) ≡ 0
   unfolding entered
   entered_none zero le = refl
   entered_none (suc k) le =
-      ap (λ b. length (entered k ++ one_at (b && takes (arriving c.arrivals k) (moment c k)) k)) (lt-leb at k (omega arith)) ∙ ap length (append-nil (entered k)) ∙ entered_none k (omega arith)
+      ap (λ b. length (at_entries k ++ one_entry (b && takes (arriving c.arrivals k) (moment c k)) k)) (lt-leb at k (omega arith)) ∙ ap length (append-nil (at_entries k)) ∙ entered_none k (omega arith)
 
-  entered_on : (k : ℕ) (b : Bool) → at ≤ k → takes (arriving c.arrivals k) (moment c k) ≡ b → entered (suc k) ≡ entered k ++ one_at b k
+  entered_on : (k : ℕ) (b : Bool) → at ≤ k → takes (arriving c.arrivals k) (moment c k) ≡ b → at_entries (suc k) ≡ at_entries k ++ one_entry b k
   unfolding entered
-  entered_on k b le e = ap (λ z. entered k ++ one_at (z && takes (arriving c.arrivals k) (moment c k)) k) (le-leb at k le) ∙ ap (λ z. entered k ++ one_at z k) e
+  entered_on k b le e = ap (λ z. at_entries k ++ one_entry (z && takes (arriving c.arrivals k) (moment c k)) k) (le-leb at k le) ∙ ap (λ z. at_entries k ++ one_entry z k) e
 
-  grown : (d k n : ℕ) → n ≡ d + k → (more : List Registers) × (entered n ≡ entered k ++ more)
+  grown : (d k n : ℕ) → n ≡ d + k → (more : List Registers) × (at_entries n ≡ at_entries k ++ more)
   unfolding entered
-  grown zero k n is = ([], ap entered (let e : n ≡ k = omega arith in e) ∙ sym (append-nil (entered k)))
+  grown zero k n is = ([], ap at_entries (let e : n ≡ k = omega arith in e) ∙ sym (append-nil (at_entries k)))
   grown (suc d) k zero is = absurd (omega arith)
   grown (suc d) k (suc n) is =
       let a = grown d k n (omega arith) in
-      let y = one_at (nat_le at n && takes (arriving c.arrivals n) (moment c n)) n in
-      (a.0 ++ y, ap (λ z. z ++ y) a.1 ∙ append_assoc (entered k) a.0 y)
+      let y = one_entry (nat_le at n && takes (arriving c.arrivals n) (moment c n)) n in
+      (a.0 ++ y, ap (λ z. z ++ y) a.1 ∙ append_assoc (at_entries k) a.0 y)
 
   module _ (N : ℕ) where
     abbrev pub e : Entry
-    e = entry_at (entered N)
+    e = entry_at (at_entries N)
 
-    pub are_entries : (k : ℕ) → Fits (e k)
-    are_entries k = entries_fit (entered N) (entered_all N) k
-
-    oracle : (k : ℕ) → at ≤ k → k < N → takes (arriving c.arrivals k) (moment c k) ≡ true → e (length (entered k)) ≡ found_at k
+    oracle : (k : ℕ) → at ≤ k → k < N → takes (arriving c.arrivals k) (moment c k) ≡ true → e (length (at_entries k)) ≡ at_entry k
     oracle k le lt t =
         let more = grown (N - suc k) (suc k) N (omega arith) in
-        let all : entered N ≡ entered k ++ found_at k ∷ more.0 = more.1 ∙ ap (λ z. z ++ more.0) (entered_on k true le t) ∙ append_assoc (entered k) (found_at k ∷ []) more.0 in
-        ap (λ z. entry_at z (length (entered k))) all ∙ entry_last (entered k) (found_at k) more.0
+        let all : at_entries N ≡ at_entries k ++ at_entry k ∷ more.0 = more.1 ∙ ap (λ z. z ++ more.0) (entered_on k true le t) ∙ append_assoc (at_entries k) (at_entry k ∷ []) more.0 in
+        ap (λ z. entry_at z (length (at_entries k))) all ∙ entry_last (at_entries k) (at_entry k) more.0
 
     -- ---- the early runs
     pub outside_is : (k : ℕ) → outside_at g c k ≡ over c.inputs (P (suc k))
@@ -264,7 +248,7 @@ module _ (g : Setting) (h : Ground) (c : chip.Setting) (hd : ℕ) (x : IsImage g
         first_lands : lands g.program p0 ≡ true
         first_lands = lands_by (lands g.program p0) refl
 
-        begins_there : St g h c.image c.inputs hd x c.watch halt_is e t0 at 100 at (P at) (length (entered at)) at (moment c at) 0 (from_here state_at)
+        begins_there : St g h c.image c.inputs hd x c.watch halt_is e t0 at 100 at (P at) (length (at_entries at)) at (moment c at) 0 (from_here state_at)
         unfolding sym_run cost_by
         begins_there =
             let p = P at 0 in
@@ -324,7 +308,7 @@ module _ (g : Setting) (h : Ground) (c : chip.Setting) (hd : ℕ) (x : IsImage g
         pub halt_then : c.watch.halt ≡ ground.halt
         pub below : (end : ℕ) → IsBelow g h end → IsBelow g ground end
         pub trail : Trail
-        pub stands : St g ground c.image c.inputs hd image_then c.watch halt_then e t0 at from to (P n) (length (entered n)) n (moment c n) debt trail
+        pub stands : St g ground c.image c.inputs hd image_then c.watch halt_then e t0 at from to (P n) (length (at_entries n)) n (moment c n) debt trail
 
       abbrev pub due_at : ℕ → Bool
       due_at n = control.is_due (control_of (chip_interrupts.raised (arriving c.arrivals n) (moment c n).state))
@@ -334,26 +318,26 @@ module _ (g : Setting) (h : Ground) (c : chip.Setting) (hd : ℕ) (x : IsImage g
         L_is : length (traces n) ≡ length kn.stands.early.world.trace
         L_is = same_length (traces n) kn.stands.early.world.trace kn.stands.shows.trace
 
-        ready : St g kn.ground c.image c.inputs hd kn.image_then c.watch kn.halt_then e t0 at from to (P (suc n)) (length (entered n)) n (raised_at c n) debt' kn.trail
+        ready : St g kn.ground c.image c.inputs hd kn.image_then c.watch kn.halt_then e t0 at from to (P (suc n)) (length (at_entries n)) n (raised_at c n) debt' kn.trail
         ready =
             let l = L_is in
-            arrives g kn.ground c.image c.inputs hd kn.image_then c.watch kn.halt_then e t0 at from to (P n) (P (suc n)) (arriving c.arrivals n) (length (entered n)) n (moment c n) debt debt' kn.trail kn.stands
+            arrives g kn.ground c.image c.inputs hd kn.image_then c.watch kn.halt_then e t0 at from to (P n) (P (suc n)) (arriving c.arrivals n) (length (at_entries n)) n (moment c n) debt debt' kn.trail kn.stands
             (subst (λ z. Extends (P n) z (arriving c.arrivals n) (P (suc n))) L_is (schedule_goes_on traces c.arrivals n))
             (λ j lj. none_later traces c.arrivals n (λ i li. kn.stands.later i (omega arith)) j (omega arith)) since
 
-        runs_is : (b : Bool) → takes (arriving c.arrivals n) (moment c n) ≡ b → length (entered (suc n)) ≡ (if b then suc (length (entered n)) else length (entered n))
-        runs_is true q = ap length (entered_on n true le q) ∙ length-append (entered n) (found_at n ∷ []) ∙ (let z : length (entered n) + 1 ≡ suc (length (entered n)) = omega arith in z)
-        runs_is false q = ap length (entered_on n false le q) ∙ ap length (append-nil (entered n))
+        runs_is : (b : Bool) → takes (arriving c.arrivals n) (moment c n) ≡ b → length (at_entries (suc n)) ≡ (if b then suc (length (at_entries n)) else length (at_entries n))
+        runs_is true q = ap length (entered_on n true le q) ∙ length-append (at_entries n) (at_entry n ∷ []) ∙ (let z : length (at_entries n) + 1 ≡ suc (length (at_entries n)) = omega arith in z)
+        runs_is false q = ap length (entered_on n false le q) ∙ ap length (append-nil (at_entries n))
 
         moment_is : is_modelled (fetched c.image (if due_at n then perform enter (raised_at c n).state else (raised_at c n).state)) ≡ true → moment c (suc n) ≡ next_by g kn.ground c.image c.inputs hd kn.image_then c.watch kn.halt_then e t0 at from to (raised_at c n) (due_at n)
         moment_is md =
             next_is c n (due_at n) refl kn.stands.met kn.stands.going md
             ∙ ap (λ z. observed c.watch (after c.image c.inputs z (raised_at c n) (if due_at n then perform enter (raised_at c n).state else (raised_at c n).state) ((moment c n).handling || due_at n))) ranges_is
 
-        pub stepped_at : Stepped g kn.ground c.image c.inputs hd kn.image_then c.watch kn.halt_then e t0 at from to (P (suc n)) (if due_at n then suc (length (entered n)) else length (entered n)) (suc n) (raised_at c n) ((moment c n).handling || due_at n) (if due_at n then perform enter (raised_at c n).state else (raised_at c n).state)
+        pub stepped_at : Stepped g kn.ground c.image c.inputs hd kn.image_then c.watch kn.halt_then e t0 at from to (P (suc n)) (if due_at n then suc (length (at_entries n)) else length (at_entries n)) (suc n) (raised_at c n) ((moment c n).handling || due_at n) (if due_at n then perform enter (raised_at c n).state else (raised_at c n).state)
             (next_by g kn.ground c.image c.inputs hd kn.image_then c.watch kn.halt_then e t0 at from to (raised_at c n) (due_at n)) debt' kn.trail
         stepped_at =
-            step_by g kn.ground c.image c.inputs hd kn.image_then c.watch kn.halt_then e t0 at from to (P (suc n)) (length (entered n)) n (raised_at c n) debt' kn.trail ready (clean_at n (omega arith) from to) only (due_at n) refl (λ q. oracle n le lt q)
+            step_by g kn.ground c.image c.inputs hd kn.image_then c.watch kn.halt_then e t0 at from to (P (suc n)) (length (at_entries n)) n (raised_at c n) debt' kn.trail ready (clean_at n (omega arith) from to) only (due_at n) refl (λ q. oracle n le lt q)
             (λ md. (
               P (suc (suc n)),
               arriving c.arrivals (suc n),
@@ -374,7 +358,7 @@ module _ (g : Setting) (h : Ground) (c : chip.Setting) (hd : ℕ) (x : IsImage g
                 below = λ end b. y.below_then end (kn.below end b);
                 trail = y.trail_then;
                 stands =
-                    subst (λ (z : Moment). St g y.ground c.image c.inputs hd y.image_then c.watch y.halt_then e t0 at from to (P (suc n)) (length (entered (suc n))) (suc n) z debt' y.trail_then) (sym next_moment_is)
+                    subst (λ (z : Moment). St g y.ground c.image c.inputs hd y.image_then c.watch y.halt_then e t0 at from to (P (suc n)) (length (at_entries (suc n))) (suc n) z debt' y.trail_then) (sym next_moment_is)
                     (subst (λ k. St g y.ground c.image c.inputs hd y.image_then c.watch y.halt_then e t0 at from to (P (suc n)) k (suc n) (next_by g kn.ground c.image c.inputs hd kn.image_then c.watch kn.halt_then e t0 at from to (raised_at c n) (due_at n)) debt' y.trail_then) (sym (runs_is (due_at n) refl)) y.stands);
               },
               subst (Onward (is_handling (arriving c.arrivals n) (moment c n)) kn.trail y.trail_then (traces n)) (sym next_moment_is) y.onward,
@@ -399,17 +383,20 @@ module _ (g : Setting) (h : Ground) (c : chip.Setting) (hd : ℕ) (x : IsImage g
         L_same : length (traces n) ≡ length kn.stands.early.world.trace
         L_same = same_length (traces n) kn.stands.early.world.trace kn.stands.shows.trace
 
-        ready_now : St g kn.ground c.image c.inputs hd kn.image_then c.watch kn.halt_then e t0 at from to (P (suc n)) (length (entered n)) n (raised_at c n) (kn.stands.ahead + kn.stands.idle) kn.trail
+        ready_now : St g kn.ground c.image c.inputs hd kn.image_then c.watch kn.halt_then e t0 at from to (P (suc n)) (length (at_entries n)) n (raised_at c n) (kn.stands.ahead + kn.stands.idle) kn.trail
         ready_now =
-            arrives g kn.ground c.image c.inputs hd kn.image_then c.watch kn.halt_then e t0 at from to (P n) (P (suc n)) (arriving c.arrivals n) (length (entered n)) n (moment c n) debt (kn.stands.ahead + kn.stands.idle) kn.trail kn.stands
+            arrives g kn.ground c.image c.inputs hd kn.image_then c.watch kn.halt_then e t0 at from to (P n) (P (suc n)) (arriving c.arrivals n) (length (at_entries n)) n (moment c n) debt (kn.stands.ahead + kn.stands.idle) kn.trail kn.stands
             (subst (λ z. Extends (P n) z (arriving c.arrivals n) (P (suc n))) L_same (schedule_goes_on traces c.arrivals n))
             (λ j lj. let l = L_same in none_later traces c.arrivals n (λ i li. kn.stands.later i (omega arith)) j (omega arith)) (inl (omega arith))
 
         pub touches_on : TouchesThere g.program c.image (chip_interrupts.begun (arriving c.arrivals n) (moment c n).state)
-        touches_on = touches_now g kn.ground c.image c.inputs hd kn.image_then c.watch kn.halt_then e t0 at from to (P (suc n)) (length (entered n)) n (raised_at c n) (kn.stands.ahead + kn.stands.idle) kn.trail ready_now (clean_at n lt from to) only (due_at n) refl
+        touches_on = touches_now g kn.ground c.image c.inputs hd kn.image_then c.watch kn.halt_then e t0 at from to (P (suc n)) (length (at_entries n)) n (raised_at c n) (kn.stands.ahead + kn.stands.idle) kn.trail ready_now (clean_at n lt from to) only (due_at n) refl
+
+        pub stands_on : (end : ℕ) → IsBelow g h end → (moment c n).state.pc < end
+        stands_on end b = stands_below g kn.ground c.image c.inputs hd kn.image_then c.watch kn.halt_then e t0 at from to (P (suc n)) (length (at_entries n)) n (raised_at c n) (kn.stands.ahead + kn.stands.idle) kn.trail ready_now (clean_at n lt from to) only end (kn.below end b)
 
         pub below_on : (end : ℕ) → IsBelow g h end → (chip_interrupts.begun (arriving c.arrivals n) (moment c n).state).pc < end
-        below_on end b = below_now g kn.ground c.image c.inputs hd kn.image_then c.watch kn.halt_then e t0 at from to (P (suc n)) (length (entered n)) n (raised_at c n) (kn.stands.ahead + kn.stands.idle) kn.trail ready_now (clean_at n lt from to) only end (kn.below end b) (due_at n) refl
+        below_on end b = below_now g kn.ground c.image c.inputs hd kn.image_then c.watch kn.halt_then e t0 at from to (P (suc n)) (length (at_entries n)) n (raised_at c n) (kn.stands.ahead + kn.stands.idle) kn.trail ready_now (clean_at n lt from to) only end (kn.below end b) (due_at n) refl
 
       -- ---- every moment from main's first one on
       pub known : (d n : ℕ) → n ≡ d + at → n ≤ N → (debt : ℕ) × Known 100 at n debt

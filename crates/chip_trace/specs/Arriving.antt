@@ -6,12 +6,13 @@ use Rattle.pic_world.specs.World.{Outside, Happening, outside_of, event_of}
 use Rattle.pic_world.specs.Arrivals.{arriving}
 use Rattle.pic_world.specs.Control.{control_at_reset, raised_by}
 use Rattle.pic_chip.specs.Interrupts.{control_of, begun}
+use Rattle.chip_trace.specs.Entries.{begins, memory_at, handler_finds}
 use Rattle.chip_trace.specs.Keeping.{TouchesThere}
 use Rattle.pic_world.specs.declared.Arrival.{Arrival}
 use Rattle.pic_world.specs.declared.Cell.{Cell}
 use Rattle.pic_world.specs.declared.Root.TheVariants.{Main, Isr}
 use Rattle.pic_chip.specs.Run as chip
-use Rattle.pic_chip.specs.Run.{IsStart, moment, is_handling, Watch}
+use Rattle.pic_chip.specs.Run.{IsStart, moment, takes, is_handling, Watch}
 use Rattle.pic_map.specs.declared.Placed.{Placed}
 use Rattle.run_links.specs.Runs.{Run}
 use Rattle.schedule.specs.Off.{read_off}
@@ -210,10 +211,6 @@ module _ (g : Setting) (c : chip.Setting) where
         → (early e r m n).most j + slack ≤ (early e r m n).most i + (n - t) → IsMet e r m n j
     pub no_underflow : (k : ℕ) → IsRunning e r m n → k ≤ n → (moment c k).state.pops ≤ (moment c k).state.pushes
     pub no_overflow : (k : ℕ) → IsRunning e r m n → k ≤ n → (moment c k).state.pushes ≤ (moment c k).state.pops + 8
-    -- where every address is below 100h, RP1 and IRP are 0
-    pub low : (k : ℕ) → IsRunning e r m n → k ≤ n → (moment c k).met ≡ true → all_near g.program.layout ≡ true → (moment c k).state.bank < 2
-    -- what the instruction touches that begins there
-    pub touches : (k : ℕ) → IsRunning e r m n → k ≤ n → (moment c k).met ≡ true → TouchesThere g.program c.image (begun (arriving c.arrivals k) (moment c k).state)
     pub frames : (k b : ℕ) → IsRunning e r m n → k < n → (moment c k).met ≡ true
         → is_kept (is_handling (arriving c.arrivals k) (moment c k)) (owner g.program.layout b) ≡ true
         → slice_index (moment c (k + 1)).state.ram b ≡ slice_index (moment c k).state.ram b
@@ -222,14 +219,17 @@ module _ (g : Setting) (c : chip.Setting) where
 abbrev pub EndsBy : List SymBlock → List ℕ → ℕ → Type 0
 EndsBy blocks at end = (k : ℕ) (block : SymBlock) (start : ℕ) → slice_get blocks k ≡ Some block → slice_get at k ≡ Some start → start + words_in block.list.items ≤ end
 
--- Up to moment n the instructions stand below the end of the code.
-abbrev pub IsWithin : (g : Setting) (c : chip.Setting) → Entry → Registers → Memory → ℕ → ℕ → Type 0
-IsWithin g c e r m n end = IsRunning g c e r m n → (k : ℕ) → k ≤ n → (moment c k).met ≡ true → (begun (arriving c.arrivals k) (moment c k).state).pc < end
-
 -- the flags of the arrivals before moment n, as a mask
 abbrev pub arrived_before : List Arrival → ℕ → ℕ
 arrived_before arrivals zero = 0
 arrived_before arrivals (suc n) = bit_or (arrived_before arrivals n) (arriving arrivals n)
+
+-- At moment k, before main is met, an instruction of the start block begins, and no interrupt is taken; in a near layout RP1 and IRP are 0.
+pub record IsStarting (g : Setting) (c : chip.Setting) (k : ℕ) : Type 0 where
+  pub pc : (moment c k).state.pc < words_in (g.program.block Start)
+  pub untaken : takes (arriving c.arrivals k) (moment c k) ≡ false
+  pub low : all_near g.program.layout ≡ true → (moment c k).state.bank < 2
+  pub touches : TouchesThere g.program c.image (begun (arriving c.arrivals k) (moment c k).state)
 
 -- The start block has done its part: main is met soon, its objects hold their first bytes, and no device register was accessed. Of
 -- the registers by which interrupts come only flags were set, by what arrived so far. That it does so is a theorem of its own.
@@ -242,19 +242,27 @@ pub record IsStarted (g : Setting) (first : List (List Held)) (c : chip.Setting)
   pub no_early_access : (n : ℕ) → (moment c n).early ≡ []
   pub begun : (registers : Registers) → Fits registers → IsBegun first g.program.layout registers (slice_index (moment c at).state.ram)
   pub control : control_of (moment c at).state ≡ raised_by (arrived_before c.arrivals at) control_at_reset
-  -- until then nothing is called, and no interrupt taken
+  -- until then the start block runs, nothing is called, and no interrupt is taken
+  pub starting : (k : ℕ) → k < at → IsStarting g c k
   pub level : (k : ℕ) → k ≤ at → (moment c k).state.pushes ≡ (moment c k).state.pops
   pub outside : (moment c at).handling ≡ false
-  -- in a near layout RP1 and IRP are 0 there
+  -- it stands at main there, and in a near layout RP1 and IRP are 0
+  pub pc : (moment c at).state.pc ≡ c.watch.main
   pub low : all_near g.program.layout ≡ true → (moment c at).state.bank < 2
 
--- What the words and the context promise together: for every start, input list and arrival list there is what main finds, and up to
--- each moment what the handler finds at its entries.
-abbrev pub Arriving : Type 0
-Arriving =
+-- ---- what is promised
+-- What main begins with and what the handler finds is such as a thread may begin with.
+abbrev pub Fitting : Type 0
+Fitting = (g : Setting) (c : chip.Setting) (at : ℕ) → Fits (begins c at) × ((n : ℕ) → AreEntries (handler_finds g c at n))
+
+-- For every start, input list and arrival list this holds up to each moment, with what main finds and with what the handler finds at its
+-- entries.
+abbrev pub Throughout : (Setting → chip.Setting → Entry → Registers → Memory → ℕ → Type 0) → Type 0
+Throughout Holds =
     (blocks : List SymBlock) (at : List ℕ) (placed : Placed) (handler : Option ℕ) (first : List (List Held)) (g : Setting) (c : chip.Setting)
     → IsAssembled blocks at placed handler c.image c.watch g → IsStart c.start → All (λ byte. byte < 256) c.inputs
-    → (started : IsStarted g first c)
-    → (begins : Registers) × Fits begins
-    × ((n : ℕ) → (entry : Entry) × AreEntries entry × Arrives g c entry begins (slice_index (moment c started.at).state.ram) n
-    × ((end : ℕ) → EndsBy blocks at end → IsWithin g c entry begins (slice_index (moment c started.at).state.ram) n end))
+    → (started : IsStarted g first c) → (n : ℕ) → Holds g c (handler_finds g c started.at n) (begins c started.at) (memory_at c started.at) n
+
+-- What the words and the context promise together.
+abbrev pub Arriving : Type 0
+Arriving = Throughout Arrives

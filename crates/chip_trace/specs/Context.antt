@@ -1,24 +1,22 @@
 -- What runs of the handler leave of main: its context is back behind each of them, few bytes are another, and main's instructions without
 -- an event may as well come behind them.
-use Rattle.std.specs.Prelude.{ℕ, zero, suc, ◌+◌, ◌-◌, ◌≡◌, ◌≢◌, ◌<◌, ◌≤◌, Bool, true, false, ◌&&◌, nat_le, nat_lt, if◌then◌else◌, List, [], length, Option, slice_index}
-use Rattle.std.specs.List.{All}
+use Rattle.std.specs.Prelude.{ℕ, zero, suc, ◌+◌, ◌-◌, ◌/◌, ◌%◌, ◌≡◌, ◌≢◌, ◌<◌, ◌≤◌, Bool, true, false, ◌&&◌, nat_le, nat_lt, if◌then◌else◌, [], length, Some, slice_index}
 use Rattle.pic_chip.specs.Act.{accesses, perform}
 use Rattle.pic_chip.specs.Instructions.{execute}
 use Rattle.pic_chip.specs.Interrupts.{control_of}
 use Rattle.pic_chip.specs.Run as chip
-use Rattle.pic_chip.specs.Run.{IsStart, moment, takes, is_handling, events_of}
+use Rattle.pic_chip.specs.Run.{moment, takes, is_handling, events_of}
 use Rattle.pic_chip.specs.State.{State}
-use Rattle.pic_map.specs.declared.Placed.{Placed}
 use Rattle.pic_world.specs.Arrivals.{arriving}
+use Rattle.pic_world.specs.Bits.{truth}
 use Rattle.pic_world.specs.declared.Root.TheVariants.{Main, Isr}
-use Rattle.core_code.specs.Bytes.{Held}
-use Rattle.sym_code.specs.Correct.{AreEntries}
 use Rattle.sym_code.specs.Effect.{Setting, Memory}
 use Rattle.sym_code.specs.Layout.{Owner, Watched, Constant, Of, Nobody, owner}
 use Rattle.sym_code.specs.Machine.{Entry}
-use Rattle.sym_code.specs.Registers.{Registers, Fits}
-use Rattle.sym_code.specs.declared.code.SymBlock.{SymBlock}
-use Rattle.chip_trace.specs.Arriving.{IsAssembled, IsRunning, IsStarted}
+use Rattle.sym_code.specs.Registers.{Registers}
+use Rattle.sym_code.specs.declared.code.BlockName.{BlockName}
+use Rattle.bank_page.specs.declared.known.Known.{Known}
+use Rattle.chip_trace.specs.Arriving.{IsRunning, Throughout}
 
 -- ---- the context
 -- s has the registers of k: W, the parts of STATUS, FSR, and PCLATH with all five bits
@@ -39,6 +37,21 @@ pub record IsBack (k s : State) : Type 0 where
   pub depth : s.pushes + k.pops ≡ k.pushes + s.pops
   pub stack : (j : ℕ) → k.pops + j < k.pushes → slice_index s.stack j ≡ slice_index k.stack j
 
+-- ---- what is selected
+-- What is known of selected bits holds of this state: where a block's page is known to be selected, PCLATH has its bits.
+pub record Knows (pages : BlockName → ℕ) (k : Known) (s : State) : Type 0 where
+  pub rp0 : (b : Bool) → k.rp0 ≡ Some b → s.bank % 2 ≡ truth b
+  pub rp1 : (b : Bool) → k.rp1 ≡ Some b → s.bank / 2 % 2 ≡ truth b
+  pub low : (n : BlockName) → k.low ≡ Some n → s.pclath / 8 % 2 ≡ pages n % 2
+  pub high : (n : BlockName) → k.high ≡ Some n → s.pclath / 8 / 2 % 2 ≡ pages n / 2 % 2
+
+-- The same is selected at s as at k, RP0, RP1 and IRP and all five bits of PCLATH, so whatever is known of it holds again.
+pub record HasSelected (pages : BlockName → ℕ) (k s : State) : Type 0 where
+  pub bank : s.bank ≡ k.bank
+  pub pclath : s.pclath ≡ k.pclath
+  pub facts : (known : Known) → Knows pages known k → Knows pages known s
+
+-- ---- whole runs
 -- A whole run of the handler: main is under way at moment `from` and the interrupt is taken there; `to` is the first moment after it at
 -- which main is under way again, directly behind the return.
 pub record IsHandled (c : chip.Setting) (from to : ℕ) : Type 0 where
@@ -94,6 +107,10 @@ module _ (g : Setting) (c : chip.Setting) where
     pub context : IsRunning g c e r m n → (from to : ℕ) → IsHandled c from to → to ≤ n → IsBack (moment c from).state (moment c to).state
     pub own : IsRunning g c e r m n → (from to : ℕ) → IsHandled c from to → to ≤ n → HasMains (moment c from).state (moment c to).state
 
+  -- Up to moment n what main has selected before a whole run of the handler is selected behind it.
+  abbrev pub HoldsSelected : Entry → Registers → Memory → ℕ → Type 0
+  HoldsSelected e r m n = IsRunning g c e r m n → (from to : ℕ) → IsHandled c from to → to ≤ n → HasSelected g.page_of (moment c from).state (moment c to).state
+
   -- Up to moment n every other byte is left as it was by each instruction of the handler's runs, those of saving and restoring among them,
   -- and so by each whole run.
   pub record Spares (e : Entry) (r : Registers) (m : Memory) (n : ℕ) : Type 0 where
@@ -130,18 +147,11 @@ module _ (g : Setting) (c : chip.Setting) where
   abbrev pub GoesPast : Entry → Registers → Memory → ℕ → Type 0
   GoesPast e r m n = IsRunning g c e r m n → (from to : ℕ) (s : State) → IsSilent c from to → to ≤ n → IsBefore from to s → ComesBehind from to s
 
--- For every start, input list and arrival list there is what main finds, and up to each moment what the handler finds at its entries, with
--- which this holds.
-abbrev pub Throughout : (Setting → chip.Setting → Entry → Registers → Memory → ℕ → Type 0) → Type 0
-Throughout Holds =
-    (blocks : List SymBlock) (at : List ℕ) (placed : Placed) (handler : Option ℕ) (first : List (List Held)) (g : Setting) (c : chip.Setting)
-    → IsAssembled blocks at placed handler c.image c.watch g → IsStart c.start → All (λ byte. byte < 256) c.inputs
-    → (started : IsStarted g first c)
-    → (begins : Registers) × Fits begins
-    × ((n : ℕ) → (entry : Entry) × AreEntries entry × Holds g c entry begins (slice_index (moment c started.at).state.ram) n)
-
 abbrev pub Returning : Type 0
 Returning = Throughout GivesBack
+
+abbrev pub HoldingSelected : Type 0
+HoldingSelected = Throughout HoldsSelected
 
 abbrev pub Sparing : Type 0
 Sparing = Throughout Spares

@@ -1,4 +1,6 @@
+pub mod Entries
 pub mod Arriving
 pub mod Starting
 pub mod Keeping
+pub mod Within
 pub mod Context

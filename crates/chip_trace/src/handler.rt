@@ -1,11 +1,17 @@
 //! What the handler's runs leave of main.
 
-ghost use Rattle.chip_trace.specs.Context.{Passing, Returning, Sparing};
+ghost use Rattle.chip_trace.specs.Context.{HoldingSelected, Passing, Returning, Sparing};
 
 /// Behind each whole run of the handler W, STATUS, FSR, PCLATH with all its bits and the program counter are what they were when it
 /// was entered. So are as many words of the return stack as were in use, and all bytes of main's frames and results.
 pub fn context_returns()
     ensures { Returning }
+{}
+
+/// Behind each whole run of the handler the bits of STATUS and PCLATH that selects set are what they were when it was entered: what is
+/// known of them for main's code holds across the interrupt.
+pub fn selects_hold_again()
+    ensures { HoldingSelected }
 {}
 
 /// A run of the handler writes only bytes of static objects that aren't const, of its own frames and results, and 78h to 7Bh, where it

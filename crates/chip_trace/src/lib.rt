@@ -16,13 +16,21 @@
 mod handler;
 mod start;
 
-ghost use Rattle.chip_trace.specs.Arriving.{Arriving};
+ghost use Rattle.chip_trace.specs.Arriving.{Arriving, Fitting};
+ghost use Rattle.chip_trace.specs.Within.{KeepingWithin};
 
-pub use handler::{context_returns, handler_keeps, main_goes_past};
+pub use handler::{context_returns, handler_keeps, main_goes_past, selects_hold_again};
 pub use start::main_is_met;
 
-/// An image whose start block has done its part follows the early run of its symbolic code, whenever interrupts arrive. What each of its
-/// instructions touches is of the code's own bytes and registers, and in a layout that ends below 100h RP1 and IRP stay 0.
+/// An image whose start block has done its part follows the early run of its symbolic code, whenever interrupts arrive, with what the
+/// handler finds in the registers at its entries.
 pub fn image_follows()
-    ensures { Arriving }
+    ensures follows { Arriving }
+    ensures fit { Fitting }
+{}
+
+/// Each instruction of such an image stands below the end of its code, before main is met and behind that, whether an interrupt is taken or
+/// not. What it touches is of the code's own bytes and registers, and in a layout that ends below 100h RP1 and IRP stay 0.
+pub fn image_keeps_within()
+    ensures { KeepingWithin }
 {}

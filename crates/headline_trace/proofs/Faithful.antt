@@ -30,7 +30,7 @@ use Rattle.headline_trace.proofs.Thinned.{names_kept}
 use Rattle.headline_trace.proofs.Worded.{all_modelled}
 
 -- bytes by their places are bytes
-all_bytes : (inputs : List ℕ) → ((k : ℕ) → slice_index inputs k < 256) → All (λ (byte : ℕ). byte < 256) inputs
+pub all_bytes : (inputs : List ℕ) → ((k : ℕ) → slice_index inputs k < 256) → All (λ (byte : ℕ). byte < 256) inputs
 all_bytes inputs low k d lt =
     let same : slice_index_or inputs k d ≡ slice_index_or inputs k 0 = some_is (slice_index_or inputs k d) (slice_index_or inputs k 0) (sym (slice_get-get_or inputs k d lt) ∙ slice_get-get_or inputs k 0 lt) in
     let byte : slice_index_or inputs k 0 < 256 = low k in
@@ -55,7 +55,7 @@ module _ (p : Program) (copies : List FnCopy) (core : CoreProgram) (given made :
   words : (a : ℕ) → a < 8192 → is_modelled (row_of (slice_index image a)) ≡ true
   words = all_modelled placed made at image t.written.words t.written.erased small
 
-  mapped : IsMapOf p copies content.objects content.frames
+  pub mapped : IsMapOf p copies content.objects content.frames
   mapped = record {
     known = t.calls.known;
     placing = subst (λ (fs : List FrameLine). IsPlacing p copies content.objects fs) (sym t.written.frames)

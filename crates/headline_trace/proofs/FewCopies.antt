@@ -60,7 +60,7 @@ module _ (p : Program) (copies : List FnCopy) (at : List ℕ) (paged : IsPaged p
   abbrev stated : List ℕ
   stated = sizes p paged.order
 
-  some_at : (k : ℕ) → k < length stated → 0 < slice_index stated k
+  pub some_at : (k : ℕ) → k < length stated → 0 < slice_index stated k
   unfolding copy_words
   some_at zero lt = capped_some (start_size p) (omega arith)
   some_at (suc k) lt =

@@ -12,11 +12,11 @@ use Rattle.call_graph.specs.declared.types.FnCopy.{FnCopy}
 use Rattle.code_place.proofs.Placing.{one_each, whole_of, in_order_of}
 use Rattle.code_place.specs.Pages.{addresses}
 use Rattle.code_place.specs.Sizes.{IsBefore, HasRoom, Stands}
-use Rattle.program_code.specs.Stated.{copy_words, sizes, IsPaged, words_of_copy, words_for, IsStated}
+use Rattle.program_code.specs.Stated.{copy_words, sizes, IsPaged, words_of_copy, words_for, IsStated, AreStated}
 use Rattle.ram_place.specs.Sizes.{block_words}
 use Rattle.sym_code.specs.Words.{words_in}
 use Rattle.sym_code.specs.declared.code.SymBlock.{SymBlock}
-use Rattle.headline_trace.specs.Bounded.{IsBlockFor, BlocksFit}
+use Rattle.headline_trace.specs.Bounded.{IsBlockFor, AreInOrder, BlocksFit}
 use Rattle.headline_trace.proofs.Lowerable.{capped_small}
 
 -- a count that is small is what is kept of it
@@ -62,16 +62,16 @@ module _ (p : Program) (copies : List FnCopy) (at : List ℕ) (paged : IsPaged p
       let start : HasRoom (slice_index at k) (words_in block.list.items) (slice_get at (k + 1)) = (low k lt, omega (arith, whole, few), next_is k (words_in block.list.items) lt few) in
       subst (λ (o : Option ℕ). Stands block o (slice_get at (k + 1))) (sym there) start
 
-  -- the start block, and the others
-  first_room : (block : SymBlock) → words_in block.list.items ≤ start_size p → Stands block (slice_get at 0) (slice_get at 1)
-  first_room block few =
+  -- of the start block, and of the others, no more words than are stated
+  first_few : (block : SymBlock) → words_in block.list.items ≤ start_size p → words_in block.list.items ≤ slice_index stated 0
+  first_few block few =
       let within : capped (start_size p) ≤ 2048 = paged.pages 0 (omega arith) in
       let same = capped_is (start_size p) within in
-      room 0 block (omega arith) (omega (arith, few, same))
+      omega (arith, few, same)
 
-  later_room : (k : ℕ) (block : SymBlock) → IsBlockFor copies paged.order k block → IsStated p copies block → Stands block (slice_get at (suc k)) (slice_get at (suc k + 1))
+  later_few : (k : ℕ) (block : SymBlock) → IsBlockFor copies paged.order k block → IsStated p copies block → (suc k < length stated) × (words_in block.list.items ≤ slice_index stated (suc k))
   unfolding copy_words
-  later_room k block is few =
+  later_few k block is few =
       let lt = slice_get_within paged.order k is.copy is.in_order in
       let size = length-map paged.order (copy_words p) in
       let here : slice_index_or (map (copy_words p) paged.order) k 0 ≡ copy_words p is.copy = get_or-map (copy_words p) paged.order k is.copy 0 lt ∙ ap (copy_words p) (get_or_from_slice_get paged.order k is.copy is.copy is.in_order) in
@@ -79,11 +79,18 @@ module _ (p : Program) (copies : List FnCopy) (at : List ℕ) (paged : IsPaged p
       let same = capped_is (block_words p is.copy.function) (omega (arith, here, within)) in
       let words : words_for p copies block.name ≡ block_words p is.copy.function = ap (words_for p copies) is.named ∙ ap (words_of_copy p) is.there in
       let most : words_in block.list.items ≤ words_for p copies block.name = few in
-      room (suc k) block (omega (arith, lt, size)) (omega (arith, most, here, same, words))
+      (omega (arith, lt, size), omega (arith, most, here, same, words))
+
+  -- so no block has more
+  pub few_at : (made : List SymBlock) → AreInOrder copies paged.order made → AreStated p copies made → (k : ℕ) (block : SymBlock) → slice_get made k ≡ Some block
+      → (k < length stated) × (words_in block.list.items ≤ slice_index stated k)
+  few_at made in_order each zero block is =
+      let words : words_for p copies block.name ≡ start_size p = ap (words_for p copies) (in_order.first block is) in
+      let few : words_in block.list.items ≤ words_for p copies block.name = each 0 block is in
+      (omega arith, first_few block (omega (arith, few, words)))
+  few_at made in_order each (suc k) block is = later_few k block (in_order.behind k block is) (each (suc k) block is)
 
 pub blocks_fit : BlocksFit
-blocks_fit p copies made at paged in_order stated zero block is =
-    let words : words_for p copies block.name ≡ start_size p = ap (words_for p copies) (in_order.first block is) in
-    let few : words_in block.list.items ≤ words_for p copies block.name = stated 0 block is in
-    first_room p copies at paged block (omega (arith, few, words))
-blocks_fit p copies made at paged in_order stated (suc k) block is = later_room p copies at paged k block (in_order.behind k block is) (stated (suc k) block is)
+blocks_fit p copies made at paged in_order stated k block is =
+    let few = few_at p copies at paged made in_order stated k block is in
+    room p copies at paged k block few.0 few.1

@@ -67,3 +67,6 @@ pub mod FewCopies
 pub mod Worded
 pub mod Faithful
 pub mod Written
+pub mod Touching
+pub mod Staying
+pub mod Within

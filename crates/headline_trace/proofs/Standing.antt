@@ -1,18 +1,23 @@
 -- Each block of what the passes make of a program has at most its stated words, with its selects and without those that flow facts make
 -- needless; and room where it is put, leaner or not, where it has no more than these.
-use Rattle.std.proofs.Common.{◌≡◌, suc, ◌≤◌, List, sym, ap, ◌∙◌, subst, arith}
+use Rattle.std.proofs.Common.{◌≡◌, ℕ, suc, ◌≤◌, List, sym, ap, ◌∙◌, subst, arith}
 use Rattle.std.specs.List.{AllZip}
 use Rattle.c_typed.specs.Trees.{Program}
 use Rattle.c_typed.specs.Views.{program_of}
+use Rattle.c_typed.specs.declared.program.Typed.{Typed}
 use Rattle.call_graph.specs.Numbers.{handler_at}
 use Rattle.call_graph.specs.declared.types.FnCopy.{FnCopy}
 use Rattle.flow_facts.proofs.Kept.{thinning_keeps}
 use Rattle.flow_facts.specs.Facts.{Facts}
 use Rattle.flow_facts.specs.Laws.{IsShorter}
-use Rattle.flow_facts.specs.Thin.{IsThin}
+use Rattle.flow_facts.specs.Thin.{IsThin, IsThinned}
 use Rattle.sym_code.specs.Words.{words_in}
 use Rattle.sym_code.specs.declared.code.SymBlock.{SymBlock}
-use Rattle.program_code.specs.Stated.{words_for, AreStated}
+use Rattle.core_code.specs.declared.code.CoreProgram.{CoreProgram}
+use Rattle.pic_map.specs.declared.Placed.{Placed}
+use Rattle.program_code.specs.Passed.{AreBlocks}
+use Rattle.program_code.specs.Stated.{words_for, IsPaged, AreStated}
+use Rattle.program_code.specs.Translated.{HasCalls}
 use Rattle.headline_trace.specs.Bounded.{AreInOrder, TranslationsAreStated, TranslationsFit}
 use Rattle.headline_trace.proofs.Bounded.{blocks_stated, zip_at}
 use Rattle.headline_trace.proofs.Fitting.{blocks_fit}
@@ -46,7 +51,12 @@ translations_stated typed copies core given whole made placed at blocks bodies t
     let kept = thinning_keeps placed (handler_at copies) at whole made thinned blocks.apart blocks.reaches in
     thin_stated (program_of typed) copies thinned.facts whole made thinned.each kept.shorter (blocks_stated typed copies core given whole placed blocks bodies has placing statics)
 
+-- they stand in the order in which the words were given
+pub made_in_order : (typed : Typed) (copies : List FnCopy) (core : CoreProgram) (given lean whole made : List SymBlock) (placed : Placed) (at : List ℕ) → AreBlocks (program_of typed) copies core given lean whole placed
+    → IsThinned (handler_at copies) at whole made → HasCalls (program_of typed) copies → (paged : IsPaged (program_of typed) copies at) → AreInOrder copies paged.order made
+made_in_order typed copies core given lean whole made placed at blocks thinned has paged =
+    thin_in_order (program_of typed) copies thinned.facts whole made thinned.each paged.order (blocks_in_order typed copies core given lean whole placed at blocks has paged)
+
 pub translations_fit : TranslationsFit
 translations_fit typed copies core given lean whole made placed at blocks thinned has paged stated =
-    let p = program_of typed in
-    blocks_fit p copies made at paged (thin_in_order p copies thinned.facts whole made thinned.each paged.order (blocks_in_order typed copies core given lean whole placed at blocks has paged)) stated
+    blocks_fit (program_of typed) copies made at paged (made_in_order typed copies core given lean whole made placed at blocks thinned has paged) stated

@@ -40,11 +40,12 @@ use Rattle.lower_trace.specs.Lowering.{source_run, held_as}
 use Rattle.lower_trace.proofs.Lowered.{lowers}
 use Rattle.bank_page.specs.Links.{price_in}
 use Rattle.bank_trace.proofs.Chosen.{flows_keep}
-use Rattle.chip_trace.specs.Arriving.{IsStarted, Arrives}
-use Rattle.chip_trace.proofs.Final.{arriving}
+use Rattle.chip_trace.specs.Arriving.{IsRunning, IsStarted, Arrives}
+use Rattle.chip_trace.specs.Entries as finds
+use Rattle.chip_trace.proofs.Final.{arriving, fitting}
 use Rattle.chip_trace.proofs.StartFinal.{starting}
 use Rattle.headline.specs.Headline.{Source}
-use Rattle.headline.specs.OnChip.{Follows, setting_of}
+use Rattle.headline.specs.OnChip.{IsClean, Follows, setting_of}
 use Rattle.headline.specs.SourceOf as sources
 use Rattle.headline.specs.SourceOf.{source_of}
 use Rattle.headline_trace.specs.Carried.{IsLed, IsSeen, IsTold}
@@ -53,7 +54,7 @@ use Rattle.headline_trace.proofs.Beginning.{begins as begins_alike}
 use Rattle.headline_trace.proofs.Chains.{through, led_on}
 use Rattle.headline_trace.proofs.Ends.{end_state, frames}
 use Rattle.headline_trace.proofs.Opened.{selection_opens}
-use Rattle.headline_trace.proofs.Joining.{prefix, pace, no_underflow, no_overflow, start_up}
+use Rattle.headline_trace.proofs.Joining.{running, prefix, pace, no_underflow, no_overflow, start_up}
 use Rattle.headline_trace.proofs.Showing.{seen}
 
 module _ (p : Program) (copies : List FnCopy) (bodies : List Body) (statics : List (Vec FirstByte Global)) (reaches : ℕ → ℕ → Bool) (given lean made : List SymBlock)
@@ -92,22 +93,23 @@ module _ (p : Program) (copies : List FnCopy) (bodies : List Body) (statics : Li
   show e = event_as (shown l) (event_as (held_as p copies) e)
 
   -- ---- the start
-  started : IsStarted full q.first c
+  pub started : IsStarted full q.first c
   started = subst (λ f. IsStarted full f c) linked.statics_are (starting made at placed handler statics full c linked.assembled linked.beginning is_start small)
 
-  arrived : (begins : Registers) × Fits begins × ((n : ℕ) → (entry : Entry) × AreEntries entry × Arrives full c entry begins (slice_index (moment c started.at).state.ram) n)
-  arrived =
-      let all = arriving made at placed handler q.first full c linked.assembled is_start small started in
-      (all.0, all.1, λ n. let up_to = all.2 n in (up_to.0, up_to.1, up_to.2))
-
   abbrev begins : Registers
-  begins = arrived.0
+  begins = finds.begins c started.at
 
   abbrev m : Memory
   m = slice_index (moment c started.at).state.ram
 
+  fits : Fits begins
+  fits = (fitting full c started.at).0
+
+  arrived : (n : ℕ) → (entry : Entry) × AreEntries entry × Arrives full c entry begins m n
+  arrived n = (finds.handler_finds full c started.at n, (fitting full c started.at).1 n, arriving made at placed handler q.first full c linked.assembled is_start small started n)
+
   begun : IsBegun q.first l begins m
-  begun = started.begun begins arrived.1
+  begun = started.begun begins fits
 
   -- ---- the source
   proper : IsProper p
@@ -189,18 +191,22 @@ module _ (p : Program) (copies : List FnCopy) (bodies : List Body) (statics : Li
         (λ n d.
         let k = (led_bare.followed n d).at n in
         slow_from_start (λ event. event) bare_run full_run k bare_free
-        (flows_keep lean made handler placed at linked.facts bare full linked.selects o e begins m entries arrived.1 k (led_bare.followed n d).goes))
+        (flows_keep lean made handler placed at linked.facts bare full linked.selects o e begins m entries fits k (led_bare.followed n d).goes))
+
+  -- while no step of the source is undefined, none of the early run is stuck
+  pub goes_on : (n : ℕ) → IsClean source content c n → IsRunning full c (finds.handler_finds full c started.at n) begins m n
+  goes_on = running show above source content full c q.first started begins arrived is_seen led
 
   pub headline : Follows source content c
   headline = record {
-    prefix = prefix show above source content full c q.first started begins arrived.2 is_seen led;
-    pace = λ n t k clean le quiet rich. pace show above source content full c q.first started begins arrived.2 is_seen led n clean t k le quiet rich;
+    prefix = prefix show above source content full c q.first started begins arrived is_seen led;
+    pace = λ n t k clean le quiet rich. pace show above source content full c q.first started begins arrived is_seen led n clean t k le quiet rich;
     end_state = λ n i k line clean met there free within.
-        end_state show above source content full c q (length copies) reaches linked.selected.layout linked.selected.laid_out started is_told linked.assembled.outside begins arrived.1 arrived.2 is_seen led n i k line clean met there free within;
-    no_underflow = no_underflow show above source content full c q.first started begins arrived.2 is_seen led;
-    no_overflow = no_overflow show above source content full c q.first started begins arrived.2 is_seen led;
-    frames = frames show above source content full c q (length copies) reaches linked.selected.layout linked.selected.laid_out started is_told linked.assembled.outside begins arrived.1 arrived.2 is_seen led;
-    start_up = start_up show above source content full c q.first started begins arrived.2 is_seen led;
+        end_state show above source content full c q (length copies) reaches linked.selected.layout linked.selected.laid_out started is_told linked.assembled.outside begins fits arrived is_seen led n i k line clean met there free within;
+    no_underflow = no_underflow show above source content full c q.first started begins arrived is_seen led;
+    no_overflow = no_overflow show above source content full c q.first started begins arrived is_seen led;
+    frames = frames show above source content full c q (length copies) reaches linked.selected.layout linked.selected.laid_out started is_told linked.assembled.outside begins fits arrived is_seen led;
+    start_up = start_up show above source content full c q.first started begins arrived is_seen led;
     no_early_access = started.no_early_access;
   }
 

@@ -9,6 +9,7 @@ pub mod Assembly
 pub mod Translations
 pub mod Bounded
 pub mod Faithful
+pub mod Within
 pub mod Written
 pub mod Addressed
 pub mod Registered

@@ -8,6 +8,7 @@ ghost use Rattle.headline_trace.specs.Translations.{TranslationsAreLinked, Trans
 ghost use Rattle.headline_trace.specs.Selection.{DepthIsHad, LeanIsHad, LevelsAreHad, ReachIsHad, SelectionIsHad};
 ghost use Rattle.headline_trace.specs.Addressed.{LeanKeepsOperands, MadeHaveOperands, OperandsHaveAddresses, SelectsKeepOperands, WholeKeepNear};
 ghost use Rattle.headline_trace.specs.Registered.{CodeNamesRegisters, MadeNameRegisters};
+ghost use Rattle.headline_trace.specs.Within.{TranslationsStayWithin};
 ghost use Rattle.headline_trace.specs.Written.{MapsAreWritten};
 
 /// Of a sound program, byte code of its copies, the blocks that are joined from it and what `selects` answers for them have the selects
@@ -82,6 +83,13 @@ pub fn translations_are_linked()
 /// together are apart and clear of objects, and every run of the chip follows the source.
 pub fn translations_are_faithful()
     ensures { TranslationsAreFaithful }
+{}
+
+/// Each run of such an image stays within its code: before main is met, and while no step of the source is undefined, each instruction that
+/// begins stands below the end of the last block. It touches core registers, device registers that the code names, bytes of the map, and by
+/// its own operand 70h to 7Fh, and nothing else. Where every address of the map is below 100h, RP1 and IRP are 0.
+pub fn translations_stay_within()
+    ensures { TranslationsStayWithin }
 {}
 
 /// Where the code is as it was selected, each block with its selects has at most the words that are stated of it: the start block, the block

@@ -1,5 +1,8 @@
-use Rattle.chip_trace.proofs.Final.{arriving}
+use Rattle.chip_trace.proofs.Final.{arriving, fitting}
 use Rattle.chip_trace.proofs.image_follows.Goals as goal
 
-pub returns : goal.returns
-returns c = arriving
+pub returns-clause-follows : goal.returns-clause-follows
+returns-clause-follows c = arriving
+
+pub returns-clause-fit : goal.returns-clause-fit
+returns-clause-fit c = fitting
