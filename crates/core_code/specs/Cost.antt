@@ -34,8 +34,7 @@ half_cost = 3
 abbrev pub move_cost : ℕ
 move_cost = 6
 
--- A call, with the selects of its page, and where the copy reads a table with the copying of the index. So much costs the
--- read of a table's byte, too.
+-- A call, with the selects of its page; of a copy that reads a table its index is copied, too. And the read of a table's byte.
 abbrev pub call_cost : ℕ
 call_cost = 12
 

@@ -6,9 +6,11 @@ use Rattle.std.proofs.lemmas.Option.{same_Some}
 use Rattle.c_typed.specs.Trees.{Program}
 use Rattle.c_typed.specs.Views.{program_of}
 use Rattle.call_graph.specs.Numbers.{handler_at}
+use Rattle.call_graph.specs.declared.types.FnCopy.{FnCopy}
 use Rattle.chip_trace.specs.Keeping.{device_in}
 use Rattle.code_place.specs.Layouts.{layout_of}
 use Rattle.core_code.specs.declared.code.Byte.TheVariants as bytes
+use Rattle.core_code.specs.declared.code.CoreProgram.{CoreProgram}
 use Rattle.flow_facts.proofs.Kept.{thinning_keeps}
 use Rattle.bank_page.specs.Selected.{bare_lists}
 use Rattle.lean_code.specs.Rows.{Keeps, Drops, Puts, Narrows, narrowed, Clears, cleared, Reads, Tests, FlagName, tests_flag, operand_before, reads_before, Row, At, olds, puts}
@@ -16,13 +18,15 @@ use Rattle.lower_stmt.specs.Bodies.{first_bytes}
 use Rattle.lower_stmt.specs.FirstBytes.{items_of}
 use Rattle.lower_stmt.specs.Programs.{core_of}
 use Rattle.named_registers.specs.Registers.{names_register}
+use Rattle.pic_map.specs.MapContent.{MapContent}
 use Rattle.pic_map.specs.MapView.{object_of, frame_of}
+use Rattle.pic_map.specs.declared.Placed.{Placed}
 use Rattle.program_code.proofs.LeanerBlocks.{blocks_are_leaner}
 use Rattle.program_code.specs.Leaner.{IsLeaner}
 use Rattle.program_code.specs.Naming.{Memory, OperandLies, SymLies, SymsLie}
 use Rattle.program_code.specs.Passed.{AreBlocks}
 use Rattle.program_code.specs.There.{memory_of}
-use Rattle.program_code.specs.Translated.{HasCalls}
+use Rattle.program_code.specs.Translated.{HasCalls, IsTranslation, IsTranslated}
 use Rattle.ram_place.specs.Placement.{IsPlacing}
 use Rattle.sym_code.specs.Programs.{same_name, block_in}
 use Rattle.sym_code.specs.Selects.{is_select, bare}
@@ -229,13 +233,21 @@ named_at named (b ∷ blocks) name all i s is = by (same_name b.name name) (λ q
     by true more q = all 0 b refl i s q
     by false more q = more q
 
-pub code_names_registers : CodeNamesRegisters
-code_names_registers p copies core given made placed at image content is handler layout address n =
+blocks_name : (p : Program) (copies : List FnCopy) (core : CoreProgram) (given made : List SymBlock) (placed : Placed) (at image : List ℕ) (content : MapContent) → IsTranslation p copies core given made placed at image content
+    → BlocksNameOnly (names_register p) made
+blocks_name p copies core given made placed at image content is =
     let of_typed = subst (λ (q : Program). AreBlocks q copies core given is.passed.lean is.passed.whole placed) is.same is.passed.blocks in
     let calls = subst (λ (q : Program). HasCalls q copies) is.same is.calls in
     let placing = subst (λ (q : Program). IsPlacing q copies (map object_of placed.objects.items) (map frame_of placed.frames.items)) is.same is.spread.placing in
     let statics = subst (λ (q : Program). map items_of core.statics.items ≡ first_bytes q) is.same is.written.statics in
     let few = subst (λ (q : Program). length q.statics ≤ 65535) is.same is.few in
-    let named = names_register (program_of is.typed) in
-    let all : BlocksNameOnly named made = made_name_registers is.typed copies core given is.passed.lean is.passed.whole made placed at of_typed is.passed.thinned calls placing statics few in
-    subst (λ (q : Program). names_register q address ≡ true) (sym is.same) (named_at named made n.at.block all n.at.index n.word n.here address n.named)
+    subst (λ (q : Program). BlocksNameOnly (names_register q) made) (sym is.same)
+    (made_name_registers is.typed copies core given is.passed.lean is.passed.whole made placed at of_typed is.passed.thinned calls placing statics few)
+
+pub code_names_registers : CodeNamesRegisters
+code_names_registers p copies core given made placed at image content is handler layout address n =
+    named_at (names_register p) made n.at.block (blocks_name p copies core given made placed at image content is) n.at.index n.word n.here address n.named
+
+-- of all that the passes make together
+pub translations_name : (p : Program) (image : List ℕ) (content : MapContent) (made : IsTranslated p image content) → BlocksNameOnly (names_register p) made.made
+translations_name p image content made = blocks_name p made.copies made.core made.given made.made made.placed made.at image content made.is

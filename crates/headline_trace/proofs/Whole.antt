@@ -105,7 +105,7 @@ module _ (p : Program) (copies : List FnCopy) (bodies : List Body) (statics : Li
   fits : Fits begins
   fits = (fitting full c started.at).0
 
-  arrived : (n : ℕ) → (entry : Entry) × AreEntries entry × Arrives full c entry begins m n
+  abbrev arrived : (n : ℕ) → (entry : Entry) × AreEntries entry × Arrives full c entry begins m n
   arrived n = (finds.handler_finds full c started.at n, (fitting full c started.at).1 n, arriving made at placed handler q.first full c linked.assembled is_start small started n)
 
   begun : IsBegun q.first l begins m

@@ -27,7 +27,7 @@ use Rattle.code_place.specs.Layouts.{layout_of}
 use Rattle.code_place.specs.Pages.{addresses_from, rest_of_page, start_of}
 use Rattle.lower_stmt.specs.Programs.{core_of}
 use Rattle.program_code.specs.Passed.{AreBlocks}
-use Rattle.program_code.specs.Stated.{sizes, IsPaged}
+use Rattle.program_code.specs.Stated.{sizes, end_of_code, IsPaged}
 use Rattle.program_code.specs.Translated.{HasCalls, IsTranslation}
 use Rattle.chip_trace.specs.Arriving.{EndsBy}
 use Rattle.headline.specs.Keeps.{IsNearMap, StaysWithin}
@@ -37,7 +37,8 @@ use Rattle.headline_trace.specs.Bounded.{AreInOrder}
 use Rattle.headline_trace.specs.Carried.{frame_of}
 use Rattle.headline_trace.specs.Linked.{IsLinked, full_setting}
 use Rattle.headline_trace.specs.Selection.{reaches_in, limit_of}
-use Rattle.headline_trace.specs.Within.{end_from, CodeNamesOnly, TranslationsStayWithin}
+use Rattle.headline_trace.specs.Registered.{BlocksNameOnly}
+use Rattle.headline_trace.specs.Within.{TranslationsStayWithin}
 use Rattle.headline_trace.proofs.Faithful.{all_bytes, mapped}
 use Rattle.headline_trace.proofs.FewCopies.{some_at}
 use Rattle.headline_trace.proofs.Fitting.{few_at}
@@ -52,7 +53,7 @@ module _ (p : Program) (copies : List FnCopy) (bodies : List Body) (statics : Li
     (handler : Option ℕ) (placed : Placed) (at : List ℕ) (limit : Bool → ℕ) (image : List ℕ) (content : MapContent)
     (linked : IsLinked p copies bodies statics reaches given lean made handler placed at limit image content)
     (start : Start) (inputs : List ℕ) (arrivals : List Arrival) (is_start : IsStart start) (small : All (λ byte. byte < 256) inputs) where
-  pub linked_stays : (named : ℕ → Bool) → CodeNamesOnly named made → (end : ℕ) → EndsBy made at end → content.main < end → (IsNearMap content → all_near (layout_of placed) ≡ true)
+  pub linked_stays : (named : ℕ → Bool) → BlocksNameOnly named made → (end : ℕ) → EndsBy made at end → content.main < end → (IsNearMap content → all_near (layout_of placed) ≡ true)
       → StaysWithin (source_of p copies content) content named end (setting_of content image start inputs arrivals)
   linked_stays named names end ends main near =
       stays (source_of p copies content) content made at placed handler (full_setting made handler placed at limit) (setting_of content image start inputs arrivals) (core_of p copies).first linked.assembled is_start small
@@ -91,23 +92,23 @@ start_later end words = by (nat_lt (rest_of_page end) words) where
   by true = omega arith
   by false = omega arith
 
-end_later : (end : ℕ) (blocks : List ℕ) → end ≤ end_from end blocks
+end_later : (end : ℕ) (blocks : List ℕ) → end ≤ end_of_code end blocks
 end_later end [] = omega arith
 end_later end (words ∷ blocks) = let a = start_later end words in let b = end_later (start_of end words + words) blocks in omega (arith, a, b)
 
-ends_by : (end : ℕ) (blocks : List ℕ) (k : ℕ) → k < length blocks → slice_index (addresses_from end blocks) k + slice_index blocks k ≤ end_from end blocks
+ends_by : (end : ℕ) (blocks : List ℕ) (k : ℕ) → k < length blocks → slice_index (addresses_from end blocks) k + slice_index blocks k ≤ end_of_code end blocks
 ends_by end [] k lt = absurd (omega (arith, lt))
 ends_by end (words ∷ blocks) zero lt = end_later (start_of end words + words) blocks
 ends_by end (words ∷ blocks) (suc k) lt = ends_by (start_of end words + words) blocks k (omega (arith, lt))
 
 -- blocks that together are less than a page stand one behind the other
-pub end_is : (end : ℕ) (blocks : List ℕ) → end + sum blocks < 2048 → end_from end blocks ≡ end + sum blocks
+pub end_is : (end : ℕ) (blocks : List ℕ) → end + sum blocks < 2048 → end_of_code end blocks ≡ end + sum blocks
 end_is end [] low = omega arith
 end_is end (words ∷ blocks) low =
     let more : sum (words ∷ blocks) ≡ words + sum blocks = sum_by-cons (λ (n : ℕ). n) words blocks in
     let here : start_of end words ≡ end = at_once (omega (arith, low, more)) in
     let rest = end_is (end + words) blocks (omega (arith, low, more)) in
-    ap (λ s. end_from (s + words) blocks) here ∙ rest ∙ (omega (arith, more)) where
+    ap (λ s. end_of_code (s + words) blocks) here ∙ rest ∙ (omega (arith, more)) where
       at_once : end + words < 2048 → start_of end words ≡ end
       at_once lt = by (nat_lt (rest_of_page end) words) refl where
         by : (b : Bool) → nat_lt (rest_of_page end) words ≡ b → (if b then end + rest_of_page end else end) ≡ end
@@ -121,7 +122,7 @@ module _ (p : Program) (copies : List FnCopy) (core : CoreProgram) (given made :
   stated = sizes p t.paged.order
 
   abbrev end : ℕ
-  end = end_from 0 stated
+  end = end_of_code 0 stated
 
   in_order : AreInOrder copies t.paged.order made
   in_order =
@@ -174,6 +175,6 @@ translations_within p image content named made names =
       all = λ start inputs arrivals is_start bytes.
           linked_stays p copies core.bodies.items core.statics.items (reaches_in p copies) made.given t.passed.lean made.made (handler_at copies) made.placed made.at (limit_of copies) image content
           (translations_linked p copies core made.given made.made made.placed made.at image content t) start inputs arrivals is_start (all_bytes inputs bytes)
-          named names (end_from 0 (sizes p t.paged.order)) (ends p copies core made.given made.made made.placed made.at image content t) (main p copies core made.given made.made made.placed made.at image content t)
+          named names (end_of_code 0 (sizes p t.paged.order)) (ends p copies core made.given made.made made.placed made.at image content t) (main p copies core made.given made.made made.placed made.at image content t)
           (near p copies core made.given made.made made.placed made.at image content t);
     }

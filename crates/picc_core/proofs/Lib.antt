@@ -12,6 +12,7 @@ pub mod Founding
 pub mod Leaning
 pub mod Named
 pub mod Translating
+pub mod Keeping
 pub mod OnlyCopies
 pub mod OnlyPlaces
 pub mod OnlyBlocks

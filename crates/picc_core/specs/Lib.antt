@@ -8,5 +8,6 @@ pub mod Accepted
 pub mod Limits
 pub mod CodeAnswers
 pub mod Founded
+pub mod Kept
 pub mod Coded
 pub mod Decided

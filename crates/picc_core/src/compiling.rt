@@ -19,6 +19,7 @@ ghost use Rattle.picc_core.specs.Coded.{IsCoded, IsSymbolic};
 ghost use Rattle.picc_core.specs.Compiled.{IsCompiledTo, IsPlaced, IsWithinDepth};
 ghost use Rattle.picc_core.specs.Decided.{IsAcceptedText};
 ghost use Rattle.picc_core.specs.Founded.{IsFounded};
+ghost use Rattle.picc_core.specs.Kept.{IsKept};
 ghost use Rattle.picc_core.specs.Texts.{program_tokens, HasTree};
 ghost use Rattle.picc_core.specs.Typed.{IsTypedAs};
 ghost use Rattle.picc_core.specs.declared.refusal.CompileError.TheVariants.{Refused};
@@ -141,6 +142,7 @@ fn compiled(alloc: Global, text: &[u8], saving: Saving) -> Result<Built, Compile
     ensures refused { IfErr result (TellsError text.now) }
     ensures tokens { (r : Refusal) → program_tokens text.now ≡ Err (Refused r) → IsRefusedUnless result r }
     ensures whole { IfOk result (IsCompiledTo text.now) }
+    ensures kept { IfOk result (λ built. IsKept (program_of built.typed) (content_of built.map) built.image) }
     ensures translated { IfOk result (λ built. IsTranslated (program_of built.typed) built.image (content_of built.map)) }
 {
     let front = front(alloc, text)?;
@@ -182,6 +184,9 @@ pub fn compile(alloc: Global, text: &[u8]) -> Result<Built, CompileError>
     ensures ram { IfOk result (λ built. built.ram ≡ addresses_covered (map object_of built.map.objects.items) (map frame_of built.map.frames.items)) }
     // All this together.
     ensures whole { IfOk result (IsCompiledTo text.now) }
+    // Each run of the image stays within its code, and touches nothing but core registers, the device registers that the program names, the bytes
+    // that every bank has, and the addresses of the map. Where these are below 100h, RP1 and IRP stay 0.
+    ensures kept { IfOk result (λ built. IsKept (program_of built.typed) (content_of built.map) built.image) }
     // Beside it: the image and the map are what the passes make of the program, and each promises its part. None of the clauses above speaks of passes.
     ensures translated { IfOk result (λ built. IsTranslated (program_of built.typed) built.image (content_of built.map)) }
 {
@@ -199,6 +204,8 @@ pub fn compile_plain(alloc: Global, text: &[u8]) -> Result<Built, CompileError>
     ensures tokens { (r : Refusal) → program_tokens text.now ≡ Err (Refused r) → IsRefusedUnless result r }
     // All that is known of what `compile` makes,
     ensures whole { IfOk result (IsCompiledTo text.now) }
+    // what each run of the image stays within,
+    ensures kept { IfOk result (λ built. IsKept (program_of built.typed) (content_of built.map) built.image) }
     // and that the image and the map are what the passes make of the program.
     ensures translated { IfOk result (λ built. IsTranslated (program_of built.typed) built.image (content_of built.map)) }
 {

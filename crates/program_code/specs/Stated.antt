@@ -1,11 +1,11 @@
 -- The words that are stated of a program's blocks: the start block, and one for each copy.
-use Rattle.std.specs.Prelude.{ℕ, ◌≡◌, ◌≤◌, List, ◌∷◌, map, Option, Some, None, slice_get}
+use Rattle.std.specs.Prelude.{ℕ, ◌+◌, ◌≡◌, ◌≤◌, List, [], ◌∷◌, map, Option, Some, None, slice_get}
 use Rattle.std.specs.List.Sorted.{IsNonDecreasingBy, IsPermutation}
 use Rattle.c_typed.specs.Nodes.{capped}
 use Rattle.c_typed.specs.Trees.{Program}
 use Rattle.c_typed.specs.Words.{start_size}
 use Rattle.call_graph.specs.declared.types.FnCopy.{FnCopy}
-use Rattle.code_place.specs.Pages.{addresses, AreWithinPages, AreInMemory}
+use Rattle.code_place.specs.Pages.{start_of, addresses, AreWithinPages, AreInMemory}
 use Rattle.ram_place.specs.Sizes.{block_words}
 use Rattle.sym_code.specs.Words.{words_in}
 use Rattle.sym_code.specs.declared.code.BlockName.{BlockName}
@@ -46,3 +46,8 @@ pub record IsPaged (p : Program) (copies : List FnCopy) (at : List ℕ) : Type 0
   pub stand : at ≡ addresses (sizes p order)
   pub pages : AreWithinPages (sizes p order)
   pub memory : AreInMemory (addresses (sizes p order))
+
+-- where blocks of so many words end that are placed one behind the other from this address on
+abbrev pub end_of_code : ℕ → List ℕ → ℕ
+end_of_code end [] = end
+end_of_code end (words ∷ blocks) = end_of_code (start_of end words + words) blocks

@@ -128,12 +128,7 @@ struct Objects {
     taken: Taken,
 }
 
-fn place_objects(
-    alloc: Global,
-    p: &Typed,
-    without: &[u32],
-    top: u16,
-) -> Result<Objects, PlaceError>
+fn place_objects(alloc: Global, p: &Typed, without: &[u32], top: u16) -> Result<Objects, PlaceError>
     ensures { answers.TellsObjects (stated.but_below (program_of p.now) without.now top) (program_of p.now) result }
 {
     let mut lines = Vec::new(alloc);

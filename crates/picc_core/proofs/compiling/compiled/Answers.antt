@@ -1,8 +1,10 @@
 use Rattle.picc_core.proofs.Handed.{compiled_to}
+use Rattle.picc_core.proofs.Keeping.{translations_kept}
 use Rattle.picc_core.proofs.Named.{program_named}
 use Rattle.picc_core.proofs.Translating.{checked, translated}
 use Rattle.picc_core.proofs.compiling.compiled.Goals as goal
 use Rattle.c_typed.specs.Views.{program_of}
+use Rattle.pic_map.specs.MapView.{content_of}
 
 pub built-requires : goal.built-requires
 built-requires c = c.in_ok-front.ensures.founded
@@ -15,6 +17,9 @@ returns-clause-translated c =
     let b = c.in_ok-made.made in
     let is = checked f.typed f.copies.list.items f.placed f.at.items b made.objects made.frames front.founded made.code (program_named c.args.text.now (program_of f.typed) front.typed) in
     translated f.typed f.copies.list.items f.placed f.at.items b made.objects made.frames front.founded made.code made.typed is
+
+pub returns-clause-kept : goal.returns-clause-kept
+returns-clause-kept c = let b = c.in_ok-made.made in translations_kept (program_of b.typed) b.image (content_of b.map) (returns-clause-translated c)
 
 pub returns-clause-whole : goal.returns-clause-whole
 returns-clause-whole c =
