@@ -37,6 +37,28 @@ accepted 'a long assignment' "$(repeated 'x=' 4000)x" ''
 expect 'a chain of members' 0 '' \
     "struct s{struct s*p;}*p;void f(void){p$(repeated '->p' 4000);}void main(void){PORTB=PORTC;}"
 expect 'choices without their ends' 1 'a.c:1: error 4: syntax' "void f(int a){$(repeated 'a?' 3000)a;}void main(void){}"
+
+# The body of a structure ends a run of tokens within an expression, so that choices may stand in one another as deep as a text is long.
+# In the name of a type it is refused.
+body='(struct{int y;}*)x'
+no_tree() {
+    expect "$1" 1 'a.c:1: error 4: syntax' "int x;void main(void){x=$2}"
+}
+no_type() {
+    expect "$1" 1 'a.c:1: error 5: declare' "int x;void main(void){x=$2}"
+}
+no_tree '2,049 choices round a body, one without its end' "$(repeated 'x?' 2049)$body$(repeated ':x' 2048);"
+no_type '2,049 choices round a body' "$(repeated 'x?' 2049)$body$(repeated ':x' 2049);"
+no_type 'as many choices round a body as a run has room for' "$(repeated 'x?' 4094)$body$(repeated ':x' 4094);"
+front=$(repeated "$(repeated 'x?' 4085)$body?" 16)
+back=$(repeated "$(repeated ':x' 4085):$body" 16)
+no_type 'as many choices as a text has room for' "${front}x$back;"
+no_tree '.. one without its end' "${front}x${back#:x};"
+no_tree '.. without a semicolon' "${front}x$back"
+no_tree 'twice as many without their ends' "$front$front"
+front=$(repeated "$(repeated 'x?' 4085)$body?" 8)
+back=$(repeated "$(repeated ':x?x:x' 1361):x?x:$body" 24)
+no_tree 'choices in one another, with a choice behind each, without a semicolon' "${front}x$back"
 compiled 'prefixes without code' "$(repeated '+ ' 8000)x"
 compiled 'addresses and what they point to' "$(repeated '*&' 4000)x"
 compiled 'casts without code' "$(repeated '(int)' 2700)x"

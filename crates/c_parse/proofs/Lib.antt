@@ -14,9 +14,3 @@ pub mod Strings
 pub mod LastSuffix
 pub mod Failing
 pub mod Whole
-mod QuietKinds
-mod Sparse
-mod SparseTrees
-mod SparsePrograms
-pub mod NoUnit
-mod ChoiceCounts

@@ -4,11 +4,10 @@ ghost use Rattle.std.specs.Prelude.{◌≡◌, List, ℕ, length, Some, None, Er
 ghost use Rattle.c_nodes.specs.Programs.{ItemTree, IsUnit, spelled_unit};
 ghost use Rattle.c_nodes.specs.ProgramViews.{unit_of};
 ghost use Rattle.parse_expr.specs.declared.error.ParseError.TheVariants.{Syntax};
-ghost use Rattle.parse_expr.specs.Reader.{Fails, Gives, symbols_in};
+ghost use Rattle.parse_expr.specs.Reader.{Gives, symbols_in};
 ghost use Rattle.c_parse.specs.Limits.{first_over, IsLimit};
 ghost use Rattle.c_parse.specs.Reading.{unit_by};
 
-use crate::choices::{crowded, is_deep};
 use crate::limits::over;
 use crate::unit::unit;
 use c_nodes::statement::Unit;
@@ -24,17 +23,6 @@ fn last_line(toks: &[Tok]) -> u32 {
     }
 }
 
-/// The answer where more `?` stand in one another than the call stack has room for. With too many
-/// of them in a run of tokens there is no tree. Otherwise memory runs out.
-fn too_deep(last: u32, toks: &[Tok]) -> ParseError
-    ensures { (text : List ℕ) → Fails result (unit_by (symbols_in text toks.now)) }
-{
-    match crowded(last, toks) {
-        Some(line) => ParseError::Syntax { line },
-        None => ParseError::NoMemory,
-    }
-}
-
 /// Reads the tokens from left to right, where none passes a limit.
 fn read(alloc: Global, text: &[u8], toks: &[Tok]) -> Result<Unit, ParseError>
     ensures limit { (e : ParseError) → first_over 0 0 toks.now ≡ Some e → result ≡ Err e }
@@ -43,11 +31,7 @@ fn read(alloc: Global, text: &[u8], toks: &[Tok]) -> Result<Unit, ParseError>
     if let Some(error) = over(toks) {
         return Err(error);
     }
-    let last = last_line(toks);
-    if is_deep(toks) {
-        return Err(too_deep(last, toks));
-    }
-    unit(alloc, text, last, toks)
+    unit(alloc, text, last_line(toks), toks)
 }
 
 /// The tree that the tokens of a text spell (ISO/IEC 9899:1990, 6.3 to 6.7, in the subset), or the
@@ -56,8 +40,9 @@ fn read(alloc: Global, text: &[u8], toks: &[Tok]) -> Result<Unit, ParseError>
 /// `toks` are the tokens that are left of the text after directives and replacement. They are the
 /// tokens of the tree, each with its line, and with its bytes where it is a name or a string.
 ///
-/// The call stack is memory, too: a tree with more than 2,048 `?` in one another is not given. It has
-/// a structure's body in the name of a type, since the limit on runs leaves no room for it otherwise.
+/// The call stack has an end, and this answers within it whatever the text: limits bound the brackets and the
+/// statements in one another, and `?` wait for their `:` in a list. So it is out of memory only where an
+/// allocation is refused, however deep choices stand in one another.
 pub fn parse(alloc: Global, text: &[u8], toks: &[Tok]) -> Result<Unit, ParseError>
     // The first token that passes a limit is told, whatever the tokens spell.
     ensures limit { (e : ParseError) → first_over 0 0 toks.now ≡ Some e → result ≡ Err e }

@@ -5,12 +5,12 @@
 //! The promise: the first token that passes a limit is reported. Where none does, the answer is the one
 //! tree of the grammar that the tokens spell, or that they spell none. It may be out of memory in
 //! place of either.
-//! The call stack is bounded: at most 64 brackets, 256 statements and 2,048 `?` are entered in one
-//! another, and everything else that may be long is read by loops.
+//! The call stack is bounded: at most 64 brackets and 256 statements are entered in one another, and
+//! everything else that may be long is read by loops, choices in one another too, at any depth. So memory
+//! runs out only where an allocation is refused.
 #![tactic(auto)]
 
 mod build;
-mod choices;
 mod declaration;
 mod entry;
 mod initial;

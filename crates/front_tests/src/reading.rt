@@ -235,10 +235,19 @@ Parse(Syntax { line: 1 }) => void main(void){PORTB=`4095*a?`
 Parse(Syntax { line: 1 }) => void main(void){PORTB=`2730*a?``2730*:`;}
 // A structure's body ends a run in the middle of an expression.
 tree => void main(void){x=`2048*a?`sizeof(struct{int y;})`2048*:c`;}
-Parse(NoMemory) => void main(void){x=`2049*a?`sizeof(struct{int y;})`2049*:c`;}
-Parse(NoMemory) => void main(void){x=`2049*a?`sizeof(struct{int y;})`2048*:c`;}
+tree => void main(void){x=`2049*a?`sizeof(struct{int y;})`2049*:c`;}
+Parse(Syntax { line: 1 }) => void main(void){x=`2049*a?`sizeof(struct{int y;})`2048*:c`;}
+Parse(Syntax { line: 1 }) => void main(void){x=`4094*x?`(struct{int y;}*)x`4093*:x`;}
+Parse(Syntax { line: 2 }) => void main(void){x=`4093*x?`(struct{int y;}*)x$`4093*:x`:x;}
+// 61,290 of them in one another, the last one without its `:`.
+Parse(Syntax { line: 2 }) => void main(void){x=`4085*x?`(struct{int y;}*)x?`4085*x?`(struct{int y;}*)x?`4085*x?`(struct{int y;}*)x?`4085*x?`(struct{int y;}*)x?`4085*x?`(struct{int y;}*)x?`4085*x?`(struct{int y;}*)x?`4085*x?`(struct{int y;}*)x?`4085*x?`(struct{int y;}*)x?`4085*x?`(struct{int y;}*)x?`4085*x?`(struct{int y;}*)x?`4085*x?`(struct{int y;}*)x?`4085*x?`(struct{int y;}*)x?`4085*x?`(struct{int y;}*)x?`4085*x?`(struct{int y;}*)x?`4085*x?`(struct{int y;}*)x?x$`4085*:x`:(struct{int y;}*)x`4085*:x`:(struct{int y;}*)x`4085*:x`:(struct{int y;}*)x`4085*:x`:(struct{int y;}*)x`4085*:x`:(struct{int y;}*)x`4085*:x`:(struct{int y;}*)x`4085*:x`:(struct{int y;}*)x`4085*:x`:(struct{int y;}*)x`4085*:x`:(struct{int y;}*)x`4085*:x`:(struct{int y;}*)x`4085*:x`:(struct{int y;}*)x`4085*:x`:(struct{int y;}*)x`4085*:x`:(struct{int y;}*)x`4085*:x`:(struct{int y;}*)x`4085*:x`;}
 // Many of them, one behind the other.
 tree => void main(void){`20000*x=a?b:c;`}"#;
+
+// Choices in one another, round a structure's body that declares nothing. Their trees are deeper than a spelling goes.
+const DEEP: &str = r#"Declare 1 => int x;void main(void){x=`2049*x?`(struct{int y;}*)x`2049*:x`;}
+Declare 2 => int x;void main(void){x=`4094*x?`$(struct{int y;}*)x`4094*:x`;}
+Declare 1 => int x;void main(void){x=`4085*x?`(struct{int y;}*)x?`4085*x?`(struct{int y;}*)x?`4085*x?`(struct{int y;}*)x?`4085*x?`(struct{int y;}*)x?`4085*x?`(struct{int y;}*)x?`4085*x?`(struct{int y;}*)x?`4085*x?`(struct{int y;}*)x?`4085*x?`(struct{int y;}*)x?`4085*x?`(struct{int y;}*)x?`4085*x?`(struct{int y;}*)x?`4085*x?`(struct{int y;}*)x?`4085*x?`(struct{int y;}*)x?`4085*x?`(struct{int y;}*)x?`4085*x?`(struct{int y;}*)x?`4085*x?`(struct{int y;}*)x?x`4085*:x`:(struct{int y;}*)x`4085*:x`:(struct{int y;}*)x`4085*:x`:(struct{int y;}*)x`4085*:x`:(struct{int y;}*)x`4085*:x`:(struct{int y;}*)x`4085*:x`:(struct{int y;}*)x`4085*:x`:(struct{int y;}*)x`4085*:x`:(struct{int y;}*)x`4085*:x`:(struct{int y;}*)x`4085*:x`:(struct{int y;}*)x`4085*:x`:(struct{int y;}*)x`4085*:x`:(struct{int y;}*)x`4085*:x`:(struct{int y;}*)x`4085*:x`:(struct{int y;}*)x`4085*:x`:(struct{int y;}*)x;}"#;
 
 const DOUBLING: &str = r#"// Each name stands for two of the name before it.
 tree => #define a0 ;$#define a1 a0 a0$#define a2 a1 a1$#define a3 a2 a2$#define a4 a3 a3$#define a5 a4 a4$#define a6 a5 a5$#define a7 a6 a6$#define a8 a7 a7$#define a9 a8 a8$#define a10 a9 a9$#define a11 a10 a10$#define a12 a11 a11$#define a13 a12 a12$#define a14 a13 a13$#define a15 a14 a14$#define a16 a15 a15$#define a17 a16 a16$void main(void){a16}
@@ -248,7 +257,8 @@ Pre(Tokens { line: 20 }) => #define a0 ;$#define a1 a0 a0$#define a2 a1 a1$#defi
 #[test]
 fn limits_hold_at_their_numbers(rt: HostRuntime) -> Result<(), Fail> {
     assert_eq!(rt; checked(&rt, rt.alloc(), Question::Tree, LIMITS)?, 21);
-    assert_eq!(rt; checked(&rt, rt.alloc(), Question::Tree, CHOICES)?, 14);
+    assert_eq!(rt; checked(&rt, rt.alloc(), Question::Tree, CHOICES)?, 17);
+    assert_eq!(rt; checked(&rt, rt.alloc(), Question::Rule, DEEP)?, 3);
     assert_eq!(rt; checked(&rt, rt.alloc(), Question::Tree, DOUBLING)?, 3);
     Ok(())
 }

@@ -1,11 +1,11 @@
 -- What is shown of readers: that they take trees (Sound), and that they read each tree again (Complete).
-use Rattle.std.proofs.Common.{◌≡◌, ℕ, suc, ◌≤◌, Bool, true, false, nat_le, nat_lt, ◌&&◌, if◌then◌else◌, List, [], ◌∷◌, ◌++◌, length, Option, Some, None}
+use Rattle.std.proofs.Common.{◌≡◌, ℕ, ◌≤◌, Bool, true, false, nat_le, nat_lt, ◌&&◌, if◌then◌else◌, List, [], ◌∷◌, ◌++◌, length, Option, Some}
 use Rattle.c_token.specs.declared.token.TokKind.{TokKind}
 use Rattle.c_token.specs.declared.token.Keyword.TheVariants as words
 use Rattle.c_token.specs.declared.token.Punct.TheVariants as marks
 use Rattle.c_nodes.specs.Words.{Symbol, Symbols, punct, spelled_comma}
 use Rattle.c_nodes.specs.Kinds.{is_punct, is_key, is_leaf, is_prefix, level_of, is_assignment, is_step, is_field, is_spec, is_qualifier}
-use Rattle.c_nodes.specs.Trees.{Tree, TypeTree, MemberTree, ParamTree, spelled, spelled_type, spelled_member, spelled_more_members, spelled_param, spelled_more_params, IsTree, IsType, IsMember, AreMoreMembers, IsParam, AreMoreParams, EnumeratorTree, spelled_enumerator, spelled_more_enumerators, IsEnumerator, AreMoreEnumerators, rank}
+use Rattle.c_nodes.specs.Trees.{Tree, MemberTree, ParamTree, spelled, spelled_type, spelled_member, spelled_more_members, spelled_param, spelled_more_params, IsTree, IsType, IsMember, AreMoreMembers, IsParam, AreMoreParams, EnumeratorTree, spelled_enumerator, spelled_more_enumerators, IsEnumerator, AreMoreEnumerators, rank}
 use Rattle.c_nodes.specs.Lists.{more_members, more_params, more_enumerators}
 use Rattle.parse_expr.specs.Reader.{Reader, Step, front_is, spells}
 use Rattle.parse_expr.specs.Reading.{Inner}

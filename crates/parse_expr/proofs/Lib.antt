@@ -22,3 +22,8 @@ pub mod Pointers
 pub mod Loops
 pub mod Parts
 pub mod Fuel
+pub mod Enough
+pub mod Waits
+pub mod Fronts
+pub mod Whole
+pub mod Turns

@@ -89,7 +89,7 @@ cond_by_takes inner sound toks plain x e = choices_take inner sound (length toks
 
 -- ---- assignments
 
-target_takes : (a : Tree) → Sound (λ s. s ∷ []) (λ s. (is_assignment s.kind ≡ true) × (is_unary a ≡ true)) (target_at a)
+pub target_takes : (a : Tree) → Sound (λ s. s ∷ []) (λ s. (is_assignment s.kind ≡ true) × (is_unary a ≡ true)) (target_at a)
 unfolding target_at
 target_takes a toks plain x e = cases_if (is_unary a) _ _ (Some x)
     (λ is e2. weaken (λ sign. (sign, is)) (symbol_takes is_assignment toks plain x e2))
@@ -117,7 +117,7 @@ assign_by_takes inner sound toks plain x e = assigns_take inner sound (length to
 abbrev spelled_comma : ℕ × Tree → Symbols
 spelled_comma b = punct marks.Comma b.0 ∷ spelled b.1
 
-comma_takes : (inner : Inner) → SoundInner inner → SoundStep spelled_comma (λ b. IsAssign b.1) (comma_by inner)
+pub comma_takes : (inner : Inner) → SoundInner inner → SoundStep spelled_comma (λ b. IsAssign b.1) (comma_by inner)
 unfolding comma_by
 comma_takes inner sound [] plain x e = absurd cc
 comma_takes inner sound (s ∷ rest) plain x e = cases_if (is_punct marks.Comma s.kind) _ _ (Some (Some x))

@@ -10,6 +10,7 @@ ghost use Rattle.parse_expr.specs.Reading.{at, expr_by, assign_by, cond_by, tier
 ghost use Rattle.parse_expr.specs.Parts.{choice_by};
 
 use crate::build;
+use crate::front::{Waiting, behind_value, no_front, with_choice};
 use crate::kind::is_punct;
 use crate::operand::unary;
 use crate::operator::{behind_operator, behind_target};
@@ -173,10 +174,65 @@ fn choice<'s>(
 ) -> Read<'s, Choice>
     ensures { Gives (λ x. (choice_of x.0, symbols_in text.now x.1.now)) result (choice_by (at fuel) (binary_of condition) question (symbols_in text.now toks.now)) }
 {
-    let (then, rest) = inner_expr(alloc, text, last, fuel, toks)?;
+    let (then, rest) = inner_choice(alloc, text, last, fuel, toks)?;
     let (colon, rest) = punct(last, Punct::Colon, rest)?;
     let choice = build::choice(alloc, condition, question, then, colon)?;
     Ok((choice, rest))
+}
+
+/// An expression between `?` and `:`, where one bracket, or one `?`, less may be entered.
+///
+/// What waits for its `:` lies in a list, so the call stack doesn't grow with the `?` that stand in one another.
+#[cycle(parse)]
+fn inner_choice<'s>(
+    alloc: Global,
+    text: &[u8],
+    last: u32,
+    fuel: usize,
+    toks: &'s [Tok],
+) -> Read<'s, Expr>
+    ensures { Gives (λ x. (expr_of x.0, symbols_in text.now x.1.now)) result ((at fuel).expr (symbols_in text.now toks.now)) }
+{
+    if fuel == 0 {
+        return Err(stopped(last, toks));
+    }
+    let mut waiting = Vec::new(alloc);
+    let mut front = no_front(alloc);
+    let mut left = fuel - 1;
+    let mut rest = toks;
+    loop {
+        let (operand, after) = tier(alloc, text, last, left, LEVELS, rest)?;
+        if let Some((question, behind)) = behind_punct(Punct::Question, after) {
+            if left == 0 {
+                return Err(stopped(last, behind));
+            }
+            let condition = operand;
+            waiting.push(Waiting {
+                front,
+                condition,
+                question,
+            })?;
+            front = no_front(alloc);
+            left -= 1;
+            rest = behind;
+            continue;
+        }
+        match behind_value(alloc, front, operand, after)? {
+            Ok((more, behind)) => {
+                front = more;
+                rest = behind;
+            }
+            Err(expr) => {
+                let Some(top) = waiting.pop() else {
+                    return Ok((expr, after));
+                };
+                let (colon, behind) = punct(last, Punct::Colon, after)?;
+                front = with_choice(alloc, top, expr, colon)?;
+                left += 1;
+                rest = behind;
+            }
+        }
+    }
 }
 
 /// Operands between operators of levels up to `level`; level 0 is an operand alone.

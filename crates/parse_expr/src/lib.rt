@@ -11,6 +11,7 @@ pub mod declarator;
 mod enumeration;
 mod error;
 pub mod expression;
+pub mod front;
 pub mod kind;
 mod operand;
 mod operator;

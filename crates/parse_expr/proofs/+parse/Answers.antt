@@ -1,4 +1,4 @@
-use Rattle.std.proofs.Common.{◌-◌, suc, length, map, refl}
+use Rattle.std.proofs.Common.{◌-◌, suc, length, map, refl, arith}
 use Rattle.std.proofs.lemmas.List.{length-map}
 use Rattle.std.proofs.lemmas.Result.{err_from_is_err_and}
 use Rattle.c_nodes.specs.Views.{binary_of, postfix_suffix_of, prefix_of, spec_of, suffix_of, choice_of, cond_of, expr_of, type_name_of, member_of, param_of, next_assign_of, next_declarator_of, next_operand_of, next_param_of, target_of, enumerator_of, next_enumerator_of}
@@ -6,6 +6,10 @@ use Rattle.parse_expr.specs.Reader.{symbol_in, symbols_in, all_that}
 use Rattle.parse_expr.specs.Reading.{at, cond_by, assign_by, comma_by, right_by, tier_by, post_by, prefix_by, next_spec_by, next_member_by, next_declarator_by, suffix_by, next_param_by, expr_by, type_name_by, members_by, params_by, next_enumerator_by, enumerators_by}
 use Rattle.parse_expr.proofs.Loops.{collect_first, collect_more, collect_ends, collect_out, collect_err, choices_first, choices_more, choices_end, choices_out, choices_err, choice_err, assigns_first, assigns_more, assigns_end, assigns_out, assigns_err}
 use Rattle.parse_expr.proofs.Fuel.{fails, gives, no_expr, no_size, no_type_name, no_members, no_params, no_enumerators, less_expr, less_size, less_type_name, less_members, less_params, less_enumerators}
+use Rattle.c_token.specs.declared.token.Punct.TheVariants as marks
+use Rattle.parse_expr.specs.WaitingViews.{front_of, waiting_of}
+use Rattle.parse_expr.proofs.Whole.{at_deepest, operand_err, operand_taken, punct_taken}
+use Rattle.parse_expr.proofs.Turns.{first_turn, question_turn, value_turn, colon_turn, colon_missing, last_turn, none_left}
 use Rattle.parse_expr.proofs.+parse.Goals as goal
 
 pub expression::commas-returns-in_err-next : goal.expression::commas-returns-in_err-next
@@ -254,3 +258,70 @@ enumeration::inner_enumerators-returns-then-fuel-eq0 t c = fails c.stopped.resul
 
 pub enumeration::inner_enumerators-returns : goal.enumeration::inner_enumerators-returns
 enumeration::inner_enumerators-returns t c = gives (λ x. ((enumerator_of x.0.0, map next_enumerator_of x.0.1.items), symbols_in c.args.text.now x.1.now)) c.enumerators.result ((at c.args.fuel).enumerators (symbols_in c.args.text.now c.args.toks.now)) (enumerators_by (at (c.args.fuel - 1)) (symbols_in c.args.text.now c.args.toks.now)) (less_enumerators c.args.fuel (symbols_in c.args.text.now c.args.toks.now) c.if-fuel-eq0.false) c.enumerators.ensures
+
+pub expression::inner_choice-returns-then-fuel-eq0 : goal.expression::inner_choice-returns-then-fuel-eq0
+expression::inner_choice-returns-then-fuel-eq0 t c = fails c.stopped.result ((at c.args.fuel).expr (symbols_in c.args.text.now c.args.toks.now)) c.stopped.ensures (no_expr c.args.fuel (symbols_in c.args.text.now c.args.toks.now) c.if-fuel-eq0.true)
+
+pub expression::inner_choice-loop-front-init : goal.expression::inner_choice-loop-front-init
+expression::inner_choice-loop-front-init t c = first_turn c.args.fuel c.new-waiting.result.items c.no_front-front.result c.args.text.now c.args.toks.now c.if-fuel-eq0.false c.new-waiting.ensures.items c.no_front-front.ensures
+
+pub expression::inner_choice-returns-in_err-operand : goal.expression::inner_choice-returns-in_err-operand
+expression::inner_choice-returns-in_err-operand t c =
+    let p = err_from_is_err_and c.from_residual.result c.from_residual.ensures.1 in
+    rw (p.1, p.2) (operand_err c.in_err-operand.field-0.0 c.loop-front.left (map waiting_of c.loop-front.waiting.items) (front_of c.loop-front.front) c.args.text.now c.loop-front.rest.now ((at c.args.fuel).expr (symbols_in c.args.text.now c.args.toks.now)) c.in_err-operand.ensures c.loop-front.invariant.1)
+
+pub expression::inner_choice-returns-then-left-eq0 : goal.expression::inner_choice-returns-then-left-eq0
+expression::inner_choice-returns-then-left-eq0 t c =
+    let total = (at c.args.fuel).expr (symbols_in c.args.text.now c.args.toks.now) in
+    fails c.stopped-then-left-eq0.result total c.stopped-then-left-eq0.ensures (at_deepest c.loop-front.left (map waiting_of c.loop-front.waiting.items) (front_of c.loop-front.front) c.args.text.now c.loop-front.rest.now c.in_ok-operand.after.now c.in-Some.behind.now (binary_of c.in_ok-operand.operand) c.in-Some.question total c.if-left-eq0.true c.in_ok-operand.ensures (c.in-Some.ensures c.args.text.now) c.loop-front.invariant.1)
+
+pub expression::inner_choice-loop-front-smaller-in-Some : goal.expression::inner_choice-loop-front-smaller-in-Some
+expression::inner_choice-loop-front-smaller-in-Some t c =
+    let operand = operand_taken c.loop-front.left c.args.text.now c.loop-front.rest.now c.in_ok-operand.after.now (binary_of c.in_ok-operand.operand) c.in_ok-operand.ensures in
+    let mark = punct_taken marks.Question c.args.text.now c.in_ok-operand.after.now c.in-Some.behind.now c.in-Some.question (c.in-Some.ensures c.args.text.now) in
+    omega (arith, operand, mark)
+
+pub expression::inner_choice-loop-front-preserved-in-Some : goal.expression::inner_choice-loop-front-preserved-in-Some
+expression::inner_choice-loop-front-preserved-in-Some t c =
+    question_turn c.args.fuel c.loop-front.left c.loop-front.waiting.items c.push.new.self.items (record { front = c.loop-front.front; condition = c.in_ok-operand.operand; question = c.in-Some.question }) c.loop-front.front c.no_front-front-in-Some.result c.args.text.now c.loop-front.rest.now c.in_ok-operand.after.now c.in-Some.behind.now (binary_of c.in_ok-operand.operand) c.in-Some.question ((at c.args.fuel).expr (symbols_in c.args.text.now c.args.toks.now))
+    c.if-left-eq0.false c.in_ok-operand.ensures (c.in-Some.ensures c.args.text.now) refl c.in_ok-push.ensures.items c.no_front-front-in-Some.ensures c.loop-front.invariant
+
+pub expression::inner_choice-loop-front-smaller-in-Ok : goal.expression::inner_choice-loop-front-smaller-in-Ok
+expression::inner_choice-loop-front-smaller-in-Ok t c =
+    let operand = operand_taken c.loop-front.left c.args.text.now c.loop-front.rest.now c.in_ok-operand.after.now (binary_of c.in_ok-operand.operand) c.in_ok-operand.ensures in
+    let low = rw c.in-Ok.is at c.in_ok-more.ensures.fewer in
+    omega (arith, operand, low)
+
+pub expression::inner_choice-loop-front-preserved-in-Ok : goal.expression::inner_choice-loop-front-preserved-in-Ok
+expression::inner_choice-loop-front-preserved-in-Ok t c =
+    value_turn c.args.fuel c.loop-front.left c.loop-front.waiting.items c.loop-front.front c.in-Ok.more c.args.text.now c.loop-front.rest.now c.in_ok-operand.after.now c.in-Ok.behind.now (binary_of c.in_ok-operand.operand) ((at c.args.fuel).expr (symbols_in c.args.text.now c.args.toks.now))
+    c.in_ok-operand.ensures (c.in_default.ensures c.args.text.now) (rw c.in-Ok.is at c.in_ok-more.ensures.reads c.args.text.now c.loop-front.left) c.loop-front.invariant
+
+pub expression::inner_choice-returns-in_default-pop : goal.expression::inner_choice-returns-in_default-pop
+expression::inner_choice-returns-in_default-pop t c =
+    let text = c.args.text.now in
+    let whole = rw c.in-Err.is at c.in_ok-more.ensures.reads text c.loop-front.left in
+    let empty = none_left c.loop-front.waiting.items c.pop.new.self.items c.loop-front.waiting.len c.in_default-pop.ensures.items c.in_default-pop.ensures.rest c.in_default-pop.ensures.cases.0 in
+    last_turn c.args.fuel c.loop-front.left c.loop-front.waiting.items c.loop-front.front text c.loop-front.rest.now c.in_ok-operand.after.now (binary_of c.in_ok-operand.operand) (expr_of c.in-Err.expr) ((at c.args.fuel).expr (symbols_in text c.args.toks.now))
+    c.in_ok-operand.ensures (c.in_default.ensures text) whole empty c.loop-front.invariant
+
+pub expression::inner_choice-returns-in_err-colon-in-Err : goal.expression::inner_choice-returns-in_err-colon-in-Err
+expression::inner_choice-returns-in_err-colon-in-Err t c =
+    let text = c.args.text.now in
+    let p = err_from_is_err_and c.from_residual-in_err-colon-in-Err.result c.from_residual-in_err-colon-in-Err.ensures.1 in
+    let whole = rw c.in-Err.is at c.in_ok-more.ensures.reads text c.loop-front.left in
+    rw (p.1, p.2) (colon_missing c.in_err-colon-in-Err.field-0.0 c.args.fuel c.loop-front.left c.loop-front.waiting.items c.pop.new.self.items c.in-Some-pop.top c.loop-front.front text c.loop-front.rest.now c.in_ok-operand.after.now (binary_of c.in_ok-operand.operand) (expr_of c.in-Err.expr) ((at c.args.fuel).expr (symbols_in text c.args.toks.now))
+    c.in_ok-operand.ensures (c.in_default.ensures text) whole c.in-Some-pop.ensures.items (c.in_err-colon-in-Err.ensures text) c.loop-front.invariant)
+
+pub expression::inner_choice-loop-front-smaller : goal.expression::inner_choice-loop-front-smaller
+expression::inner_choice-loop-front-smaller t c =
+    let operand = operand_taken c.loop-front.left c.args.text.now c.loop-front.rest.now c.in_ok-operand.after.now (binary_of c.in_ok-operand.operand) c.in_ok-operand.ensures in
+    let mark = punct_taken marks.Colon c.args.text.now c.in_ok-operand.after.now c.in_ok-colon-in-Err.behind.now c.in_ok-colon-in-Err.colon (c.in_ok-colon-in-Err.ensures c.args.text.now) in
+    omega (arith, operand, mark)
+
+pub expression::inner_choice-loop-front-preserved : goal.expression::inner_choice-loop-front-preserved
+expression::inner_choice-loop-front-preserved t c =
+    let text = c.args.text.now in
+    let whole = rw c.in-Err.is at c.in_ok-more.ensures.reads text c.loop-front.left in
+    colon_turn c.args.fuel c.loop-front.left c.loop-front.waiting.items c.pop.new.self.items c.in-Some-pop.top c.loop-front.front c.in_ok-front-in-Err.front text c.loop-front.rest.now c.in_ok-operand.after.now c.in_ok-colon-in-Err.behind.now (binary_of c.in_ok-operand.operand) (expr_of c.in-Err.expr) c.in_ok-colon-in-Err.colon ((at c.args.fuel).expr (symbols_in text c.args.toks.now))
+    c.in_ok-operand.ensures (c.in_default.ensures text) whole c.in-Some-pop.ensures.items (c.in_ok-colon-in-Err.ensures text) c.in_ok-front-in-Err.ensures c.loop-front.invariant

@@ -2,6 +2,8 @@ use Rattle.std.proofs.Common.{◌≡◌, ◌+◌, ◌-◌, ◌*◌, suc, length,
 use Rattle.c_nodes.specs.Views.{postfix_suffix_of, prefix_of, spec_of, suffix_of, choice_of, member_of, next_assign_of, next_declarator_of, next_operand_of, next_param_of, target_of, next_enumerator_of}
 use Rattle.parse_expr.specs.Reader.{symbols_in, collect, all_that}
 use Rattle.parse_expr.specs.Reading.{at, choices, cond_by, assigns, assign_by, comma_by, right_by, tier_by, post_by, prefix_by, next_spec_by, next_member_by, next_declarator_by, suffix_by, next_param_by, next_enumerator_by}
+use Rattle.parse_expr.specs.WaitingViews.{front_of, waiting_of}
+use Rattle.parse_expr.proofs.Whole.{left_to_read}
 use Rattle.parse_expr.proofs.Loops.{fronted, chosen_in, assigned_in}
 use Rattle.parse_expr.proofs.+parse.Given as goal
 
@@ -10,6 +12,16 @@ decreases-expression::inner_expr l = 64 * l.fuel
 
 abbrev pub decreases-expression::inner_size : goal.decreases-expression::inner_size
 decreases-expression::inner_size l = 64 * l.fuel
+
+abbrev pub decreases-expression::inner_choice : goal.decreases-expression::inner_choice
+decreases-expression::inner_choice l = 64 * l.fuel
+
+abbrev pub decreases-expression::inner_choice-loop-front : goal.decreases-expression::inner_choice-loop-front
+decreases-expression::inner_choice-loop-front l = length l.rest
+
+-- the waiting choices and the one that is read are those that were entered, and what is left to read gives what the whole gives
+abbrev pub invariant-expression::inner_choice-loop-front : goal.invariant-expression::inner_choice-loop-front
+invariant-expression::inner_choice-loop-front l = (l.left + length l.waiting.items + 1 ≡ l.fuel) × (left_to_read l.left (map waiting_of l.waiting.items) (front_of l.front) (symbols_in l.text l.rest) ≡ (at l.fuel).expr (symbols_in l.text l.toks))
 
 abbrev pub decreases-expression::choice : goal.decreases-expression::choice
 decreases-expression::choice l = 64 * l.fuel + 1
