@@ -70,7 +70,7 @@ pub handling_twin : (mask : ℕ) (m : Moment) (ram : List ℕ) → m.state.pie1 
 handling_twin mask m ram quiet = ap (λ b. m.handling || b) (sym (takes_twin mask m.state ram quiet))
 
 -- ---- rows that were ported
-modelled_twin : (o : Option Ins) → is_modelled (ported_row o) ≡ is_modelled o
+pub modelled_twin : (o : Option Ins) → is_modelled (ported_row o) ≡ is_modelled o
 modelled_twin None = refl
 modelled_twin (Some (isa.Addwf a b)) = refl
 modelled_twin (Some (isa.Andwf a b)) = refl

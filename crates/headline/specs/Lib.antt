@@ -1,4 +1,5 @@
 pub mod Chips
 pub mod Headline
+pub mod Keeps
 pub mod OnChip
 pub mod SourceOf

@@ -1,0 +1,5 @@
+pub mod Carrying
+pub mod Chips
+pub mod Near
+pub mod Starts
+pub mod Second

@@ -1,0 +1,2 @@
+pub mod OnSecondChip
+pub mod Second
