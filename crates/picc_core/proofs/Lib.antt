@@ -16,5 +16,6 @@ pub mod OnlyCopies
 pub mod OnlyPlaces
 pub mod OnlyBlocks
 pub mod FewFunctions
+pub mod OneWithin
 pub mod OneAnswer
 pub mod Within

@@ -27,7 +27,7 @@ pub use c_check::{Kind, RootKind};
 pub use compiling::{Codes, codes_of, compile, compile_plain};
 pub use deciding::accepted_or_refused;
 pub use known::{Built, Front};
-pub use limits::{Limits, whole_chip};
+pub use limits::{Limits, second_chip, whole_chip};
 pub use refusal::{CompileError, LimitKind, Refusal};
 pub use run_compare::Agreed;
 pub use src_machine::Undef;
