@@ -19,3 +19,8 @@ pub mod FewFunctions
 pub mod OneWithin
 pub mod OneAnswer
 pub mod Within
+pub mod LowLines
+pub mod EarlyEnds
+pub mod OneSecond
+pub mod Seconds
+pub mod Keeping

@@ -10,3 +10,5 @@ pub mod CodeAnswers
 pub mod Founded
 pub mod Coded
 pub mod Decided
+pub mod SecondChip
+pub mod Kept
