@@ -2,6 +2,7 @@ pub mod Whole
 pub mod Files
 pub mod Endings
 pub mod BuildEnds
+pub mod BuildWhole
 pub mod TraceFiles
 pub mod TraceRun
 pub mod TraceEnds

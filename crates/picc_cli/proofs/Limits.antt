@@ -8,6 +8,8 @@ use Rattle.std.specs.Str.{bytes_eq}
 use Rattle.picc_cli.specs.declared.command.Command as declared
 use Rattle.picc_cli.specs.declared.command.Command.TheVariants as commands
 use Rattle.picc_cli.specs.CommandView.{IsWithin, form_view}
+use Rattle.pic_chip.specs.declared.profile.Profile.{Profile}
+use Rattle.pic_chip.specs.declared.profile.Profile.TheVariants.{Pic16F877a, Pic16F84a}
 use Rattle.picc_cli.specs.Command.{Form, Build, Trace, Simulate, Agree, Generate, Check, is_name, differ, is_short, all_digits, number_onto, number_in, build_of, trace_of, simulate_of, agree_of, from_one, generate_of, check_of, form_by_name, form_of}
 use Rattle.picc_cli.specs.Summary.{IsSize}
 
@@ -45,15 +47,15 @@ module _ (form : Form) where
   no_form : None ≡ Some form → IsLimited form
   no_form e = absurd (cc)
 
-  build_within : (words : List (List ℕ)) → build_of words ≡ Some form → IsLimited form
-  build_within [] e = no_form e
-  build_within (a ∷ []) e = no_form e
-  build_within (a ∷ b ∷ []) e = no_form e
-  build_within (a ∷ b ∷ c ∷ []) e = by_test (differ a b c) e where
-    by_test : (x : Bool) → (if x then Some (Build (record { input = a; output = b; map = c })) else None) ≡ Some form → IsLimited form
-    by_test true e = by_form (Build (record { input = a; output = b; map = c })) tt e
+  build_within : (chip : Profile) (words : List (List ℕ)) → build_of chip words ≡ Some form → IsLimited form
+  build_within chip [] e = no_form e
+  build_within chip (a ∷ []) e = no_form e
+  build_within chip (a ∷ b ∷ []) e = no_form e
+  build_within chip (a ∷ b ∷ c ∷ []) e = by_test (differ a b c) e where
+    by_test : (x : Bool) → (if x then Some (Build (record { chip = chip; input = a; output = b; map = c })) else None) ≡ Some form → IsLimited form
+    by_test true e = by_form (Build (record { chip = chip; input = a; output = b; map = c })) tt e
     by_test false e = no_form e
-  build_within (a ∷ b ∷ c ∷ d ∷ more) e = no_form e
+  build_within chip (a ∷ b ∷ c ∷ d ∷ more) e = no_form e
 
   trace_within : (words : List (List ℕ)) → trace_of words ≡ Some form → IsLimited form
   trace_within [] e = no_form e
@@ -107,18 +109,19 @@ module _ (form : Form) where
   unfolding form_by_name
   named_within [] e = no_form e
   named_within (command ∷ rest) e =
-      by_tests (bytes_eq command (codes "build")) (bytes_eq command (codes "trace")) (bytes_eq command (codes "sim")) (bytes_eq command (codes "agree")) (bytes_eq command (codes "gen")) (bytes_eq command (codes "check")) e
+      by_tests (bytes_eq command (codes "build")) (bytes_eq command (codes "trace")) (bytes_eq command (codes "sim")) (bytes_eq command (codes "agree")) (bytes_eq command (codes "gen")) (bytes_eq command (codes "check")) (bytes_eq command (codes "build84")) e
     where
-      by_tests : (u v w x y z : Bool)
-          → (if u then build_of rest else if v then trace_of rest else if w then simulate_of rest else if x then agree_of rest else if y then generate_of rest else if z then check_of rest else None) ≡ Some form
+      by_tests : (u v w x y z q : Bool)
+          → (if u then build_of Pic16F877a rest else if v then trace_of rest else if w then simulate_of rest else if x then agree_of rest else if y then generate_of rest else if z then check_of rest else if q then build_of Pic16F84a rest else None) ≡ Some form
           → IsLimited form
-      by_tests true v w x y z e = build_within rest e
-      by_tests false true w x y z e = trace_within rest e
-      by_tests false false true x y z e = simulation_within rest e
-      by_tests false false false true y z e = agreement_within rest e
-      by_tests false false false false true z e = program_within rest e
-      by_tests false false false false false true e = check_within rest e
-      by_tests false false false false false false e = no_form e
+      by_tests true v w x y z q e = build_within Pic16F877a rest e
+      by_tests false true w x y z q e = trace_within rest e
+      by_tests false false true x y z q e = simulation_within rest e
+      by_tests false false false true y z q e = agreement_within rest e
+      by_tests false false false false true z q e = program_within rest e
+      by_tests false false false false false true q e = check_within rest e
+      by_tests false false false false false false true e = build_within Pic16F84a rest e
+      by_tests false false false false false false false e = no_form e
 
   words_within : (words : List (List ℕ)) → form_of words ≡ Some form → IsLimited form
   words_within words e = by_test (list_all is_name words) e where

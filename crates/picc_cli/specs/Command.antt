@@ -3,10 +3,13 @@ use Rattle.std.specs.Prelude.{ℕ, ◌+◌, ◌-◌, ◌*◌, Bool, true, false,
 use Rattle.std.specs.List.{list_all}
 use Rattle.std.specs.Str.{bytes_eq}
 use Rattle.std.specs.declared.alloc.Global.{Global}
+use Rattle.pic_chip.specs.declared.profile.Profile.{Profile}
+use Rattle.pic_chip.specs.declared.profile.Profile.TheVariants.{Pic16F877a, Pic16F84a}
 use Rattle.schedule.specs.ScriptFile.{is_digit}
 
--- the three files of a build
+-- the chip for which a text is built, and the three files of the build
 pub record Names : Type 0 where
+  pub chip : Profile
   pub input : List ℕ
   pub output : List ℕ
   pub map : List ℕ
@@ -61,10 +64,10 @@ number_onto most n (c ∷ digits) = if nat_lt most (10 * n + (c - 48)) then None
 abbrev pub number_in : ℕ → List ℕ → Option ℕ
 number_in most word = if is_short word && all_digits word then number_onto most 0 word else None
 
--- `build IN OUT MAP`, of three different names
-abbrev pub build_of : List (List ℕ) → Option Form
-build_of (a ∷ b ∷ c ∷ []) = if differ a b c then Some (Build (record { input = a; output = b; map = c })) else None
-build_of _ = None
+-- `build IN OUT MAP` and `build84 IN OUT MAP`, of three different names
+abbrev pub build_of : Profile → List (List ℕ) → Option Form
+build_of chip (a ∷ b ∷ c ∷ []) = if differ a b c then Some (Build (record { chip = chip; input = a; output = b; map = c })) else None
+build_of chip _ = None
 
 -- `trace IN SCRIPT M`, M up to 1,000,000
 abbrev pub trace_of : List (List ℕ) → Option Form
@@ -99,12 +102,13 @@ check_of _ = None
 unfoldable pub form_by_name : List (List ℕ) → Option Form
 form_by_name [] = None
 form_by_name (command ∷ rest) =
-    if bytes_eq command (codes "build") then build_of rest else
+    if bytes_eq command (codes "build") then build_of Pic16F877a rest else
     if bytes_eq command (codes "trace") then trace_of rest else
     if bytes_eq command (codes "sim") then simulate_of rest else
     if bytes_eq command (codes "agree") then agree_of rest else
     if bytes_eq command (codes "gen") then generate_of rest else
-    if bytes_eq command (codes "check") then check_of rest else None
+    if bytes_eq command (codes "check") then check_of rest else
+    if bytes_eq command (codes "build84") then build_of Pic16F84a rest else None
 
 -- no word may be empty or begin with `-`
 abbrev pub form_of : List (List ℕ) → Option Form

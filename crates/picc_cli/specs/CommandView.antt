@@ -10,7 +10,7 @@ use Rattle.picc_cli.specs.Command.{Names, Asked, Simulated, Compared, Form, Buil
 use Rattle.picc_cli.specs.Summary.{IsSize}
 
 abbrev pub names_of : Files → Names
-names_of files = record { input = files.input.now; output = files.output.now; map = files.map.now }
+names_of files = record { chip = files.chip; input = files.input.now; output = files.output.now; map = files.map.now }
 
 abbrev pub asked_of : declared.Asked → Asked
 asked_of asked = record { input = asked.input.now; script = asked.script.now; steps = asked.steps }

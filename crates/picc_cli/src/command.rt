@@ -8,11 +8,13 @@ ghost use Rattle.picc_cli.specs.Clap.{words_found};
 
 use crate::parsing::{all_names, parsed};
 use clap::ArgMatches;
+use pic_chip::Profile;
 use std::alloc::{AllocError, Global};
 
-/// The files of a build: the C text that is read, and the HEX and the map that are written.
+/// A build: the chip that it is for, the C text that is read, and the HEX and the map that are written.
 #[derive(Clone, Copy)]
 pub struct Files<'a> {
+    pub chip: Profile,
     pub input: &'a str,
     pub output: &'a str,
     pub map: &'a str,
@@ -43,7 +45,7 @@ pub struct Compared<'a> {
     pub instructions: u32,
 }
 
-/// A command of one of the six forms.
+/// A command of one of the seven forms.
 #[derive(Clone, Copy)]
 pub enum Command<'a> {
     Build(Files<'a>),
@@ -68,8 +70,8 @@ const MOST_COMPARED: u32 = 100_000;
 /// The largest program that can be generated.
 const LARGEST: u32 = 64;
 
-/// The command `build IN OUT MAP`, `trace IN SCRIPT M`, `sim HEX MAP SCRIPT N`, `agree IN SCRIPT N`, `gen K` or
-/// `check HEX`, or `None` where the words are of no form. No word is empty or begins with `-`, and the three names of a build differ. A
+/// The command `build IN OUT MAP`, `trace IN SCRIPT M`, `sim HEX MAP SCRIPT N`, `agree IN SCRIPT N`, `gen K`,
+/// `check HEX` or `build84 IN OUT MAP`, or `None` where the words are of no form. No word is empty or begins with `-`, and the three names of a build differ. A
 /// number is one to ten decimal digits: M and the N of `sim` are at most 1,000,000, the N of `agree` is at most 100,000,
 /// and K is 1 to 64. `Err` is out of memory.
 pub fn command_of(alloc: Global, words: &[String]) -> Result<Option<Command<'_>>, AllocError>
@@ -103,7 +105,7 @@ fn command_in<'a>(name: &str, values: &[&'a str]) -> Option<Command<'a>>
     ensures { option_map form_view result ≡ form_by_name (name.now ∷ map (λ v. v.now) values.now) }
 {
     if name == "build" {
-        return build_in(values);
+        return build_in(Profile::Pic16F877a, values);
     }
     if name == "trace" {
         return trace_in(values);
@@ -120,16 +122,20 @@ fn command_in<'a>(name: &str, values: &[&'a str]) -> Option<Command<'a>>
     if name == "check" {
         return check_in(values);
     }
+    if name == "build84" {
+        return build_in(Profile::Pic16F84a, values);
+    }
     None
 }
 
-fn build_in<'a>(values: &[&'a str]) -> Option<Command<'a>>
-    ensures { option_map form_view result ≡ stated.build_of (map (λ v. v.now) values.now) }
+fn build_in<'a>(chip: Profile, values: &[&'a str]) -> Option<Command<'a>>
+    ensures { option_map form_view result ≡ stated.build_of chip (map (λ v. v.now) values.now) }
 {
     let [input, output, map] = values else {
         return None;
     };
     let files = Files {
+        chip,
         input: *input,
         output: *output,
         map: *map,
