@@ -3,6 +3,8 @@ pub mod Filled
 pub mod Operating
 pub mod Places
 pub mod Ported
+pub mod Resets
+pub mod Second
 pub mod Shown
 pub mod Steps
 pub mod Twins

@@ -36,7 +36,7 @@ kept_all : agree_below kept_test (λ n. true) 16 ≡ true
 kept_all = refl
 
 -- an address of the second chip's table is below 256
-small_address : (a : ℕ) → is_small_register a ≡ true → a < 256
+pub small_address : (a : ℕ) → is_small_register a ≡ true → a < 256
 small_address a h = by (nat_eq 0x01 a) (nat_eq 0x05 a) (nat_eq 0x06 a) (nat_eq 0x0b a) (nat_eq 0x8b a) (nat_eq 0x81 a) (nat_eq 0x85 a) (nat_eq 0x86 a) refl refl refl refl refl refl refl refl h where
   near : (n : ℕ) → n < 256 → nat_eq n a ≡ true → a < 256
   near n lt e = let q = eqb-true n a e in omega (arith, lt, q)

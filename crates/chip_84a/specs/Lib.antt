@@ -3,3 +3,4 @@ pub mod Lockstep
 pub mod Machine
 pub mod Port
 pub mod Run
+pub mod Simulated

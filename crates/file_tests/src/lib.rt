@@ -3,7 +3,7 @@
 //! anything too.
 //!
 //! In: texts, and boards and hosts made for a case. Out: nothing; these are tests of pic_isa, pic_world, pic_chip, hex_image, pic_map,
-//! schedule, host_io and pic_sim.
+//! schedule, host_io, pic_sim and chip_84a.
 #![tactic(auto)]
 
 #[cfg(test)]
@@ -16,6 +16,8 @@ mod hosts;
 mod images;
 #[cfg(test)]
 mod runs;
+#[cfg(test)]
+mod second;
 #[cfg(test)]
 mod tables;
 #[cfg(test)]

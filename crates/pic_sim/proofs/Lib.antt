@@ -1,5 +1,6 @@
-mod Accesses
+pub mod Accesses
 pub mod Answering
+pub mod First
 pub mod FromReset
 mod Going
 mod Stepping

@@ -1,17 +1,14 @@
 -- Runs over a board as runs from reset.
 use Rattle.std.specs.Prelude.{ℕ, ◌+◌, ◌/◌, ◌%◌, ◌≡◌, true, false, nat_eq, if◌then◌else◌, List, [], ◌∷◌, ◌++◌, length, Some}
+use Rattle.pic_world.specs.Arrivals.{flag_bit, flags, arriving}
 use Rattle.pic_world.specs.declared.Arrival.{Arrival}
 use Rattle.pic_world.specs.declared.Flag.{Flag}
-use Rattle.pic_chip.specs.State.{reset}
-use Rattle.pic_world.specs.Arrivals.{flag_bit, flags, arriving}
-use Rattle.pic_chip.specs.Run.{Setting, Moment, moment}
+use Rattle.pic_chip.specs.Run.{Setting, Moment, Watch, moment}
+use Rattle.pic_chip.specs.State.{State, reset}
 use Rattle.pic_map.specs.Tracing.{looked}
 use Rattle.pic_sim.specs.declared.board.Exchange.{Exchange}
-use Rattle.pic_sim.specs.Going.{Around, Point, IsAt, Ran, Stops, HasBytes, HasMasks}
-
--- what a run from reset depends on besides the image
-abbrev pub around : Setting → Around
-around g = record { watch = g.watch; inputs = g.inputs; masks = arriving g.arrivals }
+use Rattle.pic_sim.specs.Going.{Around, Point, IsAt, RanBy, StopsBy, HasBytes, HasMasks, HasMasksBy}
+use Rattle.pic_sim.specs.Kind.{Kind, first}
 
 -- ---- the answers of a board as an input list and as arrivals
 abbrev pub bytes_of : List Exchange → List ℕ
@@ -43,27 +40,57 @@ abbrev pub MasksAreArrivals : Type 0
 MasksAreArrivals = (index : ℕ) (raised : List ℕ) → HasMasks (arriving (arrivals_of index raised)) index raised
 
 -- ---- runs
--- A chip as after reset, a tracer that was asked once, and no events yet: there every run from reset begins.
-abbrev pub BeginsAtReset : Type 0
-BeginsAtReset =
-    (g : Setting) (p : Point) → p.chip ≡ record { state = reset g.start; index = 0 } → p.tracing ≡ looked 0 (record { watch = g.watch; met = false; ended = false }) → p.events ≡ []
-    → IsAt (around g) (moment g 0) p
+-- a chip's run from reset: what it depends on besides the start, and its moments
+pub record Journey : Type 0 where
+  pub image : List ℕ
+  pub watch : Watch
+  pub inputs : List ℕ
+  pub arrivals : List Arrival
+  pub moment : ℕ → Moment
+
+abbrev pub around_of : Journey → Around
+around_of r = record { watch = r.watch; inputs = r.inputs; masks = arriving r.arrivals }
+
+-- A chip as after reset, a tracer that was asked once, and no events yet: there the run from reset begins.
+abbrev pub BeginsBy : State → Journey → Type 0
+BeginsBy start r =
+    (p : Point) → p.chip ≡ record { state = start; index = 0 } → p.tracing ≡ looked 0 (record { watch = r.watch; met = false; ended = false }) → p.events ≡ []
+    → IsAt (around_of r) (r.moment 0) p
 
 -- k whole instructions over a board lead from a moment of a run from reset to a later moment of it, if its input list has
 -- the answers as next bytes and its arrivals are the masks.
-abbrev pub GoesOn : Type 0
-GoesOn =
-    (g : Setting) (k : ℕ) (old new : Point) (ran : Ran g.image k old new) → HasBytes g.inputs old.chip.state.taken ran.given → HasMasks (arriving g.arrivals) old.chip.index ran.raised
-    → IsAt (around g) (moment g old.chip.index) old → IsAt (around g) (moment g (old.chip.index + k)) new
+abbrev pub GoesOnBy : Kind → Journey → Type 0
+GoesOnBy kind r =
+    (k : ℕ) (old new : Point) (ran : RanBy kind r.image k old new) → HasBytes r.inputs old.chip.state.taken ran.given → HasMasksBy kind.masks (arriving r.arrivals) old.chip.index ran.raised
+    → IsAt (around_of r) (r.moment old.chip.index) old → IsAt (around_of r) (r.moment (old.chip.index + k)) new
 
 -- Over a board that follows a script and gave as many bytes as the chip took, it is the run of that script.
-abbrev pub GoesOnByScript : Type 0
-GoesOnByScript =
-    (g : Setting) (k : ℕ) (old new : Point) → Ran g.image k old new → old.board.follows ≡ Some (record { input = g.inputs; arrivals = g.arrivals }) → length old.board.lists.given ≡ old.chip.state.taken
-    → IsAt (around g) (moment g old.chip.index) old → IsAt (around g) (moment g (old.chip.index + k)) new
+abbrev pub GoesOnByScriptBy : Kind → Journey → Type 0
+GoesOnByScriptBy kind r =
+    (k : ℕ) (old new : Point) → RanBy kind r.image k old new → old.board.follows ≡ Some (record { input = r.inputs; arrivals = r.arrivals }) → length old.board.lists.given ≡ old.chip.state.taken
+    → IsAt (around_of r) (r.moment old.chip.index) old → IsAt (around_of r) (r.moment (old.chip.index + k)) new
 
 -- Where the model goes no further the run from reset ends: each later moment is the one at which it stopped.
+abbrev pub StopsForGoodBy : Kind → Journey → Type 0
+StopsForGoodBy kind r =
+    (pc k : ℕ) (old new : Point) (stop : StopsBy kind r.image pc old new) → arriving r.arrivals old.chip.index % kind.masks ≡ stop.mask % kind.masks
+    → IsAt (around_of r) (r.moment old.chip.index) old → r.moment (old.chip.index + 1 + k) ≡ record (r.moment old.chip.index) { stopped = true }
+
+-- ---- the PIC16F877A
+abbrev pub journey : Setting → Journey
+journey g = record { image = g.image; watch = g.watch; inputs = g.inputs; arrivals = g.arrivals; moment = moment g }
+
+abbrev pub around : Setting → Around
+around g = around_of (journey g)
+
+abbrev pub BeginsAtReset : Type 0
+BeginsAtReset = (g : Setting) → BeginsBy (reset g.start) (journey g)
+
+abbrev pub GoesOn : Type 0
+GoesOn = (g : Setting) → GoesOnBy first (journey g)
+
+abbrev pub GoesOnByScript : Type 0
+GoesOnByScript = (g : Setting) → GoesOnByScriptBy first (journey g)
+
 abbrev pub StopsForGood : Type 0
-StopsForGood =
-    (g : Setting) (pc k : ℕ) (old new : Point) (stop : Stops g.image pc old new) → arriving g.arrivals old.chip.index % 2048 ≡ stop.mask % 2048
-    → IsAt (around g) (moment g old.chip.index) old → moment g (old.chip.index + 1 + k) ≡ record (moment g old.chip.index) { stopped = true }
+StopsForGood = (g : Setting) → StopsForGoodBy first (journey g)

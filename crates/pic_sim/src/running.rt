@@ -1,19 +1,20 @@
-//! Runs of the chip over a board.
+//! Runs of a chip over a board.
 
-ghost use Rattle.std.specs.Prelude.{◌≡◌, ◌<◌, ◌≤◌, ◌+◌, ◌*◌, ◌^◌, ◌++◌, ◌∷◌, [], false, IsTrue, IfOk, IfSome, IfNone, OnOk, OnErr, MatchOption, Some, length, option_to_list};
-ghost use Rattle.pic_world.specs.Registers.{lowest};
-ghost use Rattle.pic_world.specs.Control.{is_stored as kept};
+ghost use Rattle.std.specs.Prelude.{◌≡◌, ◌<◌, ◌≤◌, ◌+◌, ◌*◌, ◌^◌, ◌++◌, ◌∷◌, [], true, IsTrue, IfOk, IfSome, OnOk, OnErr, MatchOption, Some, length, option_to_list};
 ghost use Rattle.pic_world.specs.Arrivals.{arriving};
 ghost use Rattle.pic_chip.specs.Seen.{accesses_in, made_by, seen};
 ghost use Rattle.pic_map.specs.Tracing.{tracing_of, looked, told, list_of};
 ghost use Rattle.pic_sim.specs.Board.{is_outside};
-ghost use Rattle.pic_sim.specs.Going.{HasBytes, MayGrow, Went, point, writes_of};
-ghost use Rattle.pic_sim.specs.Step.{given_of, IsWanted, AreLowest, shown_all, slack, Acted, Steps, Ends};
+ghost use Rattle.pic_sim.specs.Going.{HasBytes, MayGrow, Went, WentBy, point, writes_by};
+ghost use Rattle.pic_sim.specs.Kind.{is_outside_by};
+ghost use Rattle.pic_sim.specs.Laws.{IsChip};
+ghost use Rattle.pic_sim.specs.Step.{given_of, IsWanted, AreTold, shown_by, slack, ActedBy, StepsBy, EndsBy};
 
 use crate::board::{Board, Exchange};
+use crate::stepper::Stepper;
 use pic_chip::{Access, Accesses, Chip, Image, StepEnd};
 use pic_map::Tracer;
-use pic_world::{Event, Trace, register_name};
+use pic_world::{Event, Trace};
 use std::alloc::AllocError;
 
 /// How a run ended.
@@ -47,6 +48,25 @@ pub fn simulate(
     ensures cause { result ≡ SimEnd.NoMemory → room board.old < 3 * n }
     ensures room { room board.old ≤ room board.new + 3 * n }
 {
+    simulate_any(chip, image, tracer, board, n, trace)
+}
+
+/// Runs `n` instructions on a chip of any kind, over a board, as `simulate` does on the PIC16F877A.
+pub fn simulate_any<C: Stepper>(
+    chip: &mut C,
+    image: &Image,
+    tracer: &mut Tracer,
+    board: &mut Box<dyn Board>,
+    n: u64,
+    trace: &mut Trace,
+) -> SimEnd
+    requires chip { IsChip C.kind }
+    requires index { (C.machine chip.old).index + n ≤ 2 ^ 40 }
+    requires room { 2 * n + 1 ≤ trace.old.room }
+    ensures went { WentBy C.kind image.now n (point (C.machine chip.old) (tracing_of tracer.old) trace.old.events (lists board.old) (follows board.old)) (point (C.machine chip.new) (tracing_of tracer.new) trace.new.events (lists board.new) (follows board.new)) result }
+    ensures cause { result ≡ SimEnd.NoMemory → room board.old < 3 * n }
+    ensures room { room board.old ≤ room board.new + 3 * n }
+{
     for _ in 0..n {
         if let Some(end) = step_on(chip, image, tracer, board, trace) {
             return end;
@@ -56,16 +76,17 @@ pub fn simulate(
 }
 
 // One instruction, and its events. The end of the run, if it goes no further.
-fn step_on(
-    chip: &mut Chip,
+fn step_on<C: Stepper>(
+    chip: &mut C,
     image: &Image,
     tracer: &mut Tracer,
     board: &mut Box<dyn Board>,
     trace: &mut Trace,
 ) -> Option<SimEnd>
-    requires index { chip.old.index < 2 ^ 40 }
+    requires chip { IsChip C.kind }
+    requires index { (C.machine chip.old).index < 2 ^ 40 }
     requires room { 2 + slack (tracing_of tracer.old) ≤ trace.old.room }
-    ensures steps { MatchOption result (Steps image.now (point chip.old (tracing_of tracer.old) trace.old.events (lists board.old) (follows board.old)) (point chip.new (tracing_of tracer.new) trace.new.events (lists board.new) (follows board.new))) (Ends image.now (point chip.old (tracing_of tracer.old) trace.old.events (lists board.old) (follows board.old)) (point chip.new (tracing_of tracer.new) trace.new.events (lists board.new) (follows board.new))) }
+    ensures steps { MatchOption result (StepsBy C.kind image.now (point (C.machine chip.old) (tracing_of tracer.old) trace.old.events (lists board.old) (follows board.old)) (point (C.machine chip.new) (tracing_of tracer.new) trace.new.events (lists board.new) (follows board.new))) (EndsBy C.kind image.now (point (C.machine chip.old) (tracing_of tracer.old) trace.old.events (lists board.old) (follows board.old)) (point (C.machine chip.new) (tracing_of tracer.new) trace.new.events (lists board.new) (follows board.new))) }
     ensures cause { result ≡ Some SimEnd.NoMemory → room board.old < 3 }
     ensures room { room board.old ≤ room board.new + 3 }
     ensures trace_room { trace.old.room + slack (tracing_of tracer.new) ≤ trace.new.room + 2 + slack (tracing_of tracer.old) }
@@ -79,16 +100,21 @@ fn step_on(
         }
         Ok(StepEnd::Done(accesses)) => {
             *chip = next;
-            note(tracer, chip.pc(), accesses, trace);
+            note::<C>(tracer, chip.pc(), accesses, trace);
             None
         }
     }
 }
 
 // One instruction on the chip, with the board's answers.
-fn act_on(chip: &mut Chip, image: &Image, board: &mut Box<dyn Board>) -> Result<StepEnd, AllocError>
-    requires { chip.old.index < 2 ^ 40 }
-    ensures acted { IfOk result (λ end. Acted image.now end chip.old chip.new (record { lists = lists board.old; follows = follows board.old }) (record { lists = lists board.new; follows = follows board.new })) }
+fn act_on<C: Stepper>(
+    chip: &mut C,
+    image: &Image,
+    board: &mut Box<dyn Board>,
+) -> Result<StepEnd, AllocError>
+    requires chip { IsChip C.kind }
+    requires index { (C.machine chip.old).index < 2 ^ 40 }
+    ensures acted { IfOk result (λ end. ActedBy C.kind image.now end (C.machine chip.old) (C.machine chip.new) (record { lists = lists board.old; follows = follows board.old }) (record { lists = lists board.new; follows = follows board.new })) }
     ensures raised { OnErr result (MayGrow (lists board.old).raised (lists board.new).raised) }
     ensures given { OnErr result (MayGrow (lists board.old).given (lists board.new).given) }
     ensures taken { OnErr result ((lists board.new).taken ≡ (lists board.old).taken) }
@@ -101,7 +127,7 @@ fn act_on(chip: &mut Chip, image: &Image, board: &mut Box<dyn Board>) -> Result<
     let wanted = chip.wants(image);
     let input = ask(board, wanted)?;
     let end = chip.exec(image, input);
-    tell(board, outside_write(end))?;
+    tell(board, outside_write::<C>(end))?;
     Ok(end)
 }
 
@@ -133,35 +159,17 @@ fn ask(board: &mut Box<dyn Board>, wanted: Option<u8>) -> Result<u8, AllocError>
     }
 }
 
-// INTCON, PIR1 or PIE1.
-fn is_stored(register: u8) -> bool
-    ensures { result ≡ kept register }
-{
-    register == 0x0b || register == 0x0c || register == 0x8c
-}
-
-// The device register other than these whose lowest address this is.
-fn outside(address: u16) -> Option<u8>
-    ensures found { IfSome result (λ register. (register ≡ address) × IsTrue (is_outside register)) }
-    ensures none { IfNone result (lowest address ≡ address → is_outside address ≡ false) }
-{
-    let register = u8::try_from(address).ok()?;
-    if is_stored(register) || register_name(register).is_none() {
-        return None;
-    }
-    Some(register)
-}
-
-// The write of an instruction, if it is to a device register other than INTCON, PIR1 and PIE1.
-fn outside_write(end: StepEnd) -> Option<Exchange>
-    ensures write { AreLowest (accesses_in end) → option_to_list result ≡ writes_of (accesses_in end) }
+// The write of an instruction, if it is to a device register whose bytes go outside.
+fn outside_write<C: Stepper>(end: StepEnd) -> Option<Exchange>
+    requires { IsChip C.kind }
+    ensures write { AreTold C.kind (accesses_in end) → option_to_list result ≡ writes_by C.kind.rule (accesses_in end) }
     ensures outside { IfSome result (λ x. IsTrue (is_outside x.register)) }
 {
     let StepEnd::Done(accesses) = end else {
         return None;
     };
     let Access { address, value } = accesses.write?;
-    let register = outside(address)?;
+    let register = C::outside(address)?;
     Some(Exchange { register, value })
 }
 
@@ -181,24 +189,26 @@ fn tell(board: &mut Box<dyn Board>, write: Option<Exchange>) -> Result<(), Alloc
 }
 
 // The events of an instruction's accesses, and of the moment behind it.
-fn note(tracer: &mut Tracer, pc: u16, accesses: Accesses, trace: &mut Trace)
-    requires { 2 + slack (tracing_of tracer.old) ≤ trace.old.room }
-    ensures events { AreLowest (seen accesses) → trace.new.events ≡ trace.old.events ++ shown_all (seen accesses) (tracing_of tracer.old) ++ told pc (tracing_of tracer.old) }
+fn note<C: Stepper>(tracer: &mut Tracer, pc: u16, accesses: Accesses, trace: &mut Trace)
+    requires chip { IsChip C.kind }
+    requires room { 2 + slack (tracing_of tracer.old) ≤ trace.old.room }
+    ensures events { AreTold C.kind (seen accesses) → trace.new.events ≡ trace.old.events ++ shown_by C.kind (seen accesses) (tracing_of tracer.old) ++ told pc (tracing_of tracer.old) }
     ensures tracing { tracing_of tracer.new ≡ looked pc (tracing_of tracer.old) }
     ensures room { trace.old.room + slack (tracing_of tracer.new) ≤ trace.new.room + 2 + slack (tracing_of tracer.old) }
 {
-    note_access(tracer, false, accesses.read, trace);
-    note_access(tracer, true, accesses.write, trace);
+    note_access::<C>(tracer, false, accesses.read, trace);
+    note_access::<C>(tracer, true, accesses.write, trace);
     push(trace, tracer.at(pc));
 }
 
-fn note_access(tracer: &Tracer, write: bool, access: Option<Access>, trace: &mut Trace)
-    requires { 1 ≤ trace.old.room }
-    ensures events { AreLowest (made_by write access) → trace.new.events ≡ trace.old.events ++ shown_all (made_by write access) (tracing_of tracer.now) }
+fn note_access<C: Stepper>(tracer: &Tracer, write: bool, access: Option<Access>, trace: &mut Trace)
+    requires chip { IsChip C.kind }
+    requires room { 1 ≤ trace.old.room }
+    ensures events { AreTold C.kind (made_by write access) → trace.new.events ≡ trace.old.events ++ shown_by C.kind (made_by write access) (tracing_of tracer.now) }
     ensures room { trace.old.room ≤ trace.new.room + 1 }
 {
     if let Some(access) = access {
-        push(trace, tracer.event(write, access));
+        push(trace, C::event(tracer, write, access));
     }
 }
 
