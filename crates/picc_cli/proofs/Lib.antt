@@ -19,6 +19,7 @@ pub mod ChipEnds
 pub mod CheckEnds
 pub mod Sound
 pub mod NothingDone
+pub mod Simulators
 pub mod SimulationStops
 pub mod ChipNames
 pub mod SimulationEnds

@@ -16,7 +16,7 @@ abbrev pub asked_of : declared.Asked → Asked
 asked_of asked = record { input = asked.input.now; script = asked.script.now; steps = asked.steps }
 
 abbrev pub simulated_of : declared_simulated.Simulated → Simulated
-simulated_of simulated = record { hex = simulated.hex.now; map = simulated.map.now; script = simulated.script.now; instructions = simulated.instructions }
+simulated_of simulated = record { chip = simulated.chip; hex = simulated.hex.now; map = simulated.map.now; script = simulated.script.now; instructions = simulated.instructions }
 
 abbrev pub compared_of : declared_compared.Compared → Compared
 compared_of compared = record { input = compared.input.now; script = compared.script.now; instructions = compared.instructions }

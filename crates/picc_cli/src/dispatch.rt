@@ -22,7 +22,7 @@ use pic_sim::Board;
 use std::alloc::Global;
 
 const USAGE: &str =
-    "usage: picc build IN OUT MAP | trace IN SCRIPT M | sim HEX MAP SCRIPT N | agree IN SCRIPT N | gen K | check HEX\n";
+    "usage: picc build IN OUT MAP | trace IN SCRIPT M | sim HEX MAP SCRIPT N | agree IN SCRIPT N | gen K | check HEX | sim84 HEX MAP SCRIPT N\n";
 
 /// Runs the command of these words, which are those after the program's name, over a host on which no file is open.
 /// The answer is the exit status: 0 where the command did what its form says, 1 where the C text is refused, 2 where the words
@@ -30,14 +30,14 @@ const USAGE: &str =
 /// map or a script is none, 6 where a simulation comes to SLEEP or to a word that is no instruction's, 7 where no certificate of
 /// the return stack's depth is valid for an image, 9 when out of memory.
 ///
-/// The forms are six. `build IN OUT MAP` compiles the C text of IN, writes the HEX to OUT and then the map to
+/// The forms are seven. `build IN OUT MAP` compiles the C text of IN, writes the HEX to OUT and then the map to
 /// MAP, and prints nothing. No file is created before all else has succeeded. `trace IN SCRIPT M` runs the C text of IN by
 /// the language's own rules, for at most M steps, with what the script of SCRIPT lets in from outside, and prints the line
 /// of each event. `sim HEX MAP SCRIPT N` runs the HEX on the chip for N instructions over the board, which is fed the script,
 /// and prints the line of each event by the names of the map. `agree IN SCRIPT N` compares the runs of the chip and of the
 /// source, and prints on how many events they agree. `gen K` prints a program of K functions, and its sizes. `check HEX`
-/// prints how deep the return stack becomes at most under the program of the HEX. But for `build`, no file is created or changed; but for
-/// `sim`, the board is left as it was.
+/// prints how deep the return stack becomes at most under the program of the HEX. `sim84` does what `sim` does, on the second chip. But for `build`, no file is created or changed; but for
+/// `sim` and `sim84`, the board is left as it was.
 pub fn picc<H: Host>(
     alloc: Global,
     words: &[String],
