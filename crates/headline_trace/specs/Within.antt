@@ -10,7 +10,7 @@ use Rattle.headline.specs.Keeps.{AllStayWithin}
 use Rattle.headline.specs.SourceOf.{source_of}
 use Rattle.headline_trace.specs.Registered.{BlocksNameOnly}
 
--- Each run of the image stays within the code of the program's copies, which ends with the stated words of the last block, the map, and these
+-- Before main is met, and while no step of the source is undefined, each run of the image stays within the code of the program's copies, which ends with the stated words of the last block, the map, and these
 -- device registers.
 pub record StaysWithinProgram (named : ℕ → Bool) (p : Program) (content : MapContent) (image : List ℕ) : Type 0 where
   pub copies : List FnCopy

@@ -4,7 +4,7 @@
 //! In: nothing; the crate has definitions, and theorems about them. Out: nothing.
 //! The promise: given code in every language that is what the links ask for, the headline holds of the image: its trace is a prefix of the
 //! source's, its next steps come in time, static bytes hold what was last written, the return stack and frames stay as they are to, and main is
-//! met soon, for every start, input list and arrival list. So each run stays within its code, its map, and the device registers that the code
+//! met soon, for every start, input list and arrival list. So, while no step of the source is undefined, each run stays within its code, its map, and the device registers that the code
 //! names. Of the clauses of the passes (byte code, blocks, selects, addresses, words and
 //! places) follow the premises under which the links are proved. The blocks that the pass over symbolic code makes follow the given ones, under
 //! every schedule, and cost no less than the instructions of these that count; and the prices of the given blocks by which they cost no more

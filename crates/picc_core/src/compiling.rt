@@ -184,8 +184,9 @@ pub fn compile(alloc: Global, text: &[u8]) -> Result<Built, CompileError>
     ensures ram { IfOk result (λ built. built.ram ≡ addresses_covered (map object_of built.map.objects.items) (map frame_of built.map.frames.items)) }
     // All this together.
     ensures whole { IfOk result (IsCompiledTo text.now) }
-    // Each run of the image stays within its code, and touches nothing but core registers, the device registers that the program names, the bytes
-    // that every bank has, and the addresses of the map. Where these are below 100h, RP1 and IRP stay 0.
+    // Before main is met, and while no step of the source is undefined, each run of the image stays within its code, and touches nothing but core
+    // registers, the device registers that the program names, the bytes that every bank has, and the addresses of the map. Where these are below
+    // 100h, RP1 and IRP stay 0.
     ensures kept { IfOk result (λ built. IsKept (program_of built.typed) (content_of built.map) built.image) }
     // Beside it: the image and the map are what the passes make of the program, and each promises its part. None of the clauses above speaks of passes.
     ensures translated { IfOk result (λ built. IsTranslated (program_of built.typed) built.image (content_of built.map)) }
