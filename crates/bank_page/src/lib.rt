@@ -1,4 +1,4 @@
-//! Selects: the bank of each access, and the page of each jump and call.
+//! Selects: the bank of each access, and the page of each jump, call and read of a table.
 //!
 //! In: symbolic code without selects, and where objects and frames stand. Out: the same code with the selects that it needs.
 //! The promise: taken out, the selects leave the code as it was; every access, jump and call finds what it needs; and no select

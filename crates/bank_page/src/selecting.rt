@@ -177,7 +177,7 @@ pub fn selects_plain(
     ensures bare { IfOk result (λ made. kept.bare_lists made.blocks.items ≡ kept.bare_lists s.now.blocks.items) }
     // Between a skip and the instruction behind it stands no select.
     ensures apart { IfOk result (λ made. All kept.IsApart made.blocks.items) }
-    // On every way through a block each access finds its bank selected, and each jump and call its page.
+    // On every way through a block each access finds its bank selected, and each jump, call and read of a table its page.
     ensures reaches { IfOk result (λ made. All (kept.Reaches placed.now) made.blocks.items) }
     // No select sets what is known to be so already.
     ensures lean { IfOk result (λ made. All kept.IsLean made.blocks.items) }

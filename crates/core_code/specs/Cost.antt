@@ -34,7 +34,8 @@ half_cost = 3
 abbrev pub move_cost : ℕ
 move_cost = 6
 
--- A call, with the selects of its page; of a copy that reads a table its index is copied, too. And the read of a table's byte.
+-- What a call costs with the selects of its page, and with the copy of its index where what is called reads a table; and what it costs
+-- to read a table's byte.
 abbrev pub call_cost : ℕ
 call_cost = 12
 

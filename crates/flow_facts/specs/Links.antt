@@ -18,8 +18,8 @@ use Rattle.flow_facts.specs.Facts.{Facts, AreMates}
 use Rattle.flow_facts.specs.Thin.{IsThinned}
 use Rattle.flow_facts.specs.Walk.{is_consistent, Reaches}
 
--- Blocks with their selects, and facts that are consistent: by these each access finds its bank selected, and each jump and call its
--- page, which it knows by a block whose page has the same bits; between a skip and the instruction behind it stands none. All that is named has
+-- Blocks with their selects, and facts that are consistent: by these each access finds its bank selected, and each jump, call and
+-- read of a table its page, which it knows by a block whose page has the same bits; between a skip and the instruction behind it stands none. All that is named has
 -- an address. And where objects and frames end below 100h, no select sets RP1.
 pub record HasFlow (given made : List SymBlock) (handler : Option ℕ) (placed : Placed) (at : List ℕ) (facts : Facts) (g h : Setting) : Type 0 where
   pub given_code : g.program ≡ program_of given handler placed

@@ -15,8 +15,8 @@ use Rattle.flow_facts.specs.Walk.{is_consistent, Reaches}
 
 -- There are facts of what is selected at the fronts of blocks, at labels and where blocks return. They are consistent: at the front of a block
 -- they have no more than all its callers share, and nothing for main and the handler; at a label no more than all ways to it share; and
--- behind a call what the called block leaves wherever it returns. Each access finds its bank selected by them, and each jump and call its
--- page; and at each select, but in the start block, the fact is missing that it is so already, and something comes there.
+-- behind a call what the called block leaves wherever it returns. Each access finds its bank selected by them, and each jump, call and read
+-- of a table its page; and at each select, but in the start block, the fact is missing that it is so already, and something comes there.
 pub record HasFacts (placed : Placed) (handler : Option ℕ) (at : List ℕ) (made : List SymBlock) : Type 0 where
   pub facts : Facts
   pub mates : AreMates (page_of made at) facts.mate

@@ -112,6 +112,6 @@ is_open_at f (Some copy) = is_open f copy
 abbrev pub is_consistent : Facts → Option ℕ → List SymBlock → Bool
 is_consistent f handler blocks = is_open f 0 && (is_open_at f handler && all_lead f blocks)
 
--- By the facts each access finds its bank selected, and each jump and call its page.
+-- By the facts each access finds its bank selected, and each jump, call and read of a table its page.
 abbrev pub Reaches : Placed → Facts → SymBlock → Type 0
 Reaches placed f block = holds_in (is_right placed f) f block ≡ true

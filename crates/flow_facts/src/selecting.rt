@@ -33,7 +33,7 @@ pub fn selects(
     ensures others { IfOk result (λ made. AllZip KeepsOthers s.now.blocks.items made.blocks.items) }
     // Between a skip and the instruction behind it stands no select.
     ensures apart { IfOk result (λ made. All kept.IsApart made.blocks.items) }
-    // By facts over jumps and calls each access finds its bank selected, and each jump and call its page, and at each select the fact is missing.
+    // By facts over jumps and calls each access finds its bank selected, and each jump, call and read of a table its page; and at each select the fact is missing.
     ensures facts { IfOk result (λ made. stated.HasFacts placed.now handler at.now made.blocks.items) }
     // Between two selects of a block that set the same to the same value stands a label, a call, a return or a jump that isn't skipped, a select
     // of the same to another value, or another instruction that may change it.

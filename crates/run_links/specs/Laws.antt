@@ -7,7 +7,7 @@ abbrev pub Composes : (E F G : Type 0) → Type 0
 Composes E F G = (f : E → F) (g : F → G) (a : Run E) (b : Run F) (c : Run G) (n : ℕ) (first : Follows f a b n)
     → Follows g b c (first.at n) → Follows (λ e. g (f e)) a c n
 
--- From the start to there c costs at least no less than b. Between other moments it may, as where it is ahead in cost for a while.
+-- Counted at the least, c costs no less than b from the start to there. Between two other moments it may cost less: where it was ahead for a while.
 abbrev pub LagComposes : (F G : Type 0) → Type 0
 LagComposes F G = (g : F → G) (b : Run F) (c : Run G) (nodes steps m : ℕ)
     → IsWithin b nodes steps m → (second : Follows g b c m) → b.least m ≤ c.least (second.at m) → IsWithin c nodes steps (second.at m)

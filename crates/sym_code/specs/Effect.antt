@@ -2,7 +2,7 @@
 -- read of a device register or of a watched byte comes later. Where no rule applies it is stuck: so is an access that the
 -- thread may not make, and in code with selects one in a bank, or a jump or call to a page, that isn't selected. So is one
 -- through INDF where no object and no frame stands, and in a layout that ends below 100h what sets RP1 or IRP: from a run that
--- isn't stuck it can then be shown that a program placed there touches only what its text names, in banks 0 and 1.
+-- isn't stuck it can then be shown that a program placed there touches only what its code names, in banks 0 and 1.
 -- g is the setting, q the program, inside whether the handler runs, p where the instruction stands, th the thread, m memory.
 use Rattle.std.specs.Prelude.{ℕ, ◌+◌, ◌*◌, ◌/◌, ◌%◌, Bool, true, false, not, ◌&&◌, ◌||◌, nat_eq, nat_lt, if◌then◌else◌, List, [], ◌∷◌, length, Option, Some, None, slice_get}
 use Rattle.pic_isa.specs.declared.Ins.TheVariants as ins
