@@ -53,6 +53,7 @@ example pump 100000
 example meter 100000
 example lock 100000
 example lights 100000
+example stairs 2000
 interrupted pump TMR0IF
 interrupted meter INTF
 

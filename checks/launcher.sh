@@ -17,7 +17,7 @@ frame main main 0020 3
 end
 MAP
 : >wanted.none
-printf '%s\n' 'usage: picc build IN OUT MAP | trace IN SCRIPT M | sim HEX MAP SCRIPT N | agree IN SCRIPT N | gen K | check HEX' >wanted.usage
+printf '%s\n' 'usage: picc build IN OUT MAP | trace IN SCRIPT M | sim HEX MAP SCRIPT N | agree IN SCRIPT N | gen K | check HEX | build84 IN OUT MAP | sim84 HEX MAP SCRIPT N' >wanted.usage
 printf '%s\n' 'no program.c: error 7: roots none' >wanted.refusal
 printf '%s\n' 'deep.c: error 8: depth 9' >wanted.depth
 # main and `add` for main; the handler and `add` for the handler. Where their code stands isn't fixed.

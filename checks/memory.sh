@@ -105,6 +105,7 @@ cp "$top/examples/two_copies.c" two.c
 printf 'void main(void){PORTB=5;}' >port.c
 printf 'input 5A\nat 100 INTF\n' >flags
 "$program" build two.c two.hex two.map || wrong 'no build'
+"$program" build84 port.c port.hex port.map || wrong 'no build for the second chip'
 refusing 1 gen 2
 if [ $? = 0 ]; then
     printf '%s: skipped, since no library can be loaded before the program\n' "$script"
@@ -117,4 +118,6 @@ try_each sim two.hex two.map flags 2000
 try_each agree two.c flags 2000
 try_each gen 2
 try_each check two.hex
+try_each build84 port.c out.hex out.map
+try_each sim84 port.hex port.map flags 2000
 exit $failed

@@ -29,12 +29,12 @@ build a.c a.hex a.map@1@a.c: error 9: ram a$@a.c=unsigned char a[97];void main(v
 build a.c a.hex a.map@0@@a.c=void main(void){PORTB=PORTA;}
 build a.c a.hex a.map@0@@a.c=void main(void){PORTB=5;}$$
 build a.c a.hex a.map@3@cannot read a.c$
-@2@usage: picc build IN OUT MAP | trace IN SCRIPT M | sim HEX MAP SCRIPT N | agree IN SCRIPT N | gen K | check HEX$@a.c=void main(void){PORTB=5;}
-build a.c a.c a.map@2@usage: picc build IN OUT MAP | trace IN SCRIPT M | sim HEX MAP SCRIPT N | agree IN SCRIPT N | gen K | check HEX$@a.c=void main(void){PORTB=5;}
-build a.c a.hex@2@usage: picc build IN OUT MAP | trace IN SCRIPT M | sim HEX MAP SCRIPT N | agree IN SCRIPT N | gen K | check HEX$@a.c=void main(void){PORTB=5;}
-build a.c a.hex a.map b@2@usage: picc build IN OUT MAP | trace IN SCRIPT M | sim HEX MAP SCRIPT N | agree IN SCRIPT N | gen K | check HEX$@a.c=void main(void){PORTB=5;}
-build a.c -o a.map@2@usage: picc build IN OUT MAP | trace IN SCRIPT M | sim HEX MAP SCRIPT N | agree IN SCRIPT N | gen K | check HEX$@a.c=void main(void){PORTB=5;}
-sim a.c a.hex a.map@2@usage: picc build IN OUT MAP | trace IN SCRIPT M | sim HEX MAP SCRIPT N | agree IN SCRIPT N | gen K | check HEX$@a.c=void main(void){PORTB=5;}
+@2@usage: picc build IN OUT MAP | trace IN SCRIPT M | sim HEX MAP SCRIPT N | agree IN SCRIPT N | gen K | check HEX | build84 IN OUT MAP | sim84 HEX MAP SCRIPT N$@a.c=void main(void){PORTB=5;}
+build a.c a.c a.map@2@usage: picc build IN OUT MAP | trace IN SCRIPT M | sim HEX MAP SCRIPT N | agree IN SCRIPT N | gen K | check HEX | build84 IN OUT MAP | sim84 HEX MAP SCRIPT N$@a.c=void main(void){PORTB=5;}
+build a.c a.hex@2@usage: picc build IN OUT MAP | trace IN SCRIPT M | sim HEX MAP SCRIPT N | agree IN SCRIPT N | gen K | check HEX | build84 IN OUT MAP | sim84 HEX MAP SCRIPT N$@a.c=void main(void){PORTB=5;}
+build a.c a.hex a.map b@2@usage: picc build IN OUT MAP | trace IN SCRIPT M | sim HEX MAP SCRIPT N | agree IN SCRIPT N | gen K | check HEX | build84 IN OUT MAP | sim84 HEX MAP SCRIPT N$@a.c=void main(void){PORTB=5;}
+build a.c -o a.map@2@usage: picc build IN OUT MAP | trace IN SCRIPT M | sim HEX MAP SCRIPT N | agree IN SCRIPT N | gen K | check HEX | build84 IN OUT MAP | sim84 HEX MAP SCRIPT N$@a.c=void main(void){PORTB=5;}
+sim a.c a.hex a.map@2@usage: picc build IN OUT MAP | trace IN SCRIPT M | sim HEX MAP SCRIPT N | agree IN SCRIPT N | gen K | check HEX | build84 IN OUT MAP | sim84 HEX MAP SCRIPT N$@a.c=void main(void){PORTB=5;}
 ";
 
 #[test]

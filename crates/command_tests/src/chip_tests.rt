@@ -19,11 +19,14 @@ sim a.hex a.map a.s 0@0@@a.hex=:020000040000FA$:100000000528FF3FFF3FFF3F09000530
 # the jump from reset, and two instructions of main
 sim a.hex a.map a.s 3@0@@a.hex=:020000040000FA$:100000000528FF3FFF3FFF3F0900053083128600B0$:100010000828FF3FFF3FFF3FFF3FFF3FFF3FFF3FFE$:00000001FF$
 sim a.hex a.map a.s 4@0@W PORTB 05$End$@a.hex=:020000040000FA$:100000000528FF3FFF3FFF3F0900053083128600B0$:100010000828FF3FFF3FFF3FFF3FFF3FFF3FFF3FFE$:00000001FF$
-sim a.hex a.map a.s 1000001@2@usage: picc build IN OUT MAP | trace IN SCRIPT M | sim HEX MAP SCRIPT N | agree IN SCRIPT N | gen K | check HEX$@a.hex=:020000040000FA$:100000000528FF3FFF3FFF3F0900053083128600B0$:100010000828FF3FFF3FFF3FFF3FFF3FFF3FFF3FFE$:00000001FF$
+sim a.hex a.map a.s 1000001@2@usage: picc build IN OUT MAP | trace IN SCRIPT M | sim HEX MAP SCRIPT N | agree IN SCRIPT N | gen K | check HEX | build84 IN OUT MAP | sim84 HEX MAP SCRIPT N$@a.hex=:020000040000FA$:100000000528FF3FFF3FFF3F0900053083128600B0$:100010000828FF3FFF3FFF3FFF3FFF3FFF3FFF3FFE$:00000001FF$
 sim a.hex a.map a.s 1000@6@unmodelled 0000$@a.hex=:0200000063009B$:00000001FF$
 sim a.hex a.map a.s 1@6@unmodelled 0000$@a.hex=:0200000063009B$:00000001FF$
 sim a.hex a.map a.s 0@0@@a.hex=:0200000063009B$:00000001FF$
 sim a.hex a.map a.s 1000@6@W PORTB 05$End$unmodelled 0008$@a.hex=:100000000528FF3FFF3FFF3F0900053083128600B0$:100010006300FF3FFF3FFF3FFF3FFF3FFF3FFF3FCB$:00000001FF$
+# the same on the second chip, which has each of these instructions
+sim84 a.hex a.map a.s 20000@0@W PORTB 05$End$@a.hex=:020000040000FA$:100000000528FF3FFF3FFF3F0900053083128600B0$:100010000828FF3FFF3FFF3FFF3FFF3FFF3FFF3FFE$:00000001FF$
+sim84 a.hex a.map a.s 1000@6@unmodelled 0000$@a.hex=:0200000063009B$:00000001FF$
 # each check of a HEX file
 sim a.hex a.map a.s 1000@5@a.hex:1: checksum FE, wanted FF$@a.hex=:00000001FE
 sim a.hex a.map a.s 1000@5@a.hex:1: type 02$@a.hex=:00000002FE
@@ -39,7 +42,7 @@ const BESIDE: &str =
 
 #[test]
 fn runs_print_events_or_where_a_file_is_wrong(rt: HostRuntime) -> Result<(), Fail> {
-    Ok(check_all(&rt, rt.alloc(), RUNS, BESIDE, 15)?)
+    Ok(check_all(&rt, rt.alloc(), RUNS, BESIDE, 17)?)
 }
 
 // The first file in the order of the words that is wanting or wrong ends the command.

@@ -10,6 +10,8 @@ mod chip_tests;
 #[cfg(test)]
 mod generating_tests;
 #[cfg(test)]
+mod second_tests;
+#[cfg(test)]
 mod tables;
 #[cfg(test)]
 mod trace_tests;

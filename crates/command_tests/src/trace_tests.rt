@@ -20,12 +20,12 @@ trace a.c a.s 1000@4@R x.0 00$a.c:3: undefined: division$@a.c=unsigned char x;$v
 trace a.c a.s 2@0@R x.0 00$@a.c=unsigned char x;$void main(void){$PORTB=1/x;}@a.s=
 trace a.c a.s 3@4@R x.0 00$a.c:3: undefined: division$@a.c=unsigned char x;$void main(void){$PORTB=1/x;}@a.s=
 # words of no form
-trace a.c a.s 1000001@2@usage: picc build IN OUT MAP | trace IN SCRIPT M | sim HEX MAP SCRIPT N | agree IN SCRIPT N | gen K | check HEX$@a.c=void main(void){PORTB=5;}@a.s=
-trace a.c a.s 00000000002@2@usage: picc build IN OUT MAP | trace IN SCRIPT M | sim HEX MAP SCRIPT N | agree IN SCRIPT N | gen K | check HEX$@a.c=void main(void){PORTB=5;}@a.s=
-trace a.c a.s -1@2@usage: picc build IN OUT MAP | trace IN SCRIPT M | sim HEX MAP SCRIPT N | agree IN SCRIPT N | gen K | check HEX$@a.c=void main(void){PORTB=5;}@a.s=
-trace a.c a.s 1x@2@usage: picc build IN OUT MAP | trace IN SCRIPT M | sim HEX MAP SCRIPT N | agree IN SCRIPT N | gen K | check HEX$@a.c=void main(void){PORTB=5;}@a.s=
-trace a.c a.s@2@usage: picc build IN OUT MAP | trace IN SCRIPT M | sim HEX MAP SCRIPT N | agree IN SCRIPT N | gen K | check HEX$@a.c=void main(void){PORTB=5;}@a.s=
-trace -a.c a.s 1@2@usage: picc build IN OUT MAP | trace IN SCRIPT M | sim HEX MAP SCRIPT N | agree IN SCRIPT N | gen K | check HEX$@a.c=void main(void){PORTB=5;}@a.s=
+trace a.c a.s 1000001@2@usage: picc build IN OUT MAP | trace IN SCRIPT M | sim HEX MAP SCRIPT N | agree IN SCRIPT N | gen K | check HEX | build84 IN OUT MAP | sim84 HEX MAP SCRIPT N$@a.c=void main(void){PORTB=5;}@a.s=
+trace a.c a.s 00000000002@2@usage: picc build IN OUT MAP | trace IN SCRIPT M | sim HEX MAP SCRIPT N | agree IN SCRIPT N | gen K | check HEX | build84 IN OUT MAP | sim84 HEX MAP SCRIPT N$@a.c=void main(void){PORTB=5;}@a.s=
+trace a.c a.s -1@2@usage: picc build IN OUT MAP | trace IN SCRIPT M | sim HEX MAP SCRIPT N | agree IN SCRIPT N | gen K | check HEX | build84 IN OUT MAP | sim84 HEX MAP SCRIPT N$@a.c=void main(void){PORTB=5;}@a.s=
+trace a.c a.s 1x@2@usage: picc build IN OUT MAP | trace IN SCRIPT M | sim HEX MAP SCRIPT N | agree IN SCRIPT N | gen K | check HEX | build84 IN OUT MAP | sim84 HEX MAP SCRIPT N$@a.c=void main(void){PORTB=5;}@a.s=
+trace a.c a.s@2@usage: picc build IN OUT MAP | trace IN SCRIPT M | sim HEX MAP SCRIPT N | agree IN SCRIPT N | gen K | check HEX | build84 IN OUT MAP | sim84 HEX MAP SCRIPT N$@a.c=void main(void){PORTB=5;}@a.s=
+trace -a.c a.s 1@2@usage: picc build IN OUT MAP | trace IN SCRIPT M | sim HEX MAP SCRIPT N | agree IN SCRIPT N | gen K | check HEX | build84 IN OUT MAP | sim84 HEX MAP SCRIPT N$@a.c=void main(void){PORTB=5;}@a.s=
 # the names may be one
 trace a.c a.c 1@5@a.c:1: bad line$@a.c=void main(void){PORTB=5;}@a.s=
 # files that aren't there

@@ -4,6 +4,7 @@ use crate::notation::written;
 use crate::printed::{
     beginnings, count_left, functions, nodes, static_sizes, tokens_cut, words_left,
 };
+use crate::second::second;
 use crate::sizes::{depth, depth_of_readers, known, paged, places, row, sizes};
 use crate::stages::{broken_rule, tree};
 use std::alloc::Global;
@@ -45,6 +46,8 @@ pub enum Question {
     Places,
     /// Where its blocks stand, the sum of its words, how many addresses are covered, the depth of calls, and how many functions it has.
     Known,
+    /// The sum of its stated words, where it is accepted for the second chip, or why it isn't.
+    Second,
 }
 
 fn answer(alloc: Global, question: Question, text: &[u8]) -> Result<String, Fail> {
@@ -65,6 +68,7 @@ fn answer(alloc: Global, question: Question, text: &[u8]) -> Result<String, Fail
         Question::Pages => paged(alloc, text),
         Question::Places => places(alloc, text),
         Question::Known => known(alloc, text),
+        Question::Second => second(alloc, text),
     }
 }
 

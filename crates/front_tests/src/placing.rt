@@ -198,3 +198,27 @@ fn functions_that_call_a_leaf_count_one_call_more(rt: HostRuntime) -> Result<(),
     );
     Ok(())
 }
+
+const SECOND: &str =
+    r#"// The start block has 100 words and 4 for each byte of a static object, and main 4 and 14 for each assignment: 1,024 at most in all, and in a block.
+1014 words => void main(void){`65*PORTB=5;`}
+code 1028 => void main(void){`66*PORTB=5;`}
+page main 1026 => void main(void){`73*PORTB=5;`}
+// Objects and frames stand from 20h to 4Fh, in the order of placing.
+296 words => unsigned char a[48];void main(void){}
+ram a => unsigned char a[49];void main(void){}
+ram b => unsigned char a[40],b[9],c[97];void main(void){}
+// The device registers that the chip has, and then one that it does not have, by itself and by a bit.
+202 words => void main(void){TMR0=1;OPTION_REG=1;PORTA=1;PORTB=1;TRISA=1;TRISB=1;INTCON=1;}
+register 1 => void main(void){PORTC=1;}
+register 3 => void main(void){$PORTB=1;$RC0=1;PORTD=1;$}
+register 2 => unsigned char PORTB(void){return 1;}$void main(void){PORTB();PIR1=1;}
+// Another refusal comes before it.
+ram a => unsigned char a[49];void main(void){PORTC=1;}
+code 1028 => void main(void){`66*PORTC=5;`}"#;
+
+#[test]
+fn the_second_chip_has_fewer_words_bytes_and_registers(rt: HostRuntime) -> Result<(), Fail> {
+    assert_eq!(rt; checked(&rt, rt.alloc(), Question::Second, SECOND)?, 12);
+    Ok(())
+}

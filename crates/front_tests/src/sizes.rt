@@ -17,7 +17,8 @@ use std::test::Fail;
 const NAMES: &[u8] =
     b"unsigned char c;int i,j;long l;unsigned char a[4];int b[4];unsigned char*q;int*r;struct s{unsigned char m;int n;};struct s t,v;struct s*p;int f(unsigned char x,int y){return y;}";
 
-fn text_of(name: &[u8]) -> &str {
+/// The text of a name.
+pub fn text_of(name: &[u8]) -> &str {
     match std::str::from_utf8(name) {
         Ok(name) => name,
         Err(_) => "?",

@@ -31,6 +31,7 @@ use Rattle.picc_cli.specs.ScriptInput.{IsFile, IsScript}
 use Rattle.picc_cli.specs.Trace.{Reads}
 use Rattle.picc_cli.proofs.Files.{content_of, take_all}
 use Rattle.picc_cli.proofs.SimulationEnds.{said_last}
+use Rattle.picc_core.specs.Compiled.{plain}
 use Rattle.picc_cli.proofs.Whole.{why_whole, accepted_whole, tree_whole}
 
 -- what a text is compiled to, and what is told of its run
@@ -71,7 +72,7 @@ module _ (asked : Compared) where
       reads o text.0 script content IsAcceptedText text.1 has is (accepted_whole text.0 bytes text.2 accepted)
   compared_at o (Refused refusal) bytes content read (script, has, is) tells =
       let text = content_of 262145 (o asked.input) bytes read in
-      reads o text.0 script content _ text.1 has is (why_whole text.0 bytes (outcomes.Refused refusal) (λ l. sym text.2 ∙ take_all text.0 262145 l) text.2 tells)
+      reads o text.0 script content _ text.1 has is (why_whole plain text.0 bytes (outcomes.Refused refusal) (λ l. sym text.2 ∙ take_all text.0 262145 l) text.2 tells)
   compared_at o CannotReadText bytes content read file none = absurd none
   compared_at o (NoScript end) bytes content read file none = absurd none
   compared_at o NoMemory bytes content read file none = tt

@@ -1,5 +1,5 @@
 -- Events of a run of the source, as a map of the program shows them, have names in it.
-use Rattle.std.proofs.Common.{◌≡◌, ℕ, ◌<◌, Option, Some, None, List, [], ◌∷◌, map, length, sym, ◌∙◌, subst, arith, option_map}
+use Rattle.std.proofs.Common.{◌≡◌, ℕ, Option, Some, None, List, [], ◌∷◌, map, length, sym, ◌∙◌, subst, arith, option_map}
 use Rattle.c_typed.specs.Trees.{Program}
 use Rattle.program_laws.proofs.Traces.{taken_named}
 use Rattle.program_laws.specs.EventNames.{AllNamed, IsNamed, IsNamedCell, IsNamedIfAny, MakesNamed}

@@ -1,5 +1,5 @@
 -- How a generation ends: with the one text that is to be printed, or for a fault or want of memory.
-use Rattle.std.proofs.Common.{◌≡◌, ℕ, inl, inr, ⊎_elim, Option, Some, None, IfSome, List, ◌++◌, option_map, subst, sym, arith}
+use Rattle.std.proofs.Common.{◌≡◌, ℕ, inl, inr, ⊎_elim, Option, Some, None, IfSome, List, subst, arith}
 use Rattle.generated_laws.proofs.Whole.{accepted, sizes_are}
 use Rattle.host_io.specs.Host.{Kind, Contents}
 use Rattle.host_lines.specs.Said.{Says}

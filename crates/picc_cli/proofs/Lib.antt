@@ -2,6 +2,7 @@ pub mod Whole
 pub mod Files
 pub mod Endings
 pub mod BuildEnds
+pub mod BuildWhole
 pub mod TraceFiles
 pub mod TraceRun
 pub mod TraceEnds
@@ -19,6 +20,7 @@ pub mod ChipEnds
 pub mod CheckEnds
 pub mod Sound
 pub mod NothingDone
+pub mod Simulators
 pub mod SimulationStops
 pub mod ChipNames
 pub mod SimulationEnds

@@ -5,6 +5,8 @@ use Rattle.std.specs.Prelude.{nat_lt, ◌&&◌, if◌then◌else◌}
 use Rattle.std.specs.Prelude.{codes, option_map}
 use Rattle.std.specs.List.{list_all}
 use Rattle.std.specs.Str.{bytes_eq}
+use Rattle.pic_chip.specs.declared.profile.Profile.{Profile}
+use Rattle.pic_chip.specs.declared.profile.Profile.TheVariants.{Pic16F877a, Pic16F84a}
 use Rattle.picc_cli.specs.declared.command.Command as declared
 use Rattle.picc_cli.specs.declared.command.Command.TheVariants as commands
 use Rattle.picc_cli.specs.CommandView.{IsWithin, form_view}
@@ -45,15 +47,15 @@ module _ (form : Form) where
   no_form : None ≡ Some form → IsLimited form
   no_form e = absurd (cc)
 
-  build_within : (words : List (List ℕ)) → build_of words ≡ Some form → IsLimited form
-  build_within [] e = no_form e
-  build_within (a ∷ []) e = no_form e
-  build_within (a ∷ b ∷ []) e = no_form e
-  build_within (a ∷ b ∷ c ∷ []) e = by_test (differ a b c) e where
-    by_test : (x : Bool) → (if x then Some (Build (record { input = a; output = b; map = c })) else None) ≡ Some form → IsLimited form
-    by_test true e = by_form (Build (record { input = a; output = b; map = c })) tt e
+  build_within : (chip : Profile) (words : List (List ℕ)) → build_of chip words ≡ Some form → IsLimited form
+  build_within chip [] e = no_form e
+  build_within chip (a ∷ []) e = no_form e
+  build_within chip (a ∷ b ∷ []) e = no_form e
+  build_within chip (a ∷ b ∷ c ∷ []) e = by_test (differ a b c) e where
+    by_test : (x : Bool) → (if x then Some (Build (record { chip = chip; input = a; output = b; map = c })) else None) ≡ Some form → IsLimited form
+    by_test true e = by_form (Build (record { chip = chip; input = a; output = b; map = c })) tt e
     by_test false e = no_form e
-  build_within (a ∷ b ∷ c ∷ d ∷ more) e = no_form e
+  build_within chip (a ∷ b ∷ c ∷ d ∷ more) e = no_form e
 
   trace_within : (words : List (List ℕ)) → trace_of words ≡ Some form → IsLimited form
   trace_within [] e = no_form e
@@ -65,16 +67,16 @@ module _ (form : Form) where
     by_number (Some n) e = by_form (Trace (record { input = a; script = b; steps = n })) tt e
   trace_within (a ∷ b ∷ m ∷ d ∷ more) e = no_form e
 
-  simulation_within : (words : List (List ℕ)) → simulate_of words ≡ Some form → IsLimited form
-  simulation_within [] e = no_form e
-  simulation_within (a ∷ []) e = no_form e
-  simulation_within (a ∷ b ∷ []) e = no_form e
-  simulation_within (a ∷ b ∷ c ∷ []) e = no_form e
-  simulation_within (a ∷ b ∷ c ∷ n ∷ []) e = by_number (number_in 1000000 n) e where
-    by_number : (o : Option ℕ) → option_map (λ instructions. Simulate (record { hex = a; map = b; script = c; instructions = instructions })) o ≡ Some form → IsLimited form
+  simulation_within : (chip : Profile) (words : List (List ℕ)) → simulate_of chip words ≡ Some form → IsLimited form
+  simulation_within chip [] e = no_form e
+  simulation_within chip (a ∷ []) e = no_form e
+  simulation_within chip (a ∷ b ∷ []) e = no_form e
+  simulation_within chip (a ∷ b ∷ c ∷ []) e = no_form e
+  simulation_within chip (a ∷ b ∷ c ∷ n ∷ []) e = by_number (number_in 1000000 n) e where
+    by_number : (o : Option ℕ) → option_map (λ instructions. Simulate (record { chip = chip; hex = a; map = b; script = c; instructions = instructions })) o ≡ Some form → IsLimited form
     by_number None e = no_form e
-    by_number (Some n) e = by_form (Simulate (record { hex = a; map = b; script = c; instructions = n })) tt e
-  simulation_within (a ∷ b ∷ c ∷ n ∷ d ∷ more) e = no_form e
+    by_number (Some n) e = by_form (Simulate (record { chip = chip; hex = a; map = b; script = c; instructions = n })) tt e
+  simulation_within chip (a ∷ b ∷ c ∷ n ∷ d ∷ more) e = no_form e
 
   agreement_within : (words : List (List ℕ)) → agree_of words ≡ Some form → IsLimited form
   agreement_within [] e = no_form e
@@ -107,18 +109,21 @@ module _ (form : Form) where
   unfolding form_by_name
   named_within [] e = no_form e
   named_within (command ∷ rest) e =
-      by_tests (bytes_eq command (codes "build")) (bytes_eq command (codes "trace")) (bytes_eq command (codes "sim")) (bytes_eq command (codes "agree")) (bytes_eq command (codes "gen")) (bytes_eq command (codes "check")) e
+      by_tests (bytes_eq command (codes "build")) (bytes_eq command (codes "trace")) (bytes_eq command (codes "sim")) (bytes_eq command (codes "agree")) (bytes_eq command (codes "gen")) (bytes_eq command (codes "check"))
+      (bytes_eq command (codes "build84")) (bytes_eq command (codes "sim84")) e
     where
-      by_tests : (u v w x y z : Bool)
-          → (if u then build_of rest else if v then trace_of rest else if w then simulate_of rest else if x then agree_of rest else if y then generate_of rest else if z then check_of rest else None) ≡ Some form
+      by_tests : (u v w x y z q s : Bool)
+          → (if u then build_of Pic16F877a rest else if v then trace_of rest else if w then simulate_of Pic16F877a rest else if x then agree_of rest else if y then generate_of rest else if z then check_of rest else if q then build_of Pic16F84a rest else if s then simulate_of Pic16F84a rest else None) ≡ Some form
           → IsLimited form
-      by_tests true v w x y z e = build_within rest e
-      by_tests false true w x y z e = trace_within rest e
-      by_tests false false true x y z e = simulation_within rest e
-      by_tests false false false true y z e = agreement_within rest e
-      by_tests false false false false true z e = program_within rest e
-      by_tests false false false false false true e = check_within rest e
-      by_tests false false false false false false e = no_form e
+      by_tests true v w x y z q s e = build_within Pic16F877a rest e
+      by_tests false true w x y z q s e = trace_within rest e
+      by_tests false false true x y z q s e = simulation_within Pic16F877a rest e
+      by_tests false false false true y z q s e = agreement_within rest e
+      by_tests false false false false true z q s e = program_within rest e
+      by_tests false false false false false true q s e = check_within rest e
+      by_tests false false false false false false true s e = build_within Pic16F84a rest e
+      by_tests false false false false false false false true e = simulation_within Pic16F84a rest e
+      by_tests false false false false false false false false e = no_form e
 
   words_within : (words : List (List ℕ)) → form_of words ≡ Some form → IsLimited form
   words_within words e = by_test (list_all is_name words) e where

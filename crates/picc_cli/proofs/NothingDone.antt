@@ -1,5 +1,5 @@
 -- A command that wants memory before it has begun.
-use Rattle.std.proofs.Common.{ℕ, inl, inr, Option, Some, None, IfSome, List, [], ◌∷◌, ◌++◌, refl, sym, arith}
+use Rattle.std.proofs.Common.{ℕ, inl, inr, Option, Some, None, IfSome, List, [], ◌∷◌, refl, sym, arith}
 use Rattle.host_io.specs.Host.{Kind, Contents, PrintsPrefix}
 use Rattle.picc_cli.specs.declared.building.Outcome.TheVariants as outcomes
 use Rattle.picc_cli.specs.declared.checking.Ended.TheVariants as check

@@ -3,11 +3,13 @@ use Rattle.std.proofs.Common.{◌≡◌, ℕ, inl, inr, false, Option, Some, Non
 use Rattle.host_io.specs.Host.{Kind, Contents, PrintsPrefix}
 use Rattle.pic_world.specs.declared.Event.{Event}
 use Rattle.pic_chip.specs.Machine.{Machine}
+use Rattle.pic_chip.specs.State.{State}
 use Rattle.pic_map.specs.MapContent.{MapContent, watch_of}
 use Rattle.pic_map.specs.Tracing.{Tracing, looked}
 use Rattle.pic_sim.specs.declared.running.SimEnd.{SimEnd}
 use Rattle.schedule.specs.ScriptFile.{ScriptContent}
-use Rattle.pic_sim.specs.Going.{Known, Went}
+use Rattle.pic_sim.specs.Going.{Known, WentBy}
+use Rattle.pic_sim.specs.Kind as chips
 use Rattle.picc_cli.specs.declared.simulating.Ended.{Ended}
 use Rattle.picc_cli.specs.declared.simulating.Ended.TheVariants.{Done, Unmodelled, NoHex, NoMap, NoScript, CannotPrint, NoMemory}
 use Rattle.picc_cli.specs.Chip.{RunPrints, last_line, status_of}
@@ -15,7 +17,7 @@ use Rattle.picc_cli.specs.Command.{Simulated, Simulate}
 use Rattle.host_lines.specs.Said.{IsLast, Says}
 use Rattle.picc_cli.specs.Inputs.{IsHexInput, IsMapInput, IsScriptInput}
 use Rattle.picc_cli.specs.ScriptInput.{IsFile}
-use Rattle.picc_cli.specs.Simulation.{HasSimulated, Knows, IsFed, IsRun, IsPrinted, Runs, Simulates, first_chip, first_look}
+use Rattle.picc_cli.specs.Simulation.{HasSimulated, Knows, IsFed, IsRunBy, IsPrinted, Runs, RunsBy, Simulates, Simulator, first_look}
 use Rattle.picc_cli.proofs.Endings.{add_nothing}
 use Rattle.picc_cli.proofs.SimulationStops.{prints_as_run, stops_as_run}
 
@@ -51,24 +53,24 @@ pub none_printed : (p : Option (List ℕ)) (text : List ℕ) → PrintsPrefix p 
 none_printed p [] = (0, omega arith, sym (add_nothing p))
 none_printed p (c ∷ text) = (0, omega arith, sym (add_nothing p))
 
-module _ (image : List ℕ) (map : MapContent) (script : ScriptContent) (n : ℕ) (before fed now : Known) where
-  pub run_of : (chip later : Machine) (tracing last : Tracing) (first events : List Event) (end : SimEnd) → IsFed script before fed → chip ≡ first_chip → tracing ≡ first_look map → first ≡ []
-      → Went image n (record { chip = chip; tracing = tracing; events = first; board = fed }) (record { chip = later; tracing = last; events = events; board = now }) end
-      → IsRun image map script n before now events end
+module _ (kind : chips.Kind) (begin : State) (image : List ℕ) (map : MapContent) (script : ScriptContent) (n : ℕ) (before fed now : Known) where
+  pub run_of : (chip later : Machine) (tracing last : Tracing) (first events : List Event) (end : SimEnd) → IsFed script before fed → chip ≡ record { state = begin; index = 0 } → tracing ≡ first_look map → first ≡ []
+      → WentBy kind image n (record { chip = chip; tracing = tracing; events = first; board = fed }) (record { chip = later; tracing = last; events = events; board = now }) end
+      → IsRunBy kind begin image map script n before now events end
   run_of chip later tracing last first events end is_fed a b c went = record { fed = fed; is_fed = is_fed; chip = later; tracing = last; went = rw (← a, ← b, ← c) went }
 
 -- a run and what was printed of it
-pub runs_of : (image : List ℕ) (map : MapContent) (script : ScriptContent) (n : ℕ) (before now : Known) (events : List Event) (end : SimEnd) (ended : Ended) (p q : Option (List ℕ))
-    → IsRun image map script n before now events end → IsPrinted map events end ended p q → Runs image map script n before now ended p q
-runs_of image map script n before now events end Done p q run (is, shown, printed) =
-    record { events = events; run = subst (λ x. IsRun image map script n before now events x) is run; shown = shown; printed = printed }
-runs_of image map script n before now events end (Unmodelled at) p q run (is, shown, printed) =
-    record { events = events; run = subst (λ x. IsRun image map script n before now events x) is run; shown = shown; printed = printed }
-runs_of image map script n before now events end CannotPrint p q run printed = record { end = end; events = events; run = run; printed = printed }
-runs_of image map script n before now events end NoMemory p q run printed = inr (record { end = end; events = events; run = run; printed = printed })
-runs_of image map script n before now events end (NoHex why) p q run printed = absurd printed
-runs_of image map script n before now events end (NoMap why) p q run printed = absurd printed
-runs_of image map script n before now events end (NoScript why) p q run printed = absurd printed
+pub runs_of : (s : Simulator) (image : List ℕ) (map : MapContent) (script : ScriptContent) (n : ℕ) (before now : Known) (events : List Event) (end : SimEnd) (ended : Ended) (p q : Option (List ℕ))
+    → s.Ran image map script n before now events end → IsPrinted map events end ended p q → RunsBy s image map script n before now ended p q
+runs_of s image map script n before now events end Done p q run (is, shown, printed) =
+    record { events = events; run = subst (λ x. s.Ran image map script n before now events x) is run; shown = shown; printed = printed }
+runs_of s image map script n before now events end (Unmodelled at) p q run (is, shown, printed) =
+    record { events = events; run = subst (λ x. s.Ran image map script n before now events x) is run; shown = shown; printed = printed }
+runs_of s image map script n before now events end CannotPrint p q run printed = record { end = end; events = events; run = run; printed = printed }
+runs_of s image map script n before now events end NoMemory p q run printed = inr (record { end = end; events = events; run = run; printed = printed })
+runs_of s image map script n before now events end (NoHex why) p q run printed = absurd printed
+runs_of s image map script n before now events end (NoMap why) p q run printed = absurd printed
+runs_of s image map script n before now events end (NoScript why) p q run printed = absurd printed
 
 -- and the printed lines alone
 pub prints_of : (map : MapContent) (events : List Event) (end : SimEnd) (ended : Ended) (p q : Option (List ℕ)) → IsPrinted map events end ended p q → RunPrints map ended p q
@@ -87,12 +89,12 @@ looked_first map pc new old at is e = e ∙ ap (λ k. looked k old) at ∙ ap (l
 -- ---- the files
 knows_at : (asked : Simulated) (o : Contents) (image : List ℕ) (map : MapContent) (script : ScriptContent) (before now : Known) (ended : Ended) (p q : Option (List ℕ))
     → IsFile o asked.hex (IsHexInput image) → IsFile o asked.map (IsMapInput map) → IsFile o asked.script (IsScriptInput script)
-    → Runs image map script asked.instructions before now ended p q → Knows asked o before now ended p q
+    → Runs asked.chip image map script asked.instructions before now ended p q → Knows asked o before now ended p q
 knows_at asked o image map script before now ended p q hex maps scripts runs = by_end ended runs where
-  all : (ended : Ended) → Runs image map script asked.instructions before now ended p q → Simulates asked o before now ended p q
+  all : (ended : Ended) → Runs asked.chip image map script asked.instructions before now ended p q → Simulates asked o before now ended p q
   all ended runs = record { image = image; map = map; script = script; hex_file = hex; map_file = maps; script_file = scripts; runs = runs }
 
-  by_end : (ended : Ended) → Runs image map script asked.instructions before now ended p q → Knows asked o before now ended p q
+  by_end : (ended : Ended) → Runs asked.chip image map script asked.instructions before now ended p q → Knows asked o before now ended p q
   by_end Done runs = all Done runs
   by_end (Unmodelled at) runs = all (Unmodelled at) runs
   by_end CannotPrint runs = all CannotPrint runs
@@ -105,11 +107,11 @@ knows_at asked o image map script before now ended p q hex maps scripts runs = b
 -- each file was read, nothing was printed before the run
 pub run_known : (asked : Simulated) (old second third : Option Contents) (image : List ℕ) (map : MapContent) (script : ScriptContent) (before now : Known) (ended : Ended) (p r q : Option (List ℕ))
     → IfSome old (λ o. IsFile o asked.hex (IsHexInput image)) → second ≡ old → IfSome second (λ o. IsFile o asked.map (IsMapInput map)) → third ≡ second
-    → IfSome third (λ o. IsFile o asked.script (IsScriptInput script)) → r ≡ p → Runs image map script asked.instructions before now ended r q
+    → IfSome third (λ o. IsFile o asked.script (IsScriptInput script)) → r ≡ p → Runs asked.chip image map script asked.instructions before now ended r q
     → IfSome old (λ o. Knows asked o before now ended p q)
 run_known asked None second third image map script before now ended p r q hex a maps b scripts same runs = tt
 run_known asked (Some o) second third image map script before now ended p r q hex a maps b scripts same runs =
     knows_at asked o image map script before now ended p q hex
     (subst (λ c. IfSome c (λ o. IsFile o asked.map (IsMapInput map))) a maps)
     (subst (λ c. IfSome c (λ o. IsFile o asked.script (IsScriptInput script))) (b ∙ a) scripts)
-    (subst (λ x. Runs image map script asked.instructions before now ended x q) same runs)
+    (subst (λ x. Runs asked.chip image map script asked.instructions before now ended x q) same runs)

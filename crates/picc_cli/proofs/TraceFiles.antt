@@ -14,6 +14,7 @@ use Rattle.picc_cli.specs.Inputs.{IsScriptInput, HasNoScript}
 use Rattle.picc_cli.specs.ScriptInput.{IsFile, IsScript}
 use Rattle.picc_cli.specs.Trace.{Knows, IsRunEnd}
 use Rattle.picc_cli.proofs.Files.{content_of, take_all}
+use Rattle.picc_core.specs.Compiled.{plain}
 use Rattle.picc_cli.proofs.Whole.{why_whole, accepted_whole}
 
 -- ---- the text and the script
@@ -66,7 +67,7 @@ refused_at asked o refusal bytes read (script, has, is) tells =
       script = script;
       has_text = text.1;
       has_script = has;
-      of_text = why_whole text.0 bytes (outcomes.Refused refusal) (λ l. sym text.2 ∙ take_all text.0 262145 l) text.2 tells;
+      of_text = why_whole plain text.0 bytes (outcomes.Refused refusal) (λ l. sym text.2 ∙ take_all text.0 262145 l) text.2 tells;
       of_script = is;
     }
 

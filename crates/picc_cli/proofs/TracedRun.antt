@@ -1,5 +1,5 @@
 -- What a trace prints is the run of the definition, step by step.
-use Rattle.std.proofs.Common.{◌≡◌, ℕ, zero, suc, ◌+◌, ◌-◌, ◌<◌, ◌≤◌, ◌⊎◌, inl, inr, Bool, true, false, Option, Some, None, List, [], ◌∷◌, ◌++◌, map, length, refl, sym, ap, ◌∙◌, subst, ⊎_elim, arith, append_assoc, append-nil, option_map}
+use Rattle.std.proofs.Common.{◌≡◌, ℕ, zero, suc, ◌+◌, ◌<◌, ◌≤◌, inl, inr, true, false, Option, Some, None, List, [], ◌∷◌, ◌++◌, map, refl, sym, ap, ◌∙◌, subst, ⊎_elim, arith, append_assoc, append-nil, option_map}
 use Rattle.std.specs.Prelude.{option_to_list}
 use Rattle.std.proofs.lemmas.Bool.{cases_lt}
 use Rattle.std.proofs.lemmas.List.{map-append}
@@ -12,7 +12,7 @@ use Rattle.pic_world.specs.declared.Event.{Event}
 use Rattle.picc_cli.specs.declared.tracing.Ended.{Ended}
 use Rattle.picc_cli.specs.declared.tracing.Ended.TheVariants.{Done, Undefined, Refused, CannotReadText, NoScript, CannotPrint, NoMemory}
 use Rattle.picc_cli.specs.Lines.{event_lines}
-use Rattle.picc_cli.specs.Traced.{events_by, Prints, EndsBy, PrintsBy, Ran}
+use Rattle.picc_cli.specs.Traced.{events_by, Prints, Ran}
 use Rattle.picc_cli.specs.TracedStep.{events_at, Steps}
 use Rattle.picc_cli.proofs.Endings.{whole_line}
 use Rattle.host_lines.proofs.Prefixes.{later}
@@ -24,7 +24,7 @@ use Rattle.src_memory.specs.Shown.{address_of, shown}
 use Rattle.src_rules.proofs.Changes.{trace_grows, events_count}
 use Rattle.src_rules.proofs.Readies.{comes, are_moments}
 use Rattle.src_rules.specs.Laws.{Adds, IsReadyBehind}
-use Rattle.src_rules.specs.Runs.{run, gone, is_taken, ready, take, after, fault_after, is_idle_after}
+use Rattle.src_rules.specs.Runs.{run, gone, is_taken, ready, take, after}
 use Rattle.src_rules.specs.State.{State, Outcome, Went, Undefined as Faulty, Idle, Lost}
 use Rattle.src_rules.specs.Step.{step, counts, start}
 use Rattle.src_values.specs.Memory.{Setting}

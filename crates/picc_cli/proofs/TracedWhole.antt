@@ -17,7 +17,7 @@ use Rattle.call_graph.specs.Levels.{IsAcyclic}
 use Rattle.call_graph.specs.declared.types.FnCopy.{FnCopy}
 use Rattle.program_laws.proofs.Traces.{traces_named}
 use Rattle.headline.specs.SourceOf.{setting_of}
-use Rattle.host_io.specs.Host.{Kind, Contents, IsRead, PrintsPrefix}
+use Rattle.host_io.specs.Host.{Kind, Contents, IsRead}
 use Rattle.pic_map.specs.MapContent.{MapContent, ObjectLine, FrameLine}
 use Rattle.pic_world.specs.World.{Outside, outside_of}
 use Rattle.picc_cli.specs.declared.inputs.FileEnd.{FileEnd}

@@ -188,6 +188,14 @@ check_form : IsForm (codes "check") 1
 unfolding clap_on_literals
 check_form = record { met = refl; turn = refl; enters = λ words. refl; passes = λ words. refl; faults = λ words. refl }
 
+build84_form : IsForm (codes "build84") 3
+unfolding clap_on_literals
+build84_form = record { met = refl; turn = refl; enters = λ words. refl; passes = λ words. refl; faults = λ words. refl }
+
+simulate84_form : IsForm (codes "sim84") 4
+unfolding clap_on_literals
+simulate84_form = record { met = refl; turn = refl; enters = λ words. refl; passes = λ words. refl; faults = λ words. refl }
+
 is_simple_line : is_simple forms_app ≡ true
 unfolding clap_on_literals
 is_simple_line = refl
@@ -289,7 +297,7 @@ one_found name form (a ∷ b ∷ words) e fault =
     let parts = both _ _ e in
     absurd (one_fault name a b words parts.0 (both _ _ parts.1).0 (refused_below name 1 form (a ∷ b ∷ words) fault))
 
--- ---- the six names
+-- ---- the eight names
 abbrev Differs : Text → Text → Type 0
 Differs word name = (bytes_eq word name ≡ false) × (bytes_eq name word ≡ false)
 
@@ -302,14 +310,15 @@ word_is word name = go (bytes_eq word name) (bytes_eq name word) refl refl
     go false false ea eb = inr (ea, eb)
 
 abbrev IsNone : Text → Type 0
-IsNone word = Differs word (codes "build") × Differs word (codes "trace") × Differs word (codes "sim") × Differs word (codes "agree") × Differs word (codes "gen") × Differs word (codes "check")
+IsNone word =
+    Differs word (codes "build") × Differs word (codes "trace") × Differs word (codes "sim") × Differs word (codes "agree") × Differs word (codes "gen") × Differs word (codes "check") × Differs word (codes "build84") × Differs word (codes "sim84")
 
 none_met : (word : Text) → IsNone word → subcommand_met names idle word ≡ None
-none_met word (b, t, s, a, g, h) = rw (b.1, t.1, s.1, a.1, g.1, h.1) refl
+none_met word (b, t, s, a, g, h, b84, s84) = rw (b.1, t.1, s.1, a.1, g.1, h.1, b84.1, s84.1) refl
 
 none_form : (word : Text) (words : List Text) → IsNone word → form_by_name (word ∷ words) ≡ None
 unfolding form_by_name
-none_form word words (b, t, s, a, g, h) = rw (b.0, t.0, s.0, a.0, g.0, h.0) refl
+none_form word words (b, t, s, a, g, h, b84, s84) = rw (b.0, t.0, s.0, a.0, g.0, h.0, b84.0, s84.0) refl
 
 none_fault : (word : Text) (words : List Text) → IsNone word → is_name word ≡ true → fault_of forms_app (word ∷ words) ≡ [] → ⊥
 unfolding walk_fault
@@ -318,7 +327,8 @@ none_fault word words none e fault =
     cons_is_some _ refl (stray line.top names 1 nothing_held word e (none_met word none) refl turn)
 
 -- a word is one of the names, or none
-module _ (P : Text → Type 0) (word : Text) (b : P (codes "build")) (t : P (codes "trace")) (s : P (codes "sim")) (a : P (codes "agree")) (g : P (codes "gen")) (h : P (codes "check")) (none : IsNone word → P word) where
+module _ (P : Text → Type 0) (word : Text) (b : P (codes "build")) (t : P (codes "trace")) (s : P (codes "sim")) (a : P (codes "agree")) (g : P (codes "gen")) (h : P (codes "check")) (b84 : P (codes "build84")) (s84 : P (codes "sim84"))
+    (none : IsNone word → P word) where
   by_name : P word
   by_name = elim (word_is word (codes "build")) [
     | inl e ↦ subst P (sym e) b
@@ -332,7 +342,13 @@ module _ (P : Text → Type 0) (word : Text) (b : P (codes "build")) (t : P (cod
             | inl e ↦ subst P (sym e) g
             | inr ng ↦ elim (word_is word (codes "check")) [
               | inl e ↦ subst P (sym e) h
-              | inr nh ↦ none (nb, nt, ns, na, ng, nh)
+              | inr nh ↦ elim (word_is word (codes "build84")) [
+                | inl e ↦ subst P (sym e) b84
+                | inr nb84 ↦ elim (word_is word (codes "sim84")) [
+                  | inl e ↦ subst P (sym e) s84
+                  | inr ns84 ↦ none (nb, nt, ns, na, ng, nh, nb84, ns84)
+                ]
+              ]
             ]
           ]
         ]
@@ -356,6 +372,8 @@ words_are_found (word ∷ words) e fault =
     (λ f. places_line (codes "agree") 3 refl agree_form words parts.1)
     (λ f. ap words_in (enters_line (codes "gen") 1 generate_form words) ∙ one_found (codes "gen") generate_form words parts.1 f)
     (λ f. ap words_in (enters_line (codes "check") 1 check_form words) ∙ one_found (codes "check") check_form words parts.1 f)
+    (λ f. places_line (codes "build84") 3 refl build84_form words parts.1)
+    (λ f. places_line (codes "sim84") 4 refl simulate84_form words parts.1)
     (λ none f. absurd (none_fault word words none parts.0 f)) fault
 
 -- ---- where a parse doesn't succeed
@@ -378,6 +396,14 @@ build_other (a ∷ []) h = refl
 build_other (a ∷ b ∷ []) h = refl
 build_other (a ∷ b ∷ c ∷ []) h = absurd (h refl)
 build_other (a ∷ b ∷ c ∷ d ∷ words) h = refl
+
+build84_other : (words : List Text) → (length words ≡ 3 → ⊥) → form_by_name (codes "build84" ∷ words) ≡ None
+unfolding form_by_name
+build84_other [] h = refl
+build84_other (a ∷ []) h = refl
+build84_other (a ∷ b ∷ []) h = refl
+build84_other (a ∷ b ∷ c ∷ []) h = absurd (h refl)
+build84_other (a ∷ b ∷ c ∷ d ∷ words) h = refl
 
 trace_other : (words : List Text) → (length words ≡ 3 → ⊥) → form_by_name (codes "trace" ∷ words) ≡ None
 unfolding form_by_name
@@ -405,6 +431,16 @@ simulate_taken (a ∷ b ∷ c ∷ d ∷ []) e =
     inl (taken (codes "sim") 4 simulate_form (a ∷ b ∷ c ∷ d ∷ []) (level_taken (codes "sim") 4 refl a (b ∷ c ∷ d ∷ []) e refl))
 simulate_taken (a ∷ b ∷ c ∷ d ∷ f ∷ words) e = inr refl
 
+simulate84_taken : (words : List Text) → list_all is_name words ≡ true → IsTaken (codes "sim84" ∷ words)
+unfolding form_by_name
+simulate84_taken [] e = inr refl
+simulate84_taken (a ∷ []) e = inr refl
+simulate84_taken (a ∷ b ∷ []) e = inr refl
+simulate84_taken (a ∷ b ∷ c ∷ []) e = inr refl
+simulate84_taken (a ∷ b ∷ c ∷ d ∷ []) e =
+    inl (taken (codes "sim84") 4 simulate84_form (a ∷ b ∷ c ∷ d ∷ []) (level_taken (codes "sim84") 4 refl a (b ∷ c ∷ d ∷ []) e refl))
+simulate84_taken (a ∷ b ∷ c ∷ d ∷ f ∷ words) e = inr refl
+
 generate_taken : (words : List Text) → list_all is_name words ≡ true → IsTaken (codes "gen" ∷ words)
 unfolding form_by_name
 generate_taken [] e = inr refl
@@ -429,6 +465,8 @@ taken_or_none (word ∷ words) e =
     (three_taken (codes "agree") agree_form agree_other words parts.1)
     (generate_taken words parts.1)
     (check_taken words parts.1)
+    (three_taken (codes "build84") build84_form build84_other words parts.1)
+    (simulate84_taken words parts.1)
     (λ none. inr (none_form word words none))
 
 -- ---- what the matches say

@@ -17,7 +17,7 @@ subcommand_shape name places = record (new_shape name) { rules = words_rule plac
 abbrev pub IsSubcommand : Text → ℕ → Command → Type 0
 IsSubcommand name places command = (shape_of command ≡ subcommand_shape name places) × ((out-Command command).has_globals ≡ false)
 
--- one command with six subcommands, without what clap adds by itself
+-- one command with eight subcommands, without what clap adds by itself
 abbrev pub forms_app : App
 forms_app = record {
   top = record (new_shape (codes "picc")) {
@@ -27,7 +27,8 @@ forms_app = record {
     disable_help_subcommand = true;
   };
   subs = subcommand_shape (codes "build") 3 ∷ subcommand_shape (codes "trace") 3 ∷ subcommand_shape (codes "sim") 4
-      ∷ subcommand_shape (codes "agree") 3 ∷ subcommand_shape (codes "gen") 1 ∷ subcommand_shape (codes "check") 1 ∷ [];
+      ∷ subcommand_shape (codes "agree") 3 ∷ subcommand_shape (codes "gen") 1 ∷ subcommand_shape (codes "check") 1
+      ∷ subcommand_shape (codes "build84") 3 ∷ subcommand_shape (codes "sim84") 4 ∷ [];
 }
 
 -- the name that was found, and the words behind it

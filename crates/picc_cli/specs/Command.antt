@@ -3,10 +3,13 @@ use Rattle.std.specs.Prelude.{ℕ, ◌+◌, ◌-◌, ◌*◌, Bool, true, false,
 use Rattle.std.specs.List.{list_all}
 use Rattle.std.specs.Str.{bytes_eq}
 use Rattle.std.specs.declared.alloc.Global.{Global}
+use Rattle.pic_chip.specs.declared.profile.Profile.{Profile}
+use Rattle.pic_chip.specs.declared.profile.Profile.TheVariants.{Pic16F877a, Pic16F84a}
 use Rattle.schedule.specs.ScriptFile.{is_digit}
 
--- the three files of a build
+-- the chip for which a text is built, and the three files of the build
 pub record Names : Type 0 where
+  pub chip : Profile
   pub input : List ℕ
   pub output : List ℕ
   pub map : List ℕ
@@ -17,8 +20,9 @@ pub record Asked : Type 0 where
   pub script : List ℕ
   pub steps : ℕ
 
--- the three files of a run of a built program, and how many instructions it has
+-- the chip that a built program runs on, the three files of the run, and how many instructions it has
 pub record Simulated : Type 0 where
+  pub chip : Profile
   pub hex : List ℕ
   pub map : List ℕ
   pub script : List ℕ
@@ -61,20 +65,20 @@ number_onto most n (c ∷ digits) = if nat_lt most (10 * n + (c - 48)) then None
 abbrev pub number_in : ℕ → List ℕ → Option ℕ
 number_in most word = if is_short word && all_digits word then number_onto most 0 word else None
 
--- `build IN OUT MAP`, of three different names
-abbrev pub build_of : List (List ℕ) → Option Form
-build_of (a ∷ b ∷ c ∷ []) = if differ a b c then Some (Build (record { input = a; output = b; map = c })) else None
-build_of _ = None
+-- `build IN OUT MAP` and `build84 IN OUT MAP`, of three different names
+abbrev pub build_of : Profile → List (List ℕ) → Option Form
+build_of chip (a ∷ b ∷ c ∷ []) = if differ a b c then Some (Build (record { chip = chip; input = a; output = b; map = c })) else None
+build_of chip _ = None
 
 -- `trace IN SCRIPT M`, M up to 1,000,000
 abbrev pub trace_of : List (List ℕ) → Option Form
 trace_of (a ∷ b ∷ m ∷ []) = option_map (λ steps. Trace (record { input = a; script = b; steps = steps })) (number_in 1000000 m)
 trace_of _ = None
 
--- `sim HEX MAP SCRIPT N`, N up to 1,000,000
-abbrev pub simulate_of : List (List ℕ) → Option Form
-simulate_of (a ∷ b ∷ c ∷ n ∷ []) = option_map (λ instructions. Simulate (record { hex = a; map = b; script = c; instructions = instructions })) (number_in 1000000 n)
-simulate_of _ = None
+-- `sim HEX MAP SCRIPT N` and `sim84 HEX MAP SCRIPT N`, N up to 1,000,000
+abbrev pub simulate_of : Profile → List (List ℕ) → Option Form
+simulate_of chip (a ∷ b ∷ c ∷ n ∷ []) = option_map (λ instructions. Simulate (record { chip = chip; hex = a; map = b; script = c; instructions = instructions })) (number_in 1000000 n)
+simulate_of chip _ = None
 
 -- `agree IN SCRIPT N`, N up to 100,000
 abbrev pub agree_of : List (List ℕ) → Option Form
@@ -99,18 +103,20 @@ check_of _ = None
 unfoldable pub form_by_name : List (List ℕ) → Option Form
 form_by_name [] = None
 form_by_name (command ∷ rest) =
-    if bytes_eq command (codes "build") then build_of rest else
+    if bytes_eq command (codes "build") then build_of Pic16F877a rest else
     if bytes_eq command (codes "trace") then trace_of rest else
-    if bytes_eq command (codes "sim") then simulate_of rest else
+    if bytes_eq command (codes "sim") then simulate_of Pic16F877a rest else
     if bytes_eq command (codes "agree") then agree_of rest else
     if bytes_eq command (codes "gen") then generate_of rest else
-    if bytes_eq command (codes "check") then check_of rest else None
+    if bytes_eq command (codes "check") then check_of rest else
+    if bytes_eq command (codes "build84") then build_of Pic16F84a rest else
+    if bytes_eq command (codes "sim84") then simulate_of Pic16F84a rest else None
 
 -- no word may be empty or begin with `-`
 abbrev pub form_of : List (List ℕ) → Option Form
 form_of words = if list_all is_name words then form_by_name words else None
 
--- a board is used by this form alone
+-- a board is used by the forms that simulate alone
 abbrev pub is_simulation : Option Form → Bool
 is_simulation None = false
 is_simulation (Some (Build names)) = false

@@ -10,13 +10,13 @@ use Rattle.picc_cli.specs.Command.{Names, Asked, Simulated, Compared, Form, Buil
 use Rattle.picc_cli.specs.Summary.{IsSize}
 
 abbrev pub names_of : Files → Names
-names_of files = record { input = files.input.now; output = files.output.now; map = files.map.now }
+names_of files = record { chip = files.chip; input = files.input.now; output = files.output.now; map = files.map.now }
 
 abbrev pub asked_of : declared.Asked → Asked
 asked_of asked = record { input = asked.input.now; script = asked.script.now; steps = asked.steps }
 
 abbrev pub simulated_of : declared_simulated.Simulated → Simulated
-simulated_of simulated = record { hex = simulated.hex.now; map = simulated.map.now; script = simulated.script.now; instructions = simulated.instructions }
+simulated_of simulated = record { chip = simulated.chip; hex = simulated.hex.now; map = simulated.map.now; script = simulated.script.now; instructions = simulated.instructions }
 
 abbrev pub compared_of : declared_compared.Compared → Compared
 compared_of compared = record { input = compared.input.now; script = compared.script.now; instructions = compared.instructions }

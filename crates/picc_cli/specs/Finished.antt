@@ -1,8 +1,7 @@
 -- What the exit status of a command says.
 use Rattle.std.specs.Prelude.{ℕ, ◌≡◌, ◌<◌, ◌≤◌, ◌⊎◌, IsTrue, Option, Some, None, List, ◌++◌, option_map}
 use Rattle.host_io.specs.Host.{Kind, Contents, Lacks, PrintsPrefix, IsCounted}
-use Rattle.picc_core.specs.Answers.{Tells, TellsBy}
-use Rattle.picc_core.specs.Compiled.{plain}
+use Rattle.picc_core.specs.Answers.{Tells}
 use Rattle.picc_core.specs.Compiled as builds
 use Rattle.picc_core.specs.Decided.{IsAcceptedBy, IsAcceptedText}
 use Rattle.picc_core.specs.declared.refusal.Refusal.{Refusal}
@@ -15,7 +14,7 @@ use Rattle.picc_cli.specs.Chip as chip
 use Rattle.picc_cli.specs.Command.{Names, Asked, Compared, Form, Build, Trace, Simulate, Agree, Generate, Check}
 use Rattle.picc_cli.specs.Lines.{usage_line, cannot_read}
 use Rattle.picc_cli.specs.Outcome as build
-use Rattle.picc_cli.specs.Outcome.{Files, Builds, RefusesBy, BreaksOff}
+use Rattle.picc_cli.specs.Outcome.{Files, Builds, RefusesBy, BreaksOff, TellsWhyBy, build_for}
 use Rattle.picc_cli.specs.RunsTold.{RunsTell}
 use Rattle.host_lines.specs.Said.{GivesUp}
 use Rattle.picc_cli.specs.Simulation.{SimulationCompletes}
@@ -32,12 +31,12 @@ pub record BuildHasFilesBy (b : builds.Build) (Are : Files) (names : Names) (old
   pub broken : GivesUp result → BreaksOff Are names old new
 
 abbrev pub BuildHasFiles : Files → Names → Contents → Option Contents → ℕ → Type 0
-BuildHasFiles = BuildHasFilesBy plain
+BuildHasFiles Are names = BuildHasFilesBy (build_for names.chip) Are names
 
 -- Only a build writes files.
 abbrev pub HasFiles : Option Form → Contents → Option Contents → ℕ → Type 0
 HasFiles None old new result = new ≡ Some old
-HasFiles (Some (Build names)) old new result = BuildHasFilesBy plain (IsBuiltBy plain) names old new result
+HasFiles (Some (Build names)) old new result = BuildHasFiles (IsBuiltBy (build_for names.chip)) names old new result
 HasFiles (Some (Trace asked)) old new result = new ≡ Some old
 HasFiles (Some (Simulate asked)) old new result = new ≡ Some old
 HasFiles (Some (Agree asked)) old new result = new ≡ Some old
@@ -132,7 +131,7 @@ pub record TraceTells (asked : Asked) (old : Contents) (before after : Option (L
 
 abbrev pub HasTold : Option Form → Contents → Option Contents → Option (List ℕ) → Option (List ℕ) → ℕ → Type 0
 HasTold None old new before after result = Unit {0}
-HasTold (Some (Build names)) old new before after result = result ≡ 1 → BuildTells plain names old new before after
+HasTold (Some (Build names)) old new before after result = result ≡ 1 → BuildTells (build_for names.chip) names old new before after
 HasTold (Some (Trace asked)) old new before after result = GivesUp result ⊎ TraceTells asked old before after result
 HasTold (Some (Agree asked)) old new before after result = agreement.AgreementTells RunsTell asked old before after result
 HasTold (Some (Check hex)) old new before after result = CheckTells hex old before after result
@@ -141,19 +140,20 @@ HasTold (Some (Simulate asked)) old new before after result = Unit {0}
 HasTold (Some (Generate functions)) old new before after result = result ≡ 0 → GenerationTells functions
 
 -- ---- without a fault and with memory enough, each command ends as it is to end
--- some refusal holds of the text, by what the build accepts
-abbrev pub IsRefusedTextBy : builds.Build → List ℕ → Type 0
-IsRefusedTextBy b text = (refusal : Refusal) × TellsBy b.RefusesFirst text refusal
-
+-- some refusal holds of the text
 abbrev pub IsRefusedText : List ℕ → Type 0
-IsRefusedText = IsRefusedTextBy plain
+IsRefusedText text = (refusal : Refusal) × Tells text refusal
+
+-- it isn't built, for some reason
+abbrev pub IsRefusedTextBy : builds.Build → List ℕ → Type 0
+IsRefusedTextBy b text = (why : Outcome) × TellsWhyBy b text why
 
 -- An accepted text is built, and one that is refused for some reason isn't. Unless memory runs out one of the two comes, and the status
 -- says which.
 pub record BuildCompletes (b : builds.Build) (names : Names) (old : Contents) (result : ℕ) : Type 0 where
   pub ends : (text : List ℕ) → old names.input ≡ Some text → ((result ≡ 0) × IsAcceptedBy b.Accepts text) ⊎ (((result ≡ 1) × IsRefusedTextBy b text) ⊎ (result ≡ 9))
   pub accepted : (text : List ℕ) → old names.input ≡ Some text → IsAcceptedBy b.Accepts text → (result ≡ 0) ⊎ (result ≡ 9)
-  pub refused : (text : List ℕ) (refusal : Refusal) → old names.input ≡ Some text → TellsBy b.RefusesFirst text refusal → (result ≡ 1) ⊎ (result ≡ 9)
+  pub refused : (text : List ℕ) (why : Outcome) → old names.input ≡ Some text → TellsWhyBy b text why → (result ≡ 1) ⊎ (result ≡ 9)
 
 -- The status says that the text is accepted, or that it is refused, and that there is a script; or that there is none.
 abbrev pub ReadsEnd : List ℕ → List ℕ → ℕ → Type 0
@@ -177,7 +177,7 @@ pub record AgreementCompletes (asked : Compared) (old : Contents) (result : ℕ)
 
 abbrev pub Completes : Option Form → Contents → ℕ → Type 0
 Completes None old result = (result ≡ 2) ⊎ (result ≡ 9)
-Completes (Some (Build names)) old result = BuildCompletes plain names old result
+Completes (Some (Build names)) old result = BuildCompletes (build_for names.chip) names old result
 Completes (Some (Trace asked)) old result = TraceCompletes asked old result
 Completes (Some (Simulate asked)) old result = SimulationCompletes asked old result
 Completes (Some (Agree asked)) old result = AgreementCompletes asked old result

@@ -8,7 +8,7 @@ use Rattle.src_values.specs.declared.objects.Undef.{Undef}
 use Rattle.src_values.specs.declared.objects.Undef.TheVariants as undef
 
 abbrev pub usage_line : List ℕ
-usage_line = codes "usage: picc build IN OUT MAP | trace IN SCRIPT M | sim HEX MAP SCRIPT N | agree IN SCRIPT N | gen K | check HEX" ++ 10 ∷ []
+usage_line = codes "usage: picc build IN OUT MAP | trace IN SCRIPT M | sim HEX MAP SCRIPT N | agree IN SCRIPT N | gen K | check HEX | build84 IN OUT MAP | sim84 HEX MAP SCRIPT N" ++ 10 ∷ []
 
 abbrev pub cannot_read : List ℕ → List ℕ
 cannot_read name = codes "cannot read " ++ (name ++ 10 ∷ [])

@@ -4,6 +4,7 @@ use Rattle.c_tables.specs.declared.error.Kind.{Kind}
 use Rattle.c_tables.specs.declared.error.Kind.TheVariants as kinds
 use Rattle.c_typed.specs.declared.program.RootKind.{RootKind}
 use Rattle.c_typed.specs.declared.program.RootKind.TheVariants as roots
+use Rattle.picc_cli.specs.Lines.{located}
 use Rattle.picc_core.specs.declared.refusal.LimitKind.{LimitKind}
 use Rattle.picc_core.specs.declared.refusal.LimitKind.TheVariants as limits
 use Rattle.picc_core.specs.declared.refusal.Refusal.{Refusal}
@@ -92,3 +93,7 @@ place_text (Some line) = codes ":" ++ decimal line
 abbrev pub refusal_line : List ℕ → Refusal → List ℕ
 refusal_line name refusal =
     name ++ place_text (line_of refusal) ++ codes ": error " ++ decimal (number_of refusal) ++ codes ": " ++ text_of refusal ++ 10 ∷ []
+
+-- the line for a device register that the chip doesn't have
+abbrev pub register_line : List ℕ → ℕ → List ℕ
+register_line name line = located name line (codes "error 13: register")

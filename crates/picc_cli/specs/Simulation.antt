@@ -5,16 +5,24 @@ use Rattle.host_io.specs.Host.{Contents, PrintsPrefix}
 use Rattle.pic_world.specs.Arrivals.{arriving}
 use Rattle.pic_world.specs.declared.Event.{Event}
 use Rattle.pic_chip.specs.declared.Start.{Start}
+use Rattle.pic_chip.specs.declared.profile.Profile.{Profile}
+use Rattle.pic_chip.specs.declared.profile.Profile.TheVariants.{Pic16F877a, Pic16F84a}
 use Rattle.pic_chip.specs.Machine.{Machine}
-use Rattle.pic_chip.specs.Run.{Setting, moment}
-use Rattle.pic_chip.specs.State.{reset}
+use Rattle.pic_chip.specs.Run.{Moment, Setting, moment}
+use Rattle.pic_chip.specs.State.{State, reset}
 use Rattle.pic_map.specs.MapContent.{MapContent, watch_of}
 use Rattle.pic_map.specs.Tracing.{Tracing, looked}
 use Rattle.pic_sim.specs.Board.{Lists, Followed}
-use Rattle.pic_sim.specs.Going.{HasBytes, HasMasks, Known, Went}
+use Rattle.pic_sim.specs.Going.{HasBytes, HasMasksBy, Known, WentBy}
+use Rattle.pic_sim.specs.Kind as kinds
+use Rattle.pic_sim.specs.Kind.{Kind}
 use Rattle.pic_sim.specs.declared.board.Exchange.{Exchange}
 use Rattle.pic_sim.specs.declared.running.SimEnd.{SimEnd}
 use Rattle.pic_sim.specs.declared.running.SimEnd.TheVariants as sim
+use Rattle.chip_84a.specs.Machine as second
+use Rattle.chip_84a.specs.Run as second_run
+use Rattle.chip_84a.specs.Simulated as second_kind
+use Rattle.chip_84a.specs.declared.Start84.{Start84}
 use Rattle.schedule.specs.ScriptFile.{ScriptContent}
 use Rattle.picc_cli.specs.declared.simulating.Ended.{Ended}
 use Rattle.picc_cli.specs.declared.simulating.Ended.TheVariants.{Done, Unmodelled, NoHex, NoMap, NoScript, CannotPrint, NoMemory}
@@ -27,13 +35,6 @@ use Rattle.picc_cli.specs.ScriptInput.{IsFile}
 use Rattle.picc_cli.specs.Trace.{AllShown}
 
 -- ---- the run
--- the chip after a reset, where all that is unknown then is 0
-abbrev pub zeros : Start
-zeros = record { w = 0; fsr = 0; flags = 0; ram = replicate 368 0 }
-
-abbrev pub first_chip : Machine
-first_chip = record { state = reset zeros; index = 0 }
-
 -- what is remembered at the first moment, at which the program counter is 0
 abbrev pub first_look : MapContent → Tracing
 first_look map = looked 0 (record { watch = watch_of map; met = false; ended = false })
@@ -46,15 +47,15 @@ pub record IsFed (script : ScriptContent) (before fed : Known) : Type 0 where
   pub same_lists : fed.lists ≡ before.lists
   pub follows : IsSome before.follows → fed.follows ≡ Some (record { input = script.input; arrivals = script.arrivals })
 
--- The run of so many instructions of this image, from a reset, over a board that was fed this script: the events by the map,
--- the board as it was left, and how the run ended. What such a run is, pic_sim defines; a law there says that it is the run from
--- reset of the chip's own definitions.
-pub record IsRun (image : List ℕ) (map : MapContent) (script : ScriptContent) (n : ℕ) (before now : Known) (events : List Event) (end : SimEnd) : Type 0 where
+-- The run of so many instructions of this image, on a chip of this kind from a reset, over a board that was fed this script: the events
+-- by the map, the board as it was left, and how the run ended. What such a run is, pic_sim defines; a law of each kind of chip says that
+-- it is the run from reset of the chip's own definitions.
+pub record IsRunBy (kind : Kind) (start : State) (image : List ℕ) (map : MapContent) (script : ScriptContent) (n : ℕ) (before now : Known) (events : List Event) (end : SimEnd) : Type 0 where
   pub fed : Known
   pub is_fed : IsFed script before fed
   pub chip : Machine
   pub tracing : Tracing
-  pub went : Went image n (record { chip = first_chip; tracing = first_look map; events = []; board = fed }) (record { chip = chip; tracing = tracing; events = events; board = now }) end
+  pub went : WentBy kind image n (record { chip = record { state = start; index = 0 }; tracing = first_look map; events = []; board = fed }) (record { chip = chip; tracing = tracing; events = events; board = now }) end
 
 -- ---- chips
 -- What a simulation is said by: the run of an image over a board, and its stop and its trace by the chip's own definitions.
@@ -65,6 +66,17 @@ pub record Simulator : Type 1 where
   pub stops : List ℕ → MapContent → ScriptContent → ℕ → Bool
   -- its trace at this moment
   pub trace : List ℕ → MapContent → ScriptContent → ℕ → List Event
+  -- how many masks of flags differ
+  pub masks : ℕ
+
+-- a chip of this kind that begins so, and the moments of its run from there by its own definitions, with these input bytes and arrivals
+abbrev pub simulator_by : Kind → State → (List ℕ → MapContent → ScriptContent → ℕ → Moment) → Simulator
+simulator_by kind start moments = record {
+  Ran = IsRunBy kind start;
+  stops = λ image map script n. (moments image map script n).stopped;
+  trace = λ image map script n. (moments image map script n).trace;
+  masks = kind.masks;
+}
 
 -- ---- what was printed of it
 -- the lines of all its events
@@ -140,14 +152,14 @@ KnowsBy s asked old before now (NoScript end) p q = LacksScript asked old (HasNo
 
 -- ---- whether the run stops
 -- From that reset on the board has answered as this script has it: its lists have grown by the next input bytes, and by the flags that
--- arrive at each index.
-pub record Answers (script : ScriptContent) (before now : Known) : Type 0 where
+-- arrive at each index, as far as so many masks differ.
+pub record Answers (count : ℕ) (script : ScriptContent) (before now : Known) : Type 0 where
   pub given : List Exchange
   pub raised : List ℕ
   pub given_now : now.lists.given ≡ before.lists.given ++ given
   pub raised_now : now.lists.raised ≡ before.lists.raised ++ raised
   pub bytes : HasBytes script.input 0 given
-  pub masks : HasMasks (arriving script.arrivals) 0 raised
+  pub masks : HasMasksBy count (arriving script.arrivals) 0 raised
 
 -- The status of a run that stops within its instructions, and of one that doesn't, where neither a fault nor want of memory ends it.
 abbrev pub ComesBy : Bool → ℕ → Type 0
@@ -159,7 +171,7 @@ pub record StopsAsRunBy (s : Simulator) (asked : Simulated) (old : Contents) (be
   -- the run by the script that the answers of the board are, whichever board it is,
   pub answered : (image : List ℕ) (map : MapContent) (script answers : ScriptContent)
       → IsFile old asked.hex (IsHexInput image) → IsFile old asked.map (IsMapInput map) → IsFile old asked.script (IsScriptInput script)
-      → Answers answers before now → ComesBy (s.stops image map answers asked.instructions) result
+      → Answers s.masks answers before now → ComesBy (s.stops image map answers asked.instructions) result
   -- and of a board that follows scripts, and has given no byte before, the run by the script of the file
   pub followed : (image : List ℕ) (map : MapContent) (script : ScriptContent)
       → IsFile old asked.hex (IsHexInput image) → IsFile old asked.map (IsMapInput map) → IsFile old asked.script (IsScriptInput script)
@@ -185,7 +197,7 @@ pub record PrintsAsRunBy (s : Simulator) (asked : Simulated) (old : Contents) (b
   -- the trace of the run by the script that the answers of the board are, whichever board it is,
   pub answered : (image : List ℕ) (map : MapContent) (script answers : ScriptContent)
       → IsFile old asked.hex (IsHexInput image) → IsFile old asked.map (IsMapInput map) → IsFile old asked.script (IsScriptInput script)
-      → ran_whole ended ≡ true → Answers answers before now → PrintsTraceBy s image map answers asked.instructions p middle
+      → ran_whole ended ≡ true → Answers s.masks answers before now → PrintsTraceBy s image map answers asked.instructions p middle
   -- and of a board that follows scripts, and has given no byte before, of the run by the script of the file
   pub followed : (image : List ℕ) (map : MapContent) (script : ScriptContent)
       → IsFile old asked.hex (IsHexInput image) → IsFile old asked.map (IsMapInput map) → IsFile old asked.script (IsScriptInput script)
@@ -203,43 +215,54 @@ pub record SimulationTellsBy (s : Simulator) (asked : Simulated) (old : Contents
   pub traces : PrintsAsRunBy s asked old before now ended p middle
 
 -- ---- the PIC16F877A
--- the run from the same reset by the chip's own definitions, with these input bytes and arrivals
+-- the chip after a reset, where all that is unknown then is 0
+abbrev pub zeros : Start
+zeros = record { w = 0; fsr = 0; flags = 0; ram = replicate 368 0 }
+
 abbrev pub run_by : List ℕ → MapContent → ScriptContent → Setting
 run_by image map script = record { image = image; watch = watch_of map; start = zeros; inputs = script.input; arrivals = script.arrivals }
 
--- within so many instructions it comes to SLEEP, or to a word without a row
-abbrev pub stops_within : List ℕ → MapContent → ScriptContent → ℕ → Bool
-stops_within image map script n = (moment (run_by image map script) n).stopped
+abbrev pub first_moments : List ℕ → MapContent → ScriptContent → ℕ → Moment
+first_moments image map script = moment (run_by image map script)
 
 abbrev pub pic16f877a : Simulator
-pic16f877a = record { Ran = IsRun; stops = stops_within; trace = λ image map script n. (moment (run_by image map script) n).trace }
+pic16f877a = simulator_by kinds.first (reset zeros) first_moments
 
-abbrev pub PrintsRun : List ℕ → MapContent → ScriptContent → ℕ → Known → Known → SimEnd → Option (List ℕ) → Option (List ℕ) → Type 0
-PrintsRun = PrintsRunBy pic16f877a
+-- ---- the PIC16F84A
+abbrev pub second_zeros : Start84
+second_zeros = record { w = 0; fsr = 0; flags = 0; ram = replicate 68 0 }
 
-abbrev pub BreaksRun : List ℕ → MapContent → ScriptContent → ℕ → Known → Known → Option (List ℕ) → Option (List ℕ) → Type 0
-BreaksRun = BreaksRunBy pic16f877a
+abbrev pub second_run_by : List ℕ → MapContent → ScriptContent → second_run.Setting
+second_run_by image map script = record { image = image; watch = watch_of map; start = second_zeros; inputs = script.input; arrivals = script.arrivals }
 
-abbrev pub Runs : List ℕ → MapContent → ScriptContent → ℕ → Known → Known → Ended → Option (List ℕ) → Option (List ℕ) → Type 0
-Runs = RunsBy pic16f877a
+abbrev pub second_moments : List ℕ → MapContent → ScriptContent → ℕ → Moment
+second_moments image map script = second_run.moment (second_run_by image map script)
+
+abbrev pub pic16f84a : Simulator
+pic16f84a = simulator_by second_kind.second (second.reset second_zeros) second_moments
+
+-- ---- the chip that is asked for
+abbrev pub simulator_of : Profile → Simulator
+simulator_of Pic16F877a = pic16f877a
+simulator_of Pic16F84a = pic16f84a
+
+abbrev pub Runs : Profile → List ℕ → MapContent → ScriptContent → ℕ → Known → Known → Ended → Option (List ℕ) → Option (List ℕ) → Type 0
+Runs chip = RunsBy (simulator_of chip)
 
 abbrev pub Simulates : Simulated → Contents → Known → Known → Ended → Option (List ℕ) → Option (List ℕ) → Type 0
-Simulates = SimulatesBy pic16f877a
+Simulates asked = SimulatesBy (simulator_of asked.chip) asked
 
 abbrev pub Knows : Simulated → Contents → Known → Known → Ended → Option (List ℕ) → Option (List ℕ) → Type 0
-Knows = KnowsBy pic16f877a
+Knows asked = KnowsBy (simulator_of asked.chip) asked
 
 abbrev pub StopsAsRun : Simulated → Contents → Known → Known → ℕ → Type 0
-StopsAsRun = StopsAsRunBy pic16f877a
-
-abbrev pub PrintsTrace : List ℕ → MapContent → ScriptContent → ℕ → Option (List ℕ) → Option (List ℕ) → Type 0
-PrintsTrace = PrintsTraceBy pic16f877a
+StopsAsRun asked = StopsAsRunBy (simulator_of asked.chip) asked
 
 abbrev pub PrintsAsRun : Simulated → Contents → Known → Known → Ended → Option (List ℕ) → Option (List ℕ) → Type 0
-PrintsAsRun = PrintsAsRunBy pic16f877a
+PrintsAsRun asked = PrintsAsRunBy (simulator_of asked.chip) asked
 
 abbrev pub SimulationTells : Simulated → Contents → Known → Known → Option (List ℕ) → Option (List ℕ) → ℕ → Type 0
-SimulationTells = SimulationTellsBy pic16f877a
+SimulationTells asked = SimulationTellsBy (simulator_of asked.chip) asked
 
 -- ---- forms
 -- of the other forms this says nothing
@@ -247,7 +270,7 @@ abbrev pub HasSimulated : Option Form → Contents → Known → Known → Optio
 HasSimulated None old before now p q result = Unit {0}
 HasSimulated (Some (Build names)) old before now p q result = Unit {0}
 HasSimulated (Some (Trace asked)) old before now p q result = Unit {0}
-HasSimulated (Some (Simulate asked)) old before now p q result = SimulationTellsBy pic16f877a asked old before now p q result
+HasSimulated (Some (Simulate asked)) old before now p q result = SimulationTells asked old before now p q result
 HasSimulated (Some (Agree asked)) old before now p q result = Unit {0}
 HasSimulated (Some (Generate functions)) old before now p q result = Unit {0}
 HasSimulated (Some (Check hex)) old before now p q result = Unit {0}

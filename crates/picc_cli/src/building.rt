@@ -1,4 +1,4 @@
-//! The form `build`: from the files' names to an exit status.
+//! The forms `build` and `build84`: from the files' names to an exit status.
 
 ghost use Rattle.std.specs.Prelude.{◌≡◌, ◌⊎◌, IfOk, IfErr, IfSome, Some};
 ghost use Rattle.hex_image.specs.HexFile.{IsHexFile};
@@ -10,18 +10,22 @@ ghost use Rattle.pic_map.specs.MapView.{content_of};
 ghost use Rattle.picc_cli.specs.Command.{Build};
 ghost use Rattle.picc_cli.specs.CommandView.{names_of};
 ghost use Rattle.picc_cli.specs.Finished.{HasFiles, HasFaults, HasStatus, HasPrinted, HasTold, IsComplete};
-ghost use Rattle.picc_cli.specs.Made.{HasMade, IsMade};
+ghost use Rattle.picc_cli.specs.Made.{HasMade, PassesMade, files_for};
+ghost use Rattle.pic_chip.specs.declared.profile.Profile.TheVariants.{Pic16F877a};
+ghost use Rattle.picc_core.specs.Compiled.{IsCompiledBy, plain};
+ghost use Rattle.picc_core.specs.SecondChip.{second};
 ghost use Rattle.picc_cli.specs.declared.building.Outcome.TheVariants as outcomes;
-ghost use Rattle.picc_cli.specs.Outcome.{TellsWhy, WorkedOn, FailsWithoutInput, is_fault, line_of, status_of};
+ghost use Rattle.picc_cli.specs.Outcome.{TellsWhyBy, WorkedOn, build_for, FailsWithoutInput, is_fault, line_of, status_of};
 ghost use Rattle.host_lines.specs.Said.{Says, HasOutcomeCause};
 
 use crate::command::Files;
-use crate::say::say_refusal;
+use crate::say::{say_located, say_refusal};
 use hex_image::write_hex;
 use host_io::{Host, HostError, read_whole, write_whole};
 use host_lines::say;
+use pic_chip::Profile;
 use pic_map::write_map;
-use picc_core::{Built as Program, CompileError, Refusal, compile};
+use picc_core::{Built as Program, Compile84Error, CompileError, Refusal, compile, compile84};
 use std::alloc::{AllocError, Global};
 
 /// The longest C text, in bytes.
@@ -39,6 +43,8 @@ struct Texts {
 pub enum Outcome {
     Built,
     Refused(Refusal),
+    /// The text names on this line a device register that the chip doesn't have.
+    Register { line: u32 },
     CannotRead,
     CannotWriteHex,
     CannotWriteMap,
@@ -74,6 +80,17 @@ fn report<H: Host>(alloc: Global, host: &mut H, files: Files<'_>, outcome: Outco
         Outcome::Built => 0,
         Outcome::NoMemory => 9,
         Outcome::Refused(refusal) => say_refusal(alloc, host, files.input, &refusal),
+        Outcome::Register { line } => {
+            say_located(
+                alloc,
+                host,
+                1,
+                files.input,
+                line,
+                b"error 13: ",
+                b"register",
+            )
+        }
         Outcome::CannotRead => say(host, 3, "cannot read ", files.input, "\n"),
         Outcome::CannotWriteHex => say(host, 3, "cannot write ", files.output, "\n"),
         Outcome::CannotWriteMap => say(host, 3, "cannot write ", files.map, "\n"),
@@ -93,16 +110,50 @@ fn texts_of(alloc: Global, program: &Program) -> Result<Texts, AllocError>
     Ok(Texts { hex, map })
 }
 
-/// The files of a text, or why there are none.
-fn made(alloc: Global, text: &[u8]) -> Result<Texts, Outcome>
-    ensures made { IfOk result (λ texts. IsMade text.now texts.hex.items texts.map.items) }
-    ensures why { IfErr result (λ why. (why ≡ outcomes.NoMemory) ⊎ TellsWhy text.now why) }
+/// The program of a text, or why there is none.
+fn compiled_first(alloc: Global, text: &[u8]) -> Result<Program, Outcome>
+    ensures whole { IfOk result (IsCompiledBy plain text.now) }
+    ensures made { IfOk result (PassesMade Pic16F877a) }
+    ensures why { IfErr result (λ why. (why ≡ outcomes.NoMemory) ⊎ TellsWhyBy plain text.now why) }
 {
-    let program = match compile(alloc, text) {
-        Ok(program) => program,
-        Err(CompileError::NoMemory) => return Err(Outcome::NoMemory),
-        Err(CompileError::Refused(refusal)) => return Err(Outcome::Refused(refusal)),
-    };
+    match compile(alloc, text) {
+        Ok(program) => Ok(program),
+        Err(CompileError::NoMemory) => Err(Outcome::NoMemory),
+        Err(CompileError::Refused(refusal)) => Err(Outcome::Refused(refusal)),
+    }
+}
+
+/// The same for the second chip.
+fn compiled_second(alloc: Global, text: &[u8]) -> Result<Program, Outcome>
+    ensures whole { IfOk result (IsCompiledBy second text.now) }
+    ensures why { IfErr result (λ why. (why ≡ outcomes.NoMemory) ⊎ TellsWhyBy second text.now why) }
+{
+    match compile84(alloc, text) {
+        Ok(program) => Ok(program),
+        Err(Compile84Error::NoMemory) => Err(Outcome::NoMemory),
+        Err(Compile84Error::Refused(refusal)) => Err(Outcome::Refused(refusal)),
+        Err(Compile84Error::Register { line }) => Err(Outcome::Register { line }),
+    }
+}
+
+/// The program of a text for a chip, or why there is none.
+fn compiled(alloc: Global, text: &[u8], chip: Profile) -> Result<Program, Outcome>
+    ensures whole { IfOk result (IsCompiledBy (build_for chip) text.now) }
+    ensures made { IfOk result (PassesMade chip) }
+    ensures why { IfErr result (λ why. (why ≡ outcomes.NoMemory) ⊎ TellsWhyBy (build_for chip) text.now why) }
+{
+    match chip {
+        Profile::Pic16F877a => compiled_first(alloc, text),
+        Profile::Pic16F84a => compiled_second(alloc, text),
+    }
+}
+
+/// The files of a text, or why there are none.
+fn made(alloc: Global, text: &[u8], chip: Profile) -> Result<Texts, Outcome>
+    ensures made { IfOk result (λ texts. files_for chip text.now texts.hex.items texts.map.items) }
+    ensures why { IfErr result (λ why. (why ≡ outcomes.NoMemory) ⊎ TellsWhyBy (build_for chip) text.now why) }
+{
+    let program = compiled(alloc, text, chip)?;
     match texts_of(alloc, &program) {
         Ok(texts) => Ok(texts),
         Err(_) => Err(Outcome::NoMemory),
@@ -115,7 +166,7 @@ fn run<H: Host>(alloc: Global, host: &mut H, files: Files<'_>) -> Outcome
     ensures closed { H.open_file host.new ≡ Closed }
     ensures same_kind { H.kind host.new ≡ H.kind host.old }
     ensures same_printed { H.printed host.new ≡ H.printed host.old }
-    ensures files { IfSome (H.contents host.old) (λ old. WorkedOn IsMade result (names_of files.entry) old (H.contents host.new)) }
+    ensures files { IfSome (H.contents host.old) (λ old. WorkedOn (files_for files.entry.chip) result (names_of files.entry) old (H.contents host.new)) }
     ensures cause { HasOutcomeCause (H.kind host.old) (H.faults host.old) (H.faults host.new) (is_fault result) }
     ensures sound { FailsWithoutInput (H.kind host.old) (H.contents host.old) files.entry.input.now result }
 {
@@ -124,7 +175,7 @@ fn run<H: Host>(alloc: Global, host: &mut H, files: Files<'_>) -> Outcome
         Err(HostError::Failed) => return Outcome::CannotRead,
         Err(HostError::NoMemory) => return Outcome::NoMemory,
     };
-    let built = match made(alloc, &text) {
+    let built = match made(alloc, &text, files.chip) {
         Ok(built) => built,
         Err(outcome) => return outcome,
     };

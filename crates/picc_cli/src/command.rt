@@ -8,11 +8,13 @@ ghost use Rattle.picc_cli.specs.Clap.{words_found};
 
 use crate::parsing::{all_names, parsed};
 use clap::ArgMatches;
+use pic_chip::Profile;
 use std::alloc::{AllocError, Global};
 
-/// The files of a build: the C text that is read, and the HEX and the map that are written.
+/// A build: the chip that it is for, the C text that is read, and the HEX and the map that are written.
 #[derive(Clone, Copy)]
 pub struct Files<'a> {
+    pub chip: Profile,
     pub input: &'a str,
     pub output: &'a str,
     pub map: &'a str,
@@ -26,9 +28,10 @@ pub struct Asked<'a> {
     pub steps: u32,
 }
 
-/// What is simulated: the HEX, its map and the script that are read, and how many instructions are run.
+/// What is simulated: the chip, the HEX, its map and the script that are read, and how many instructions are run.
 #[derive(Clone, Copy)]
 pub struct Simulated<'a> {
+    pub chip: Profile,
     pub hex: &'a str,
     pub map: &'a str,
     pub script: &'a str,
@@ -43,7 +46,7 @@ pub struct Compared<'a> {
     pub instructions: u32,
 }
 
-/// A command of one of the six forms.
+/// A command of one of the eight forms: those of a build and of a simulation say for which chip.
 #[derive(Clone, Copy)]
 pub enum Command<'a> {
     Build(Files<'a>),
@@ -68,10 +71,10 @@ const MOST_COMPARED: u32 = 100_000;
 /// The largest program that can be generated.
 const LARGEST: u32 = 64;
 
-/// The command `build IN OUT MAP`, `trace IN SCRIPT M`, `sim HEX MAP SCRIPT N`, `agree IN SCRIPT N`, `gen K` or
-/// `check HEX`, or `None` where the words are of no form. No word is empty or begins with `-`, and the three names of a build differ. A
-/// number is one to ten decimal digits: M and the N of `sim` are at most 1,000,000, the N of `agree` is at most 100,000,
-/// and K is 1 to 64. `Err` is out of memory.
+/// The command `build IN OUT MAP`, `trace IN SCRIPT M`, `sim HEX MAP SCRIPT N`, `agree IN SCRIPT N`, `gen K`, `check HEX`,
+/// `build84 IN OUT MAP` or `sim84 HEX MAP SCRIPT N`, or `None` where the words are of no form. No word is empty or begins with `-`, and
+/// the three names of a build differ. A number is one to ten decimal digits: M and the N of `sim` and `sim84` are at most 1,000,000, the
+/// N of `agree` is at most 100,000, and K is 1 to 64. `Err` is out of memory.
 pub fn command_of(alloc: Global, words: &[String]) -> Result<Option<Command<'_>>, AllocError>
     ensures { IfOk result (λ command. option_map form_view command ≡ form_of (words_of words.now)) }
 {
@@ -103,13 +106,13 @@ fn command_in<'a>(name: &str, values: &[&'a str]) -> Option<Command<'a>>
     ensures { option_map form_view result ≡ form_by_name (name.now ∷ map (λ v. v.now) values.now) }
 {
     if name == "build" {
-        return build_in(values);
+        return build_in(Profile::Pic16F877a, values);
     }
     if name == "trace" {
         return trace_in(values);
     }
     if name == "sim" {
-        return simulate_in(values);
+        return simulate_in(Profile::Pic16F877a, values);
     }
     if name == "agree" {
         return agree_in(values);
@@ -120,16 +123,23 @@ fn command_in<'a>(name: &str, values: &[&'a str]) -> Option<Command<'a>>
     if name == "check" {
         return check_in(values);
     }
+    if name == "build84" {
+        return build_in(Profile::Pic16F84a, values);
+    }
+    if name == "sim84" {
+        return simulate_in(Profile::Pic16F84a, values);
+    }
     None
 }
 
-fn build_in<'a>(values: &[&'a str]) -> Option<Command<'a>>
-    ensures { option_map form_view result ≡ stated.build_of (map (λ v. v.now) values.now) }
+fn build_in<'a>(chip: Profile, values: &[&'a str]) -> Option<Command<'a>>
+    ensures { option_map form_view result ≡ stated.build_of chip (map (λ v. v.now) values.now) }
 {
     let [input, output, map] = values else {
         return None;
     };
     let files = Files {
+        chip,
         input: *input,
         output: *output,
         map: *map,
@@ -155,14 +165,15 @@ fn trace_in<'a>(values: &[&'a str]) -> Option<Command<'a>>
     }))
 }
 
-fn simulate_in<'a>(values: &[&'a str]) -> Option<Command<'a>>
-    ensures { option_map form_view result ≡ stated.simulate_of (map (λ v. v.now) values.now) }
+fn simulate_in<'a>(chip: Profile, values: &[&'a str]) -> Option<Command<'a>>
+    ensures { option_map form_view result ≡ stated.simulate_of chip (map (λ v. v.now) values.now) }
 {
     let [hex, map, script, instructions] = values else {
         return None;
     };
     let instructions = number_in(*instructions, MOST_SIMULATED)?;
     Some(Command::Simulate(Simulated {
+        chip,
         hex: *hex,
         map: *map,
         script: *script,

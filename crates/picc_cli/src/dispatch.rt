@@ -22,7 +22,7 @@ use pic_sim::Board;
 use std::alloc::Global;
 
 const USAGE: &str =
-    "usage: picc build IN OUT MAP | trace IN SCRIPT M | sim HEX MAP SCRIPT N | agree IN SCRIPT N | gen K | check HEX\n";
+    "usage: picc build IN OUT MAP | trace IN SCRIPT M | sim HEX MAP SCRIPT N | agree IN SCRIPT N | gen K | check HEX | build84 IN OUT MAP | sim84 HEX MAP SCRIPT N\n";
 
 /// Runs the command of these words, which are those after the program's name, over a host on which no file is open.
 /// The answer is the exit status: 0 where the command did what its form says, 1 where the C text is refused, 2 where the words
@@ -30,14 +30,14 @@ const USAGE: &str =
 /// map or a script is none, 6 where a simulation comes to SLEEP or to a word that is no instruction's, 7 where no certificate of
 /// the return stack's depth is valid for an image, 9 when out of memory.
 ///
-/// The forms are six. `build IN OUT MAP` compiles the C text of IN, writes the HEX to OUT and then the map to
-/// MAP, and prints nothing. No file is created before all else has succeeded. `trace IN SCRIPT M` runs the C text of IN by
-/// the language's own rules, for at most M steps, with what the script of SCRIPT lets in from outside, and prints the line
-/// of each event. `sim HEX MAP SCRIPT N` runs the HEX on the chip for N instructions over the board, which is fed the script,
-/// and prints the line of each event by the names of the map. `agree IN SCRIPT N` compares the runs of the chip and of the
-/// source, and prints on how many events they agree. `gen K` prints a program of K functions, and its sizes. `check HEX`
-/// prints how deep the return stack becomes at most under the program of the HEX. But for `build`, no file is created or changed; but for
-/// `sim`, the board is left as it was.
+/// The forms are eight. `build IN OUT MAP` compiles the C text of IN for the PIC16F877A, writes the HEX to OUT and then the map to
+/// MAP, and prints nothing; `build84 IN OUT MAP` does so for the PIC16F84A. No file is created before all else has succeeded.
+/// `trace IN SCRIPT M` runs the C text of IN by the language's own rules, for at most M steps, with what the script of SCRIPT lets in
+/// from outside, and prints the line of each event. `sim HEX MAP SCRIPT N` runs the HEX on the PIC16F877A for N instructions over the
+/// board, which is fed the script, and prints the line of each event by the names of the map; `sim84 HEX MAP SCRIPT N` does so on the
+/// PIC16F84A. `agree IN SCRIPT N` compares the runs of the chip and of the source, and prints on how many events they agree. `gen K`
+/// prints a program of K functions, and its sizes. `check HEX` prints how deep the return stack becomes at most under the program of
+/// the HEX. But for `build` and `build84`, no file is created or changed; but for `sim` and `sim84`, the board is left as it was.
 pub fn picc<H: Host>(
     alloc: Global,
     words: &[String],
@@ -48,8 +48,9 @@ pub fn picc<H: Host>(
     ensures closed { H.open_file host.new ≡ Closed }
     ensures same_kind { H.kind host.new ≡ H.kind host.old }
 
-    // With status 0 of a build what the HEX does on the chip is what the text's typed program says; with status 1 all files are as
-    // they were, and a refusal holds of the text. All other commands leave all files as they were.
+    // With status 0 of a build what the HEX does on the build's chip is what the text's typed program says; with status 1 all files are
+    // as they were, and a refusal holds of the text, or it names a register that the chip doesn't have. All other commands leave all
+    // files as they were.
     ensures files { IfSome (H.contents host.old) (λ old. HasFiles (form_of (words_of words.now)) old (H.contents host.new) result) }
     ensures faults { HasFaults (H.kind host.old) (H.faults host.old) (H.faults host.new) (form_of (words_of words.now)) (H.contents host.old) result }
     ensures status { HasStatus (form_of (words_of words.now)) result }

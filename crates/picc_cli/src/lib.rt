@@ -1,4 +1,4 @@
-//! The commands of `picc`: they compile C for the PIC16F877A, and run such programs.
+//! The commands of `picc`: they compile C for the PIC16F877A and the PIC16F84A, and run such programs.
 //!
 //! In: the words of the command line, a host with files by name, and a board around the chip. Out: files, printed lines and
 //! an exit status.

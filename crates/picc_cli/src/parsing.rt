@@ -40,7 +40,7 @@ pub fn all_names(words: &[String]) -> bool
     true
 }
 
-/// Parses words by one command with six subcommands, whose arguments are all positional texts: the subcommand's name and
+/// Parses words by one command with eight subcommands, whose arguments are all positional texts: the subcommand's name and
 /// the words after it, or `None` where they are of no form. `Err` is out of memory.
 pub fn parsed<'a>(alloc: Global, words: &'a [String]) -> Result<Option<ArgMatches<'a>>, AllocError>
     requires { list_all stated.is_name (words_of words.now) ≡ true }
@@ -64,6 +64,8 @@ fn forms<'a>(alloc: Global) -> Result<clap::Command<'a>, AllocError>
     let agree = agree(alloc)?;
     let generate = generate(alloc)?;
     let check = check(alloc)?;
+    let build84 = build84(alloc)?;
+    let simulate84 = simulate84(alloc)?;
     clap::Command::new(alloc, "picc")
         .no_binary_name(true)
         .disable_help_flag(true)
@@ -73,10 +75,12 @@ fn forms<'a>(alloc: Global) -> Result<clap::Command<'a>, AllocError>
         .subcommand(simulate)?
         .subcommand(agree)?
         .subcommand(generate)?
-        .subcommand(check)
+        .subcommand(check)?
+        .subcommand(build84)?
+        .subcommand(simulate84)
 }
 
-// ---- the six forms, each with the names of its places
+// ---- the eight forms, each with the names of its places
 fn build<'a>(alloc: Global) -> Result<clap::Command<'a>, AllocError>
     ensures { IfOk result (IsSubcommand (codes "build") 3) }
 {
@@ -111,6 +115,18 @@ fn check<'a>(alloc: Global) -> Result<clap::Command<'a>, AllocError>
     ensures { IfOk result (IsSubcommand (codes "check") 1) }
 {
     subcommand(alloc, "check", &["HEX"])
+}
+
+fn build84<'a>(alloc: Global) -> Result<clap::Command<'a>, AllocError>
+    ensures { IfOk result (IsSubcommand (codes "build84") 3) }
+{
+    subcommand(alloc, "build84", &["IN", "OUT", "MAP"])
+}
+
+fn simulate84<'a>(alloc: Global) -> Result<clap::Command<'a>, AllocError>
+    ensures { IfOk result (IsSubcommand (codes "sim84") 4) }
+{
+    subcommand(alloc, "sim84", &["HEX", "MAP", "SCRIPT", "N"])
 }
 
 /// The subcommand of this name, with a word for each of these places.

@@ -1,4 +1,4 @@
-//! The form `sim`: from the files' names and a board to an exit status.
+//! The forms `sim` and `sim84`: from the files' names and a board to an exit status.
 
 ghost use Rattle.std.specs.Prelude.{◌≡◌, ◌≤◌, ◌+◌, ◌*◌, ◌++◌, [], true, false, length, option_map, IsTrue, IfOk, IfSome, OnOk, OnErr, Some};
 ghost use Rattle.host_io.specs.Host.{Closed, HasCause, NoFailure, PrintsPrefix};
@@ -9,7 +9,7 @@ ghost use Rattle.picc_cli.specs.CommandView.{simulated_of};
 ghost use Rattle.picc_cli.specs.Finished.{HasFaults, HasPrinted, HasStatus, IsComplete};
 ghost use Rattle.picc_cli.specs.Lines.{event_lines};
 ghost use Rattle.host_lines.specs.Said.{Says, HasOutcomeCause};
-ghost use Rattle.picc_cli.specs.Simulation.{HasSimulated, IsFed, IsPrinted, IsRun, Knows, Runs, board_of};
+ghost use Rattle.picc_cli.specs.Simulation.{HasSimulated, IsFed, IsPrinted, Knows, Runs, board_of, simulator_of};
 ghost use Rattle.picc_cli.specs.Trace.{AllShown};
 ghost use Rattle.schedule.specs.ScriptFile as script_file;
 
@@ -17,9 +17,10 @@ use crate::command::Simulated;
 use crate::digits::push_word;
 use crate::inputs::{FileEnd, hex_in, map_in, say_file_end, script_in};
 use crate::running::print_event;
+use chip_84a::{Chip84, Start84, simulate84};
 use host_io::{Host, HostError};
 use host_lines::say_line;
-use pic_chip::{Chip, Image, Start};
+use pic_chip::{Chip, Image, Profile, Start};
 use pic_map::{Map, Tracer};
 use pic_sim::{Board, SimEnd, simulate as run_on};
 use pic_world::{Script, Trace};
@@ -31,6 +32,14 @@ const UNKNOWN: Start = Start {
     fsr: 0,
     flags: 0,
     ram: [0; 368],
+};
+
+/// And so on the second chip.
+const UNKNOWN_ON_SECOND: Start84 = Start84 {
+    w: 0,
+    fsr: 0,
+    flags: 0,
+    ram: [0; 68],
 };
 
 /// How a simulation ended.
@@ -51,7 +60,7 @@ pub enum Ended {
     NoMemory,
 }
 
-/// Runs the HEX on the chip for so many instructions, over the board, which is fed the script, and prints the line of
+/// Runs the HEX on the chip that is asked for, for so many instructions, over the board, which is fed the script, and prints the line of
 /// each event, by the names of the map; and at last why the run didn't go on, if something kept it. The answer is the
 /// exit status.
 pub fn simulate<H: Host>(
@@ -146,15 +155,7 @@ fn simulated<H: Host>(
         Ok(script) => script,
         Err(end) => return Ended::NoScript(end),
     };
-    run(
-        alloc,
-        host,
-        board,
-        &image,
-        &map,
-        &script,
-        asked.instructions,
-    )
+    run(alloc, host, board, &image, &map, &script, asked)
 }
 
 /// Feeds the script to the board, runs the image from a reset for so many instructions, and prints the line of each
@@ -166,7 +167,7 @@ fn run<H: Host>(
     image: &Image,
     map: &Map,
     script: &Script,
-    instructions: u32,
+    asked: Simulated<'_>,
 ) -> Ended
     requires few { length map.now.objects.items ≤ 65536 }
     ensures same_file { H.open_file host.new ≡ H.open_file host.old }
@@ -174,23 +175,33 @@ fn run<H: Host>(
     ensures same_kind { H.kind host.new ≡ H.kind host.old }
     ensures end { IsRunEnd result }
     ensures prints { RunPrints (content_of map.now) result (H.printed host.old) (H.printed host.new) }
-    ensures runs { Runs image.now (content_of map.now) (script_file.content_of script.now) instructions (board_of (lists board.old) (follows board.old)) (board_of (lists board.new) (follows board.new)) result (H.printed host.old) (H.printed host.new) }
+    ensures runs { Runs asked.entry.chip image.now (content_of map.now) (script_file.content_of script.now) asked.entry.instructions (board_of (lists board.old) (follows board.old)) (board_of (lists board.new) (follows board.new)) result (H.printed host.old) (H.printed host.new) }
     ensures cause { HasOutcomeCause (H.kind host.old) (H.faults host.old) (H.faults host.new) (is_fault result) }
     ensures sound { IsTrue (H.kind host.old).is_sound → is_fault result ≡ false }
 {
     let mut trace = Trace::new(alloc);
+    let instructions = asked.instructions;
     if trace.reserve(2 * instructions as usize + 1).is_err() {
         return Ended::NoMemory;
     }
-    match run_over(board, image, map, script, instructions, &mut trace) {
+    match run_over(
+        asked.chip,
+        board,
+        image,
+        map,
+        script,
+        instructions,
+        &mut trace,
+    ) {
         Ok(end) => print_run(alloc, host, map, &trace, end),
         Err(_) => Ended::NoMemory,
     }
 }
 
-/// Feeds the script to the board, and runs the image from a reset for so many instructions. The trace is empty, has room for
-/// the events, and takes them.
+/// Feeds the script to the board, and runs the image on a chip from a reset for so many instructions. The trace is empty, has
+/// room for the events, and takes them.
 fn run_over(
+    chip: Profile,
     board: &mut Box<dyn Board>,
     image: &Image,
     map: &Map,
@@ -201,15 +212,24 @@ fn run_over(
     requires few { length map.now.objects.items ≤ 65536 }
     requires empty { trace.old.events ≡ [] }
     requires room { 2 * instructions + 1 ≤ trace.old.room }
-    ensures run { IfOk result (λ end. IsRun image.now (content_of map.now) (script_file.content_of script.now) instructions (board_of (lists board.old) (follows board.old)) (board_of (lists board.new) (follows board.new)) trace.new.events end) }
+    ensures run { IfOk result (λ end. (simulator_of chip).Ran image.now (content_of map.now) (script_file.content_of script.now) instructions (board_of (lists board.old) (follows board.old)) (board_of (lists board.new) (follows board.new)) trace.new.events end) }
     ensures refused { OnErr result (lists board.new ≡ lists board.old) }
 {
     feed(board, script)?;
-    let mut chip = Chip::reset(&UNKNOWN);
     let mut tracer = Tracer::new(map);
-    let _ = tracer.at(chip.pc());
+    // Each chip begins at 0000h.
+    let _ = tracer.at(0);
     let instructions = instructions as u64;
-    Ok(run_on(&mut chip, image, &mut tracer, board, instructions, trace))
+    match chip {
+        Profile::Pic16F877a => {
+            let mut chip = Chip::reset(&UNKNOWN);
+            Ok(run_on(&mut chip, image, &mut tracer, board, instructions, trace))
+        }
+        Profile::Pic16F84a => {
+            let mut chip = Chip84::reset(&UNKNOWN_ON_SECOND);
+            Ok(simulate84(&mut chip, image, &mut tracer, board, instructions, trace))
+        }
+    }
 }
 
 /// Hands the script over to the board.

@@ -17,5 +17,10 @@ pub mod OnlyCopies
 pub mod OnlyPlaces
 pub mod OnlyBlocks
 pub mod FewFunctions
+pub mod OneWithin
 pub mod OneAnswer
 pub mod Within
+pub mod LowLines
+pub mod EarlyEnds
+pub mod OneSecond
+pub mod Seconds

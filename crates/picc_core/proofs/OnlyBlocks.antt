@@ -23,7 +23,7 @@ use Rattle.headline_trace.proofs.SameNumbers.{same_counted, same_numbers, map_up
 use Rattle.program_code.specs.Order.{rank}
 use Rattle.program_code.specs.Stated.{copy_words, sizes}
 use Rattle.ram_place.specs.Sizes.{block_words}
-use Rattle.picc_core.specs.Accepted.{IsCodeOrder, IsOverPage, IsFirstOverPage}
+use Rattle.picc_core.specs.Accepted.{IsCodeOrder, IsFirstOver, IsOverPage}
 
 -- ---- each copy has a rank of its own, where there are few functions
 more : (n : ℕ) (f : FnId) → n ≤ 0x10000000 → IsOne n f → IsOne 0x10000000 f
@@ -121,8 +121,8 @@ module _ (p : Program) (copies : List FnCopy) where
   unfolding copy_words
   words_by a b same = ap (λ f. capped (block_words p f)) same
 
-  pub one_over : (name other : List ℕ) (words more : ℕ) → IsFirstOverPage p copies name words → IsFirstOverPage p copies other more → (name ≡ other) × (words ≡ more)
-  one_over name other words more here there =
+  pub one_over : (most : ℕ) (name other : List ℕ) (words more : ℕ) → IsFirstOver most p copies name words → IsFirstOver most p copies other more → (name ≡ other) × (words ≡ more)
+  one_over most name other words more here there =
       let low = here.first there.number more there.over in
       let high = there.first here.number words here.over in
       let same : here.number ≡ there.number = omega (arith, low, high) in (

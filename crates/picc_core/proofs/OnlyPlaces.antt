@@ -8,8 +8,9 @@ use Rattle.c_typed.specs.Trees.{Program, StaticTree}
 use Rattle.c_typed.specs.Types.{type_bytes}
 use Rattle.call_graph.specs.declared.types.FnCopy.{FnCopy}
 use Rattle.pic_map.specs.MapContent.{ObjectLine, FrameLine}
-use Rattle.live_frames.specs.Memory.{IsLowestIn, IsLowest, AreFull, HasNoPlace, Stands, regions}
-use Rattle.ram_place.specs.Placement.{IsTaken, IsTakenFor, object_line, frame_line, IsObject, IsFrame, AreObjects, AreFrames, IsPlacing, LacksObject, LacksFrame, LacksFrameBehind}
+use Rattle.live_frames.specs.Memory.{IsLowestIn, IsLowest, AreFull}
+use Rattle.ram_place.specs.Placement.{IsTaken, IsTakenFor, object_line, frame_line, whole_below, IsObjectBelow, IsFrameBelow, AreObjectsIn, AreFramesBelow, IsPlacing, IsPlacingIn, LacksObjectIn, LacksFrameIn, LacksFrameBehindBelow}
+use Rattle.ram_place.specs.Regions.{StandsBelow, HasNoPlaceBelow, regions_below}
 use Rattle.ram_place.specs.Sizes.{name_of, frame_bytes}
 use Rattle.live_frames.specs.declared.memory.Span.{Span}
 
@@ -25,9 +26,9 @@ lowest_once taken (span ∷ spans) n a b (inl here) (inr there) = absurd (there.
 lowest_once taken (span ∷ spans) n a b (inr here) (inl there) = absurd (here.0 b there.0)
 lowest_once taken (span ∷ spans) n a b (inr here) (inr there) = lowest_once taken spans n a b here.1 there.1
 
-stands_once : (taken : ℕ → Type 0) (n a b : ℕ) → Stands taken n a → Stands taken n b → a ≡ b
-stands_once taken zero a b here there = here.0 refl ∙ sym (there.0 refl)
-stands_once taken (suc n) a b here there = lowest_once taken regions (suc n) a b (here.1 (omega arith)) (there.1 (omega arith))
+stands_once : (top : ℕ) (taken : ℕ → Type 0) (n a b : ℕ) → StandsBelow top taken n a → StandsBelow top taken n b → a ≡ b
+stands_once top taken zero a b here there = here.0 refl ∙ sym (there.0 refl)
+stands_once top taken (suc n) a b here there = lowest_once taken (regions_below top) (suc n) a b (here.1 (omega arith)) (there.1 (omega arith))
 
 none_lowest : (taken : ℕ → Type 0) (spans : List Span) (n a : ℕ) → AreFull taken spans n → IsLowest taken spans n a → ⊥
 none_lowest taken [] n a full here = here
@@ -35,9 +36,9 @@ none_lowest taken (span ∷ spans) n a full (inl here) = full.0 a here.0
 none_lowest taken (span ∷ spans) n a full (inr here) = none_lowest taken spans n a full.1 here.1
 
 -- what has no byte has room in the first region
-none_stands : (taken : ℕ → Type 0) (n a : ℕ) → HasNoPlace taken n → Stands taken n a → ⊥
-none_stands taken zero a none here = none.0 0x20 ((omega arith, omega arith), λ x low high t. omega (arith, low, high))
-none_stands taken (suc n) a none here = none_lowest taken regions (suc n) a none (here.1 (omega arith))
+none_stands : (top : ℕ) (taken : ℕ → Type 0) (n a : ℕ) → HasNoPlaceBelow top taken n → StandsBelow top taken n a → ⊥
+none_stands top taken zero a none here = none.0 0x20 ((omega arith, omega arith), λ x low high t. omega (arith, low, high))
+none_stands top taken (suc n) a none here = none_lowest taken (regions_below top) (suc n) a none (here.1 (omega arith))
 
 -- ---- things that get a line each, by the lines before it
 one_some : {A : Type 0} (o : Option A) (a b : A) → o ≡ Some a → o ≡ Some b → a ≡ b
@@ -107,83 +108,87 @@ module _ {A L : Type 0} (things : List A) (Line : List L → A → L → Type 0)
       omega (arith, most, size, whole)
 
 -- ---- objects
-module _ (p : Program) where
-  object_once : (others : List ObjectLine) (s : StaticTree) (l m : ObjectLine) → IsObject p others s l → IsObject p others s m → l ≡ m
+module _ (top : ℕ) (p : Program) where
+  object_once : (others : List ObjectLine) (s : StaticTree) (l m : ObjectLine) → IsObjectBelow top p others s l → IsObjectBelow top p others s m → l ≡ m
   object_once others s l m here there =
       let wide : l.size ≡ type_bytes p.sizes s.ty.ty = ap (λ (line : ObjectLine). line.size) here.0 in
       let long : m.size ≡ type_bytes p.sizes s.ty.ty = ap (λ (line : ObjectLine). line.size) there.0 in
-      let same = stands_once (IsTaken others) (type_bytes p.sizes s.ty.ty) l.address m.address (subst (λ (n : ℕ). Stands (IsTaken others) n l.address) wide here.1)
-      (subst (λ (n : ℕ). Stands (IsTaken others) n m.address) long there.1) in
+      let same = stands_once top (IsTaken others) (type_bytes p.sizes s.ty.ty) l.address m.address (subst (λ (n : ℕ). StandsBelow top (IsTaken others) n l.address) wide here.1)
+      (subst (λ (n : ℕ). StandsBelow top (IsTaken others) n m.address) long there.1) in
       here.0 ∙ ap (object_line p s) same ∙ sym there.0
 
-  object_none : (others : List ObjectLine) (s : StaticTree) → HasNoPlace (IsTaken others) (type_bytes p.sizes s.ty.ty) → (l : ObjectLine) → IsObject p others s l → ⊥
+  object_none : (others : List ObjectLine) (s : StaticTree) → HasNoPlaceBelow top (IsTaken others) (type_bytes p.sizes s.ty.ty) → (l : ObjectLine) → IsObjectBelow top p others s l → ⊥
   object_none others s none l here =
       let wide : l.size ≡ type_bytes p.sizes s.ty.ty = ap (λ (line : ObjectLine). line.size) here.0 in
-      none_stands (IsTaken others) (type_bytes p.sizes s.ty.ty) l.address none (subst (λ (n : ℕ). Stands (IsTaken others) n l.address) wide here.1)
+      none_stands top (IsTaken others) (type_bytes p.sizes s.ty.ty) l.address none (subst (λ (n : ℕ). StandsBelow top (IsTaken others) n l.address) wide here.1)
 
-  objects_once : (xs ys : List ObjectLine) → AreObjects p xs → AreObjects p ys → length xs ≡ length p.statics → length ys ≡ length p.statics → xs ≡ ys
-  objects_once xs ys each other first second = whole_once p.statics (IsObject p) object_once xs ys each other first second
+  objects_once : (xs ys : List ObjectLine) → AreObjectsIn (whole_below p top) p xs → AreObjectsIn (whole_below p top) p ys → length xs ≡ length p.statics → length ys ≡ length p.statics → xs ≡ ys
+  objects_once xs ys each other first second = whole_once p.statics (IsObjectBelow top p) object_once xs ys each other first second
 
-  no_object : (objects : List ObjectLine) (name : List ℕ) → AreObjects p objects → length objects ≡ length p.statics → LacksObject p name → ⊥
+  no_object : (objects : List ObjectLine) (name : List ℕ) → AreObjectsIn (whole_below p top) p objects → length objects ≡ length p.statics → LacksObjectIn (whole_below p top) p name → ⊥
   no_object objects name each whole lacks =
-      none_lacks p.statics (IsObject p) object_once lacks.objects objects lacks.object lacks.objects_stand each lacks.is_next (object_none lacks.objects lacks.object lacks.has_none) whole
+      none_lacks p.statics (IsObjectBelow top p) object_once lacks.objects objects lacks.object lacks.objects_stand each lacks.is_next (object_none lacks.objects lacks.object lacks.has_none) whole
 
-  object_named : (m n : List ℕ) → LacksObject p m → LacksObject p n → m ≡ n
+  object_named : (m n : List ℕ) → LacksObjectIn (whole_below p top) p m → LacksObjectIn (whole_below p top) p n → m ≡ n
   object_named m n here there =
       let same =
-      same_next p.statics (IsObject p) object_once here.objects there.objects here.object there.object here.objects_stand there.objects_stand here.is_next
+      same_next p.statics (IsObjectBelow top p) object_once here.objects there.objects here.object there.object here.objects_stand there.objects_stand here.is_next
       (object_none here.objects here.object here.has_none) there.is_next (object_none there.objects there.object there.has_none) in
       here.named ∙ ap (λ (s : StaticTree). s.name) same ∙ sym there.named
 
 -- ---- frames
-module _ (p : Program) (objects : List ObjectLine) (copies : List FnCopy) where
-  frame_once : (others : List FrameLine) (c : FnCopy) (l m : FrameLine) → IsFrame p objects copies others c l → IsFrame p objects copies others c m → l ≡ m
+module _ (top : ℕ) (p : Program) (objects : List ObjectLine) (copies : List FnCopy) where
+  frame_once : (others : List FrameLine) (c : FnCopy) (l m : FrameLine) → IsFrameBelow top p objects copies others c l → IsFrameBelow top p objects copies others c m → l ≡ m
   frame_once others c l m here there =
       let wide : l.size ≡ frame_bytes p c.function = ap (λ (line : FrameLine). line.size) here.0 in
       let long : m.size ≡ frame_bytes p c.function = ap (λ (line : FrameLine). line.size) there.0 in
       let same =
-      stands_once (IsTakenFor p objects copies others c) (frame_bytes p c.function) l.address m.address
-      (subst (λ (n : ℕ). Stands (IsTakenFor p objects copies others c) n l.address) wide here.1) (subst (λ (n : ℕ). Stands (IsTakenFor p objects copies others c) n m.address) long there.1) in
+      stands_once top (IsTakenFor p objects copies others c) (frame_bytes p c.function) l.address m.address
+      (subst (λ (n : ℕ). StandsBelow top (IsTakenFor p objects copies others c) n l.address) wide here.1) (subst (λ (n : ℕ). StandsBelow top (IsTakenFor p objects copies others c) n m.address) long there.1) in
       here.0 ∙ ap (frame_line p c) same ∙ sym there.0
 
-  frame_none : (others : List FrameLine) (c : FnCopy) → HasNoPlace (IsTakenFor p objects copies others c) (frame_bytes p c.function) → (l : FrameLine) → IsFrame p objects copies others c l → ⊥
+  frame_none : (others : List FrameLine) (c : FnCopy) → HasNoPlaceBelow top (IsTakenFor p objects copies others c) (frame_bytes p c.function) → (l : FrameLine) → IsFrameBelow top p objects copies others c l → ⊥
   frame_none others c none l here =
       let wide : l.size ≡ frame_bytes p c.function = ap (λ (line : FrameLine). line.size) here.0 in
-      none_stands (IsTakenFor p objects copies others c) (frame_bytes p c.function) l.address none (subst (λ (n : ℕ). Stands (IsTakenFor p objects copies others c) n l.address) wide here.1)
+      none_stands top (IsTakenFor p objects copies others c) (frame_bytes p c.function) l.address none (subst (λ (n : ℕ). StandsBelow top (IsTakenFor p objects copies others c) n l.address) wide here.1)
 
-  no_frame : (frames : List FrameLine) (name : List ℕ) → AreFrames p objects copies frames → length frames ≡ length copies → LacksFrameBehind p objects copies name → ⊥
+  no_frame : (frames : List FrameLine) (name : List ℕ) → AreFramesBelow top p objects copies frames → length frames ≡ length copies → LacksFrameBehindBelow top p objects copies name → ⊥
   no_frame frames name each whole lacks =
-      none_lacks copies (IsFrame p objects copies) frame_once lacks.frames frames lacks.copy lacks.frames_stand each lacks.is_next (frame_none lacks.frames lacks.copy lacks.has_none) whole
+      none_lacks copies (IsFrameBelow top p objects copies) frame_once lacks.frames frames lacks.copy lacks.frames_stand each lacks.is_next (frame_none lacks.frames lacks.copy lacks.has_none) whole
 
-  frame_named : (m n : List ℕ) → LacksFrameBehind p objects copies m → LacksFrameBehind p objects copies n → m ≡ n
+  frame_named : (m n : List ℕ) → LacksFrameBehindBelow top p objects copies m → LacksFrameBehindBelow top p objects copies n → m ≡ n
   frame_named m n here there =
       let same =
-      same_next copies (IsFrame p objects copies) frame_once here.frames there.frames here.copy there.copy here.frames_stand there.frames_stand here.is_next
+      same_next copies (IsFrameBelow top p objects copies) frame_once here.frames there.frames here.copy there.copy here.frames_stand there.frames_stand here.is_next
       (frame_none here.frames here.copy here.has_none) there.is_next (frame_none there.frames there.copy there.has_none) in
       here.named ∙ ap (λ (c : FnCopy). name_of p c.function) same ∙ sym there.named
 
 -- ---- both
-module _ (p : Program) (copies : List FnCopy) where
+module _ (top : ℕ) (p : Program) (copies : List FnCopy) where
   -- of the objects there is one list of lines, so a frame behind the one stands behind the other
-  moved : (name : List ℕ) (objects : List ObjectLine) → AreObjects p objects → length objects ≡ length p.statics → (lacks : LacksFrame p copies name) → LacksFrameBehind p objects copies name
+  moved : (name : List ℕ) (objects : List ObjectLine) → AreObjectsIn (whole_below p top) p objects → length objects ≡ length p.statics → (lacks : LacksFrameIn (whole_below p top) p copies name) → LacksFrameBehindBelow top p objects copies name
   moved name objects each whole lacks =
-      subst (λ (l : List ObjectLine). LacksFrameBehind p l copies name) (objects_once p lacks.objects objects lacks.objects_stand each lacks.each_object whole) lacks.frame
+      subst (λ (l : List ObjectLine). LacksFrameBehindBelow top p l copies name) (objects_once top p lacks.objects objects lacks.objects_stand each lacks.each_object whole) lacks.frame
 
-  pub none_without : (name : List ℕ) (objects : List ObjectLine) (frames : List FrameLine) → IsPlacing p copies objects frames → LacksObject p name ⊎ LacksFrame p copies name → ⊥
-  none_without name objects frames all (inl lacks) = no_object p objects name all.objects_stand all.each_object lacks
-  none_without name objects frames all (inr lacks) = no_frame p objects copies frames name all.frames_stand all.each_frame (moved name objects all.objects_stand all.each_object lacks)
+  pub none_without : (name : List ℕ) (objects : List ObjectLine) (frames : List FrameLine) → IsPlacingIn (whole_below p top) p copies objects frames → LacksObjectIn (whole_below p top) p name ⊎ LacksFrameIn (whole_below p top) p copies name → ⊥
+  none_without name objects frames all (inl lacks) = no_object top p objects name all.objects_stand all.each_object lacks
+  none_without name objects frames all (inr lacks) = no_frame top p objects copies frames name all.frames_stand all.each_frame (moved name objects all.objects_stand all.each_object lacks)
 
-  pub one_without : (m n : List ℕ) → LacksObject p m ⊎ LacksFrame p copies m → LacksObject p n ⊎ LacksFrame p copies n → m ≡ n
-  one_without m n (inl here) (inl there) = object_named p m n here there
-  one_without m n (inl here) (inr there) = absurd (no_object p there.objects m there.objects_stand there.each_object here)
-  one_without m n (inr here) (inl there) = absurd (no_object p here.objects n here.objects_stand here.each_object there)
-  one_without m n (inr here) (inr there) = frame_named p there.objects copies m n (moved m there.objects there.objects_stand there.each_object here) there.frame
+  pub one_without : (m n : List ℕ) → LacksObjectIn (whole_below p top) p m ⊎ LacksFrameIn (whole_below p top) p copies m → LacksObjectIn (whole_below p top) p n ⊎ LacksFrameIn (whole_below p top) p copies n → m ≡ n
+  one_without m n (inl here) (inl there) = object_named top p m n here there
+  one_without m n (inl here) (inr there) = absurd (no_object top p there.objects m there.objects_stand there.each_object here)
+  one_without m n (inr here) (inl there) = absurd (no_object top p here.objects n here.objects_stand here.each_object there)
+  one_without m n (inr here) (inr there) = frame_named top p there.objects copies m n (moved m there.objects there.objects_stand there.each_object here) there.frame
 
   -- objects and frames have one placing
-  pub one_placing : (objects others : List ObjectLine) (frames more : List FrameLine) → IsPlacing p copies objects frames → IsPlacing p copies others more → (objects ≡ others) × (frames ≡ more)
-  one_placing objects others frames more here there =
-      let same : objects ≡ others = objects_once p objects others here.objects_stand there.objects_stand here.each_object there.each_object in (
+  pub placed_once : (objects others : List ObjectLine) (frames more : List FrameLine) → IsPlacingIn (whole_below p top) p copies objects frames → IsPlacingIn (whole_below p top) p copies others more → (objects ≡ others) × (frames ≡ more)
+  placed_once objects others frames more here there =
+      let same : objects ≡ others = objects_once top p objects others here.objects_stand there.objects_stand here.each_object there.each_object in (
         same,
-        whole_once copies (IsFrame p objects copies) (frame_once p objects copies) frames more here.frames_stand
-            (subst (λ (l : List ObjectLine). AreFrames p l copies more) (sym same) there.frames_stand) here.each_frame there.each_frame,
+        whole_once copies (IsFrameBelow top p objects copies) (frame_once top p objects copies) frames more here.frames_stand
+            (subst (λ (l : List ObjectLine). AreFramesBelow top p l copies more) (sym same) there.frames_stand) here.each_frame there.each_frame,
       )
+
+-- .. in the whole memory as well
+pub one_placing : (p : Program) (copies : List FnCopy) (objects others : List ObjectLine) (frames more : List FrameLine) → IsPlacing p copies objects frames → IsPlacing p copies others more → (objects ≡ others) × (frames ≡ more)
+one_placing p copies objects others frames more here there = placed_once 0x200 p copies objects others frames more here there

@@ -14,8 +14,9 @@ use Rattle.pic_map.specs.MapText.{AreInRange}
 use Rattle.pic_map.specs.MapView.{content_of, object_of, frame_of}
 use Rattle.ram_place.specs.Placement as placement
 use Rattle.picc_core.specs.Accepted.{AreAccepted, IsFirstRefusal}
+use Rattle.picc_core.specs.Answers.{TellsBy}
 use Rattle.picc_core.specs.Blocks.{HasWords}
-use Rattle.picc_core.specs.Decided.{IsAcceptedBy}
+use Rattle.picc_core.specs.Decided.{IsAcceptedBy, HasOneAnswerBy}
 use Rattle.picc_core.specs.Texts.{HasTree}
 use Rattle.picc_core.specs.Typed.{IsTypedAs}
 use Rattle.picc_core.specs.declared.known.Built.{Built}
@@ -42,6 +43,8 @@ pub record Build : Type 1 where
   -- what is accepted behind the rules on types, with these copies of its functions, and which refusal is the first of what isn't
   pub Accepts : Program → List FnCopy → Type 0
   pub RefusesFirst : Program → Refusal → Type 0
+  -- on which line a program that isn't refused so first names a device register that the build's chip doesn't have
+  pub LacksRegister : Program → ℕ → Type 0
   -- how many words of the return stack calls take, and how many words are stated of all blocks
   pub TakesDepth : Program → ℕ → Type 0
   pub StatesWords : Program → ℕ → Type 0
@@ -75,6 +78,7 @@ abbrev pub plain : Build
 plain = record {
   Accepts = AreAccepted;
   RefusesFirst = IsFirstRefusal;
+  LacksRegister = λ p line. ⊥;
   TakesDepth = IsWithinDepth;
   StatesWords = HasWords;
   MapsTo = IsPlaced;
@@ -83,3 +87,17 @@ plain = record {
 
 abbrev pub IsCompiledTo : List ℕ → Built → Type 0
 IsCompiledTo = IsCompiledBy plain
+
+-- ---- one answer
+-- The text has a typed program, which first names on this line a device register that the chip doesn't have.
+pub record IsForeignBy (b : Build) (text : List ℕ) (line : ℕ) : Type 0 where
+  pub program : Program
+  pub typed : IsTypedAs text program
+  pub lacks : b.LacksRegister program line
+
+-- What is accepted isn't refused, and of what is refused one thing is told.
+pub record HasOneAnswerOf (b : Build) (text : List ℕ) : Type 0 where
+  pub refused : HasOneAnswerBy b.Accepts b.RefusesFirst text
+  pub register : (line : ℕ) → IsAcceptedBy b.Accepts text → IsForeignBy b text line → ⊥
+  pub either : (r : Refusal) (line : ℕ) → TellsBy b.RefusesFirst text r → IsForeignBy b text line → ⊥
+  pub line : (line other : ℕ) → IsForeignBy b text line → IsForeignBy b text other → line ≡ other

@@ -2,8 +2,8 @@
 use Rattle.std.specs.Prelude.{ℕ, ◌≡◌, List}
 use Rattle.c_typed.specs.Trees.{Program}
 use Rattle.call_graph.specs.declared.types.FnCopy.{FnCopy}
-use Rattle.picc_core.specs.Accepted.{AreAccepted}
-use Rattle.picc_core.specs.Answers.{Tells}
+use Rattle.picc_core.specs.Accepted.{AreAccepted, IsFirstRefusal}
+use Rattle.picc_core.specs.Answers.{First, TellsBy}
 use Rattle.picc_core.specs.Typed.{IsTypedAs}
 use Rattle.picc_core.specs.declared.refusal.Refusal.{Refusal}
 use Rattle.picc_core.specs.declared.refusal.Refusal.TheVariants.{Lex, Word, Directive, Syntax, Typing, Recursion, Roots, Depth, Ram, Code, Page, Limit}
@@ -36,6 +36,9 @@ SayTheSame (Limit kind line) (Limit also other) = (kind ≡ also) × (line ≡ o
 SayTheSame _ _ = ⊥
 
 -- What is accepted isn't refused, and of what is refused one thing is told.
-pub record HasOneAnswer (text : List ℕ) : Type 0 where
-  pub either : (r : Refusal) → IsAcceptedText text → Tells text r → ⊥
-  pub refusal : (r s : Refusal) → Tells text r → Tells text s → SayTheSame r s
+pub record HasOneAnswerBy (Are : Program → List FnCopy → Type 0) (Is : First) (text : List ℕ) : Type 0 where
+  pub either : (r : Refusal) → IsAcceptedBy Are text → TellsBy Is text r → ⊥
+  pub refusal : (r s : Refusal) → TellsBy Is text r → TellsBy Is text s → SayTheSame r s
+
+abbrev pub HasOneAnswer : List ℕ → Type 0
+HasOneAnswer = HasOneAnswerBy AreAccepted IsFirstRefusal

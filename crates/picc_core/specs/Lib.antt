@@ -11,3 +11,4 @@ pub mod Founded
 pub mod Kept
 pub mod Coded
 pub mod Decided
+pub mod SecondChip

@@ -14,6 +14,10 @@ use Rattle.picc_core.specs.declared.refusal.Refusal.TheVariants.{Lex, Word, Dire
 abbrev pub whole_chip : Limits
 whole_chip = record { top_of_memory = 0x200; words_of_block = 2048; words = 8192 }
 
+-- those of the PIC16F84A, as far as both chips have memory: data memory from 20h on ends at 50h, and program memory has 1,024 words
+abbrev pub second_chip : Limits
+second_chip = record { top_of_memory = 0x50; words_of_block = 1024; words = 1024 }
+
 -- no function's block has more words than the limit
 abbrev pub NoneIsOver : ℕ → Program → List FnCopy → Type 0
 NoneIsOver most p copies = (number words : ℕ) → IsOver most p copies number words → ⊥

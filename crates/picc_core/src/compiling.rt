@@ -60,7 +60,7 @@ fn coded(
 }
 
 /// The image and the map of what is known of a text.
-fn built(alloc: Global, front: Front, saving: Saving) -> Result<Built, AllocError>
+pub(crate) fn built(alloc: Global, front: Front, saving: Saving) -> Result<Built, AllocError>
     requires { IsFounded front.typed front.copies.list.items front.placed front.at.items }
     ensures typed { IfOk result (λ built. built.typed ≡ front.typed) }
     ensures objects { IfOk result (λ built. built.map.objects ≡ front.placed.objects) }

@@ -22,3 +22,14 @@ pub fn whole_chip() -> Limits
         words: 8192,
     }
 }
+
+/// Those of the PIC16F84A: objects and frames from 20h to 4Fh, and 1,024 words, all in one page.
+pub fn second_chip() -> Limits
+    ensures { result ≡ stated.second_chip }
+{
+    Limits {
+        top_of_memory: 0x50,
+        words_of_block: 1024,
+        words: 1024,
+    }
+}

@@ -355,6 +355,7 @@ fn known_of(alloc: Global, typed: Typed, limits: Limits) -> Result<Front, Compil
     ensures recursion { IfOk result (λ front. IsAcyclic (graph_of (program_of front.typed))) }
     ensures depth { IfOk result (λ front. HasDepth (program_of front.typed) front.copies.depth × (front.copies.depth ≤ 8)) }
     ensures list { IfOk result (λ front. AreCopies (program_of front.typed) front.copies.list.items) }
+    ensures below { IfOk result (λ front. placement.IsPlacingIn (placement.whole_below (program_of front.typed) limits.top_of_memory) (program_of front.typed) front.copies.list.items (map object_of front.placed.objects.items) (map frame_of front.placed.frames.items)) }
     ensures exact { IfOk result (λ front. placement.IsPlacing (program_of front.typed) front.copies.list.items (map object_of front.placed.objects.items) (map frame_of front.placed.frames.items)) }
     ensures apart { IfOk result (λ front. placement.LiveFramesAreDisjoint (program_of front.typed) front.copies.list.items (map frame_of front.placed.frames.items)) }
     ensures clear { IfOk result (λ front. placement.FramesAreClear (map object_of front.placed.objects.items) (map frame_of front.placed.frames.items)) }
@@ -387,6 +388,7 @@ fn known(alloc: Global, text: &[u8], limits: Limits) -> Result<Front, CompileErr
     ensures recursion { IfOk result (λ front. IsAcyclic (graph_of (program_of front.typed))) }
     ensures depth { IfOk result (λ front. HasDepth (program_of front.typed) front.copies.depth × (front.copies.depth ≤ 8)) }
     ensures list { IfOk result (λ front. AreCopies (program_of front.typed) front.copies.list.items) }
+    ensures below { IfOk result (λ front. placement.IsPlacingIn (placement.whole_below (program_of front.typed) limits.top_of_memory) (program_of front.typed) front.copies.list.items (map object_of front.placed.objects.items) (map frame_of front.placed.frames.items)) }
     ensures exact { IfOk result (λ front. placement.IsPlacing (program_of front.typed) front.copies.list.items (map object_of front.placed.objects.items) (map frame_of front.placed.frames.items)) }
     ensures apart { IfOk result (λ front. placement.LiveFramesAreDisjoint (program_of front.typed) front.copies.list.items (map frame_of front.placed.frames.items)) }
     ensures clear { IfOk result (λ front. placement.FramesAreClear (map object_of front.placed.objects.items) (map frame_of front.placed.frames.items)) }
@@ -432,7 +434,10 @@ pub fn front_within(alloc: Global, text: &[u8], limits: Limits) -> Result<Front,
     ensures list { IfOk result (λ front. AreCopies (program_of front.typed) front.copies.list.items) }
     // They are few.
     ensures few { IfOk result (λ front. length front.copies.list.items < 8192) }
-    // Its objects and frames stand where they are to stand.
+    // Its objects and frames stand where they are to stand
+    // below the top of memory,
+    ensures below { IfOk result (λ front. placement.IsPlacingIn (placement.whole_below (program_of front.typed) limits.top_of_memory) (program_of front.typed) front.copies.list.items (map object_of front.placed.objects.items) (map frame_of front.placed.frames.items)) }
+    // which is where they stand in the whole memory.
     ensures exact { IfOk result (λ front. placement.IsPlacing (program_of front.typed) front.copies.list.items (map object_of front.placed.objects.items) (map frame_of front.placed.frames.items)) }
     // Frames that may be live together are disjoint,
     ensures apart { IfOk result (λ front. placement.LiveFramesAreDisjoint (program_of front.typed) front.copies.list.items (map frame_of front.placed.frames.items)) }

@@ -22,6 +22,7 @@ a.c=unsigned char x;$void main(void){$PORTB=1/x;}@a.s=input 01";
 const OTHERS: &str = "\
 trace a.c a.s 1000@0@W PORTB 05$End$@4*cannot read a.c|3*cannot read a.s@a.c=void main(void){PORTB=5;}@a.s=
 build a.c a.hex a.map;sim a.hex a.map a.s 1000@0@W PORTB 05$End$@4*cannot read a.c|3*cannot write a.hex|3*cannot write a.map|4*cannot read a.hex|4*cannot read a.map|3*cannot read a.s@a.c=void main(void){PORTB=5;}@a.s=
+build84 a.c a.hex a.map;sim84 a.hex a.map a.s 1000@0@W PORTB 05$End$@4*cannot read a.c|3*cannot write a.hex|3*cannot write a.map|4*cannot read a.hex|4*cannot read a.map|3*cannot read a.s@a.c=void main(void){PORTB=5;}@a.s=
 agree a.c a.s 1000@0@agree 2$@4*cannot read a.c|3*cannot read a.s@a.c=void main(void){PORTB=5;}@a.s=
 gen 1@0@unsigned char s;$unsigned char f0(unsigned char x){return x+0;}$void main(void){unsigned char x;$x=PORTB;$x=f0(x);$PORTC=x;$}$/* gen 1: words 224 ram 14 depth 1 */$@
 gen 2@0@unsigned char s;$unsigned char f0(unsigned char x){return x+0;}$unsigned char f1(unsigned char x){return x+1;}$void main(void){unsigned char x;$x=PORTB;$x=f0(x);$x=f1(x);$PORTC=x;$}$/* gen 2: words 316 ram 14 depth 1 */$@
@@ -198,7 +199,7 @@ fn each_fault_is_told_by_the_line_of_its_file(rt: HostRuntime) -> Result<(), Fai
         assert!(rt; faults.is_right, "call {} of {line}", faults.calls);
         count = count.saturating_add(1);
     }
-    assert!(rt; count == 8);
+    assert!(rt; count == 9);
     Ok(())
 }
 

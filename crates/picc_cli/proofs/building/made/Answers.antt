@@ -1,30 +1,12 @@
-use Rattle.c_typed.specs.Views.{program_of}
-use Rattle.pic_map.specs.MapView.{content_of}
+use Rattle.picc_cli.proofs.BuildWhole.{made_whole}
 use Rattle.picc_cli.proofs.building.made.Goals as goal
 
-pub returns-in-Ok-texts_of-clause-made : goal.returns-in-Ok-texts_of-clause-made
-returns-in-Ok-texts_of-clause-made c =
-    let program = c.in-Ok.program in
-    let says = c.in-Ok.ensures in
-    let files = c.in-Ok-texts_of.ensures in
-    record {
-      built = record {
-        accepted = says.taken;
-        tree = says.tree;
-        program = program_of program.typed;
-        typed = says.typed;
-        roots = says.roots;
-        acyclic = says.recursion;
-        depth = program.depth;
-        within = says.depth;
-        image = program.image;
-        content = content_of program.map;
-        hex_file = files.hex_file;
-        written = files.hex;
-        map_file = files.map_file;
-        map_written = files.map;
-        placed = says.map;
-        faithful = says.faithful;
-      };
-      translated = says.translated;
-    }
+pub texts_of-requires : goal.texts_of-requires
+texts_of-requires c = c.in_ok-program.ensures.whole.written
+
+pub returns-in-Ok-clause-made : goal.returns-in-Ok-clause-made
+returns-in-Ok-clause-made c =
+    let program = c.in_ok-program.program in
+    let says = c.in_ok-program.ensures in
+    let files = c.in-Ok.ensures in
+    made_whole c.args.text.now c.in-Ok.texts.hex.items c.in-Ok.texts.map.items program files.hex_file files.hex files.map_file files.map c.args.chip says.whole says.made

@@ -8,3 +8,6 @@ returns-in-CannotWriteHex-clause-said g c = rw c.in-CannotWriteHex.is c.say-in-C
 
 pub returns-in-CannotWriteMap-clause-said : goal.returns-in-CannotWriteMap-clause-said
 returns-in-CannotWriteMap-clause-said g c = rw c.in-CannotWriteMap.is c.say-in-CannotWriteMap.ensures.said
+
+pub returns-in-Register-clause-said : goal.returns-in-Register-clause-said
+returns-in-Register-clause-said g c = rw c.in-Register.is c.say_located.ensures.said

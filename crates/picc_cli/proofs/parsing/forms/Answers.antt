@@ -14,4 +14,6 @@ returns c =
     let three = c.in_ok-subcommand-3.ensures.shape c.in_ok-simulate.ensures.1 ∙ ap₂ with_subcommand two c.in_ok-simulate.ensures.0 in
     let four = c.in_ok-subcommand-4.ensures.shape c.in_ok-agree.ensures.1 ∙ ap₂ with_subcommand three c.in_ok-agree.ensures.0 in
     let five = c.in_ok-subcommand-5.ensures.shape c.in_ok-generate.ensures.1 ∙ ap₂ with_subcommand four c.in_ok-generate.ensures.0 in
-    IfOk-weaker c.subcommand-6.result _ _ (λ line added. added.shape c.in_ok-check.ensures.1 ∙ ap₂ with_subcommand five c.in_ok-check.ensures.0) c.subcommand-6.ensures
+    let six = c.in_ok-subcommand-6.ensures.shape c.in_ok-check.ensures.1 ∙ ap₂ with_subcommand five c.in_ok-check.ensures.0 in
+    let seven = c.in_ok-subcommand-7.ensures.shape c.in_ok-build84.ensures.1 ∙ ap₂ with_subcommand six c.in_ok-build84.ensures.0 in
+    IfOk-weaker c.subcommand-8.result _ _ (λ line added. added.shape c.in_ok-simulate84.ensures.1 ∙ ap₂ with_subcommand seven c.in_ok-simulate84.ensures.0) c.subcommand-8.ensures
