@@ -1,5 +1,6 @@
 #!/bin/sh
-# HEX files of picc on gpsim's models of the PIC16F877A and the PIC16F84A, which nobody of this project wrote. examples/led.c: after 1,000 cycles PORTB's
+# HEX files of picc on gpsim's models of the PIC16F877A and the PIC16F84 (the 84A is the same in faster silicon), which nobody of this
+# project wrote. examples/led.c: after 1,000 cycles PORTB's
 # latch holds 05h, and the program counter stands in the loop at the halt address of the map: at most two selects of the page, and a
 # jump back. Then each of examples/: the bytes that it writes to PORTB and PORTC, one behind the other, are those that `picc sim` prints
 # of the same file without input bytes and arrivals, as far as gpsim runs; and so `picc build84` and `picc sim84`. At last the commands of docs/tools.md, which shows what gpsim
@@ -60,7 +61,7 @@ writes() {
 }
 
 writes_second() {
-    writes_on "$1" "$2" 84 p16f84a
+    writes_on "$1" "$2" 84 p16f84
 }
 
 led || failed=1

@@ -1,5 +1,6 @@
 pub mod Boundary
 pub mod Filled
+pub mod Members
 pub mod Operating
 pub mod Places
 pub mod Ported
@@ -7,5 +8,6 @@ pub mod Resets
 pub mod Second
 pub mod Shown
 pub mod Steps
+pub mod Together
 pub mod Twins
 pub mod Whole

@@ -1,40 +1,19 @@
 -- What accesses show on both chips.
-use Rattle.std.proofs.Common.{◌≡◌, ℕ, ◌+◌, ◌-◌, ◌<◌, inl, inr, Bool, true, false, List, [], ◌∷◌, ◌++◌, Some, None, refl, sym, ap, ◌∙◌, subst, arith}
+use Rattle.std.proofs.Common.{◌≡◌, ℕ, ◌<◌, Bool, true, false, List, [], ◌∷◌, ◌++◌, Some, None, refl, sym, ap, ◌∙◌, subst, arith}
 use Rattle.std.specs.Prelude.{if◌then◌else◌, nat_eq, nat_lt, nat_le, not, ◌&&◌, ◌||◌, is_some}
-use Rattle.std.proofs.lemmas.Bool.{agree_below, agree_below_at, eqb-true, lt-ltb, le-leb, ltb-true}
+use Rattle.std.proofs.lemmas.Bool.{agree_below_at, eqb-true, ltb-true}
 use Rattle.pic_world.specs.Registers as all_registers
 use Rattle.pic_world.specs.declared.Cell.TheVariants as cells
 use Rattle.pic_chip.specs.Act.{Made}
 use Rattle.pic_chip.specs.Address.{Place, Pcl, Status, Fsr, Pclath, Intcon, Pir1, Pie1, General, Device, Nothing, address_of}
 use Rattle.pic_chip.specs.Run as chip
 use Rattle.pic_chip.specs.Run.{Range, object_at, event_at}
-use Rattle.pic_chip.specs.SmallAddress.{is_small_register, small_address_of}
-use Rattle.chip_84a.specs.Lockstep.{is_shared}
-use Rattle.chip_84a.specs.Run.{cell_at, events_of, registers_of}
-use Rattle.chip_84a.proofs.Places.{twin_place, or_right, not_true}
-use Rattle.chip_84a.proofs.Twins.{pair, IsByte, byte_of, pair_low, pair_high, made_at, made_if}
+use Rattle.pic_chip.specs.SmallAddress.{is_small_register}
+use Rattle.chip_84a.specs.Family.{Member, Fits, byte_test, cell_by, events_by, has, register_test, registers_by, shared_byte, twin_place}
+use Rattle.chip_84a.proofs.Places.{and_left, and_right, not_true, or_right}
+use Rattle.chip_84a.proofs.Twins.{IsByte, byte_of, made_at, made_if}
 
--- ---- addresses
--- each device register of the second chip is one of the first
-abbrev register_test : ℕ → Bool
-register_test n = not (is_small_register n) || all_registers.is_register n
-
--- no general byte is a register
-abbrev data_test : ℕ → Bool
-data_test k = not (is_small_register (k + 0x20)) && not (all_registers.is_register (k + 0x20))
-
-abbrev kept_test : ℕ → Bool
-kept_test k = not (is_small_register (k + 0x0c)) && not (all_registers.is_register (k + 0x70))
-
-registers_all : agree_below register_test (λ n. true) 256 ≡ true
-registers_all = refl
-
-data_all : agree_below data_test (λ n. true) 48 ≡ true
-data_all = refl
-
-kept_all : agree_below kept_test (λ n. true) 16 ≡ true
-kept_all = refl
-
+-- ---- registers of the second chip
 -- an address of the second chip's table is below 256
 pub small_address : (a : ℕ) → is_small_register a ≡ true → a < 256
 small_address a h = by (nat_eq 0x01 a) (nat_eq 0x05 a) (nat_eq 0x06 a) (nat_eq 0x0b a) (nat_eq 0x8b a) (nat_eq 0x81 a) (nat_eq 0x85 a) (nat_eq 0x86 a) refl refl refl refl refl refl refl refl h where
@@ -53,110 +32,128 @@ small_address a h = by (nat_eq 0x01 a) (nat_eq 0x05 a) (nat_eq 0x06 a) (nat_eq 0
   by false false false false false false false true e1 e2 e3 e4 e5 e6 e7 e8 h' = near 0x86 (omega arith) e8
   by false false false false false false false false e1 e2 e3 e4 e5 e6 e7 e8 h' = absurd (cc)
 
-register_too : (a : ℕ) → is_small_register a ≡ true → all_registers.is_register a ≡ true
-register_too a h = or_right _ _ (agree_below_at register_test (λ n. true) 256 a registers_all (small_address a h)) (not_true _ h)
-
+-- ---- what a byte and a register show
 not_both : (a b : Bool) → (not a && not b) ≡ true → (a ≡ false) × (b ≡ false)
 not_both false false h = (refl, refl)
 not_both true b h = absurd (cc)
 not_both false true h = absurd (cc)
 
-no_data : (k : ℕ) → k < 48 → (is_small_register (k + 0x20) ≡ false) × (all_registers.is_register (k + 0x20) ≡ false)
-no_data k lt = not_both _ _ (agree_below_at data_test (λ n. true) 48 k data_all lt)
+module _ (m : Member) (fits : Fits m) where
+  register_too : (a : ℕ) → has m true (Device a) ≡ true → (m.is_register a ≡ true) × (all_registers.is_register a ≡ true)
+  register_too a h =
+      let there = and_right (nat_lt a 512) _ h in
+      let at : register_test m a ≡ true = agree_below_at (register_test m) (λ n. true) 512 a fits.registers (ltb-true a 512 (and_left _ _ h)) in
+      (there, or_right _ _ at (not_true _ there))
 
-no_kept : (k : ℕ) → k < 16 → (is_small_register (k + 0x0c) ≡ false) × (all_registers.is_register (k + 0x70) ≡ false)
-no_kept k lt = not_both _ _ (agree_below_at kept_test (λ n. true) 16 k kept_all lt)
+  -- what is shown of a byte
+  abbrev Cells : List Range → ℕ → ℕ → Type 0
+  Cells ranges here there = (cell_by m ranges here ≡ chip.cell_at ranges there) × (m.is_register here ≡ false) × (all_registers.is_register there ≡ false)
 
--- the small_address_of addresses of a byte on both
-first_low : (k : ℕ) → k < 96 → address_of k ≡ k + 0x20
-first_low k lt = ap (λ b. if b then k + 0x20 else (if nat_lt k 176 then k + 0x40 else if nat_lt k 272 then k + 0x60 else k + 0x80)) (lt-ltb k 96 lt)
+  -- no object stands at a byte whose accesses aren't shown
+  abbrev pub IsClear : List Range → Type 0
+  IsClear ranges = (k : ℕ) → k < 368 → shared_byte m k ≡ true → m.hides (m.lowest (m.byte k)) ≡ true → object_at ranges 0 (address_of k) ≡ None
 
--- what is shown of a byte
-abbrev Cells : List Range → ℕ → ℕ → Type 0
-Cells ranges small big = (cell_at ranges small ≡ chip.cell_at ranges big) × (is_small_register small ≡ false) × (all_registers.is_register big ≡ false)
+  byte_cells : (ranges : List Range) → IsClear ranges → (k : ℕ) → IsByte m k → Cells ranges (m.lowest (m.byte k)) (address_of k)
+  byte_cells ranges clear k is =
+      let at : byte_test m k ≡ true = agree_below_at (byte_test m) (λ n. true) 368 k fits.bytes is.below in
+      let both = or_right _ _ at (not_true _ is.shared) in
+      let rest = and_right (nat_eq (m.back (m.byte k)) k && nat_lt (m.byte k) 368) _ both in
+      let none = not_both _ _ (and_left (not (m.is_register (m.lowest (m.byte k))) && not (all_registers.is_register (address_of k))) _ rest) in
+      let same = and_right (not (m.is_register (m.lowest (m.byte k))) && not (all_registers.is_register (address_of k))) _ rest in (
+        ap (λ z. if z then Some (cells.Device (m.lowest (m.byte k))) else if m.hides (m.lowest (m.byte k)) then None else object_at ranges 0 (m.lowest (m.byte k))) none.0
+            ∙ by (m.hides (m.lowest (m.byte k))) refl same
+            ∙ sym (ap (λ z. if z then Some (cells.Device (address_of k)) else object_at ranges 0 (address_of k)) none.1),
+        none.0,
+        none.1,
+      ) where
+        by : (b : Bool) → m.hides (m.lowest (m.byte k)) ≡ b → (b || nat_eq (m.lowest (m.byte k)) (address_of k)) ≡ true → (if b then None else object_at ranges 0 (m.lowest (m.byte k))) ≡ object_at ranges 0 (address_of k)
+        by true e h = sym (clear k is.below is.shared e)
+        by false e h = ap (object_at ranges 0) (eqb-true (m.lowest (m.byte k)) (address_of k) h)
 
-byte_cells : (ranges : List Range) → ((k : ℕ) → k < 16 → object_at ranges 0 (k + 0x70) ≡ None) → (k : ℕ) → IsByte k → Cells ranges (small_address_of (pair k)) (address_of k)
-byte_cells ranges clear k (inl lt) =
-    let a : small_address_of (pair k) ≡ k + 0x20 = ap (λ q. q + 0x0c) (pair_low k lt) ∙ (let z : k + 20 + 12 ≡ k + 32 = omega arith in z) in
-    let b : address_of k ≡ k + 0x20 = first_low k (omega (arith, lt)) in
-    let r = no_data k lt in
-    subst (λ x. Cells ranges x (address_of k)) (sym a) (subst (λ y. Cells ranges (k + 0x20) y) (sym b) (
-      ap (λ z. if z then Some (cells.Device (k + 0x20)) else if nat_le 0x0c (k + 0x20) && nat_lt (k + 0x20) 0x20 then None else object_at ranges 0 (k + 0x20)) r.0
-          ∙ ap (λ z. if z then None else object_at ranges 0 (k + 0x20)) (outside k)
-          ∙ sym (ap (λ z. if z then Some (cells.Device (k + 0x20)) else object_at ranges 0 (k + 0x20)) r.1),
-      r.0,
-      r.1,
-    )) where
-      and_off : (b : Bool) → (b && false) ≡ false
-      and_off true = refl
-      and_off false = refl
+  -- ---- one access
+  abbrev pub Shows : List Range → List Made → List Made → Type 0
+  Shows ranges small big = (events_by m ranges small ≡ chip.events_of ranges big) × (registers_by m small ≡ chip.registers_of big)
 
-      outside : (j : ℕ) → (nat_le 0x0c (j + 0x20) && nat_lt (j + 0x20) 0x20) ≡ false
-      outside j = ap (λ z. nat_le 0x0c (j + 0x20) && z) (not_lt (nat_lt (j + 0x20) 0x20) refl) ∙ and_off (nat_le 0x0c (j + 0x20)) where
-        not_lt : (c : Bool) → nat_lt (j + 0x20) 0x20 ≡ c → nat_lt (j + 0x20) 0x20 ≡ false
-        not_lt true e = absurd (let z = ltb-true (j + 0x20) 0x20 e in omega (arith, z))
-        not_lt false e = e
-byte_cells ranges clear k (inr h) =
-    let le = h.0 in let lt = h.1 in
-    let j = k - 80 in
-    let lj : j < 16 = omega (arith, le, lt) in
-    let a : small_address_of (pair k) ≡ j + 0x0c = ap (λ q. q + 0x0c) (pair_high k le) in
-    let b : address_of k ≡ j + 0x70 = first_low k lt ∙ (let z : k + 32 ≡ k - 80 + 112 = omega (arith, le) in z) in
-    let r = no_kept j lj in
-    subst (λ x. Cells ranges x (address_of k)) (sym a) (subst (λ y. Cells ranges (j + 0x0c) y) (sym b) (
-      ap (λ z. if z then Some (cells.Device (j + 0x0c)) else if nat_le 0x0c (j + 0x0c) && nat_lt (j + 0x0c) 0x20 then None else object_at ranges 0 (j + 0x0c)) r.0
-          ∙ ap (λ z. if z && nat_lt (j + 0x0c) 0x20 then None else object_at ranges 0 (j + 0x0c)) (le-leb 0x0c (j + 0x0c) (omega arith))
-          ∙ ap (λ z. if z then None else object_at ranges 0 (j + 0x0c)) (lt-ltb (j + 0x0c) 0x20 (omega (arith, lj)))
-          ∙ sym (clear j lj)
-          ∙ sym (ap (λ z. if z then Some (cells.Device (j + 0x70)) else object_at ranges 0 (j + 0x70)) r.1),
-      r.0,
-      r.1,
-    ))
+  -- an access to a core register
+  core_one : (ranges : List Range) (a : ℕ) → (not (m.is_register a) && not (m.hides a)) ≡ true → all_registers.is_register a ≡ false → (write : Bool) (v : ℕ) (rest rest' : List Made) → Shows ranges rest' rest
+      → Shows ranges ((record { write = write; address = a; byte = v }) ∷ rest') ((record { write = write; address = a; byte = v }) ∷ rest)
+  core_one ranges a plain none write v rest rest' h =
+      let n = not_both _ _ plain in (
+        ap (λ z. event_at write v (if z then Some (cells.Device a) else if m.hides a then None else object_at ranges 0 a) ++ events_by m ranges rest') n.0
+            ∙ ap (λ z. event_at write v (if z then None else object_at ranges 0 a) ++ events_by m ranges rest') n.1
+            ∙ ap (λ es. event_at write v (object_at ranges 0 a) ++ es) h.0
+            ∙ sym (ap (λ z. event_at write v (if z then Some (cells.Device a) else object_at ranges 0 a) ++ chip.events_of ranges rest) none),
+        ap (λ z. if z then (record { write = write; address = a; byte = v }) ∷ registers_by m rest' else registers_by m rest') n.0 ∙ h.1
+            ∙ sym (ap (λ z. if z then (record { write = write; address = a; byte = v }) ∷ chip.registers_of rest else chip.registers_of rest) none),
+      )
 
--- ---- one access
-abbrev pub Shows : List Range → List Made → List Made → Type 0
-Shows ranges small big = (events_of ranges small ≡ chip.events_of ranges big) × (registers_of small ≡ chip.registers_of big)
+  -- and one to a device register
+  device_one : (ranges : List Range) (a : ℕ) → m.is_register a ≡ true → all_registers.is_register a ≡ true → (write : Bool) (v : ℕ) (rest rest' : List Made) → Shows ranges rest' rest
+      → Shows ranges ((record { write = write; address = a; byte = v }) ∷ rest') ((record { write = write; address = a; byte = v }) ∷ rest)
+  device_one ranges a here there write v rest rest' h = (
+    ap (λ z. event_at write v (if z then Some (cells.Device a) else if m.hides a then None else object_at ranges 0 a) ++ events_by m ranges rest') here
+        ∙ ap (λ es. event_at write v (Some (cells.Device a)) ++ es) h.0
+        ∙ sym (ap (λ z. event_at write v (if z then Some (cells.Device a) else object_at ranges 0 a) ++ chip.events_of ranges rest) there),
+    ap (λ z. if z then (record { write = write; address = a; byte = v }) ∷ registers_by m rest' else registers_by m rest') here ∙ ap (λ (ms : List Made). (record { write = write; address = a; byte = v }) ∷ ms) h.1
+        ∙ sym (ap (λ z. if z then (record { write = write; address = a; byte = v }) ∷ chip.registers_of rest else chip.registers_of rest) there),
+  )
 
-shows_one : (ranges : List Range) → ((k : ℕ) → k < 16 → object_at ranges 0 (k + 0x70) ≡ None) → (direct : Bool) (p : Place) → is_shared direct p ≡ true → (write : Bool) (v : ℕ) (rest rest' : List Made) → Shows ranges rest' rest
-    → Shows ranges (made_at small_address_of write (twin_place p) v ++ rest') (made_at address_of write p v ++ rest)
-shows_one ranges clear direct Pcl sh write v rest rest' h = (ap (λ es. event_at write v (object_at ranges 0 2) ++ es) h.0, h.1)
-shows_one ranges clear direct Status sh write v rest rest' h = (ap (λ es. event_at write v (object_at ranges 0 3) ++ es) h.0, h.1)
-shows_one ranges clear direct Fsr sh write v rest rest' h = (ap (λ es. event_at write v (object_at ranges 0 4) ++ es) h.0, h.1)
-shows_one ranges clear direct Pclath sh write v rest rest' h = (ap (λ es. event_at write v (object_at ranges 0 10) ++ es) h.0, h.1)
-shows_one ranges clear direct Intcon sh write v rest rest' h =
-    (ap (λ es. event_at write v (Some (cells.Device 11)) ++ es) h.0, ap (λ (ms : List Made). (record { write = write; address = 11; byte = v }) ∷ ms) h.1)
-shows_one ranges clear direct Pir1 sh write v rest rest' h = absurd (cc)
-shows_one ranges clear direct Pie1 sh write v rest rest' h = absurd (cc)
-shows_one ranges clear direct (General k) sh write v rest rest' h =
-    let c = byte_cells ranges clear k (byte_of direct k sh) in (
-      ap (λ z. event_at write v z ++ events_of ranges rest') c.0 ∙ ap (λ es. event_at write v (chip.cell_at ranges (address_of k)) ++ es) h.0,
-      ap (λ z. if z then (record { write = write; address = small_address_of (pair k); byte = v }) ∷ registers_of rest' else registers_of rest') c.1 ∙ h.1
-          ∙ sym (ap (λ z. if z then (record { write = write; address = address_of k; byte = v }) ∷ chip.registers_of rest else chip.registers_of rest) c.2),
-    )
-shows_one ranges clear direct (Device a) sh write v rest rest' h =
-    let s : is_small_register a ≡ true = sh in
-    let b = register_too a s in (
-      ap (λ z. event_at write v (if z then Some (cells.Device a) else if nat_le 0x0c a && nat_lt a 0x20 then None else object_at ranges 0 a) ++ events_of ranges rest') s
-          ∙ ap (λ es. event_at write v (Some (cells.Device a)) ++ es) h.0
-          ∙ sym (ap (λ z. event_at write v (if z then Some (cells.Device a) else object_at ranges 0 a) ++ chip.events_of ranges rest) b),
-      ap (λ z. if z then (record { write = write; address = a; byte = v }) ∷ registers_of rest' else registers_of rest') s ∙ ap (λ (ms : List Made). (record { write = write; address = a; byte = v }) ∷ ms) h.1
-          ∙ sym (ap (λ z. if z then (record { write = write; address = a; byte = v }) ∷ chip.registers_of rest else chip.registers_of rest) b),
-    )
-shows_one ranges clear direct Nothing sh write v rest rest' h = h
+  -- what the test says of core registers, and of those of interrupts
+  abbrev Plain : ℕ → Bool
+  Plain a = not (m.is_register a) && not (m.hides a)
 
-pub shows_nothing : (ranges : List Range) → Shows ranges [] []
-shows_nothing ranges = (refl, refl)
+  abbrev Interrupts : Bool
+  Interrupts = not m.peripherals || (m.is_register 12 && m.is_register 0x8c)
 
-append_nil : (ms : List Made) → ms ++ [] ≡ ms
-append_nil [] = refl
-append_nil (m ∷ ms) = ap (λ (l : List Made). m ∷ l) (append_nil ms)
+  core_rest : (Plain 2 && (Plain 3 && (Plain 4 && (Plain 10 && (m.is_register 11 && Interrupts))))) ≡ true
+  core_rest = and_right (nat_eq (m.operand 0) 0 && (nat_lt 0 m.words && nat_le m.words 8192)) _ fits.core
 
-pub shows_alone : (ranges : List Range) → ((k : ℕ) → k < 16 → object_at ranges 0 (k + 0x70) ≡ None) → (direct : Bool) (p : Place) → is_shared direct p ≡ true → (write : Bool) (v : ℕ) → Shows ranges (made_at small_address_of write (twin_place p) v) (made_at address_of write p v)
-shows_alone ranges clear direct p sh write v =
-    subst (λ l. Shows ranges l (made_at address_of write p v)) (append_nil (made_at small_address_of write (twin_place p) v))
-    (subst (λ l. Shows ranges (made_at small_address_of write (twin_place p) v ++ []) l) (append_nil (made_at address_of write p v)) (shows_one ranges clear direct p sh write v [] [] (shows_nothing ranges)))
+  core_3 : (Plain 3 && (Plain 4 && (Plain 10 && (m.is_register 11 && Interrupts)))) ≡ true
+  core_3 = and_right (Plain 2) _ core_rest
 
-pub shows_both : (ranges : List Range) → ((k : ℕ) → k < 16 → object_at ranges 0 (k + 0x70) ≡ None) → (direct : Bool) (p : Place) → is_shared direct p ≡ true → (d : Bool) (v r : ℕ)
-    → Shows ranges (made_at small_address_of false (twin_place p) v ++ made_if small_address_of d (twin_place p) r) (made_at address_of false p v ++ made_if address_of d p r)
-shows_both ranges clear direct p sh true v r = shows_one ranges clear direct p sh false v (made_at address_of true p r) (made_at small_address_of true (twin_place p) r) (shows_alone ranges clear direct p sh true r)
-shows_both ranges clear direct p sh false v r = shows_one ranges clear direct p sh false v [] [] (shows_nothing ranges)
+  core_4 : (Plain 4 && (Plain 10 && (m.is_register 11 && Interrupts))) ≡ true
+  core_4 = and_right (Plain 3) _ core_3
+
+  core_10 : (Plain 10 && (m.is_register 11 && Interrupts)) ≡ true
+  core_10 = and_right (Plain 4) _ core_4
+
+  core_11 : (m.is_register 11 && Interrupts) ≡ true
+  core_11 = and_right (Plain 10) _ core_10
+
+  interrupts : m.peripherals ≡ true → (m.is_register 12 && m.is_register 0x8c) ≡ true
+  interrupts on = or_right _ _ (and_right (m.is_register 11) _ core_11) (not_true _ on)
+
+  shows_one : (ranges : List Range) → IsClear ranges → (direct : Bool) (p : Place) → has m direct p ≡ true → (write : Bool) (v : ℕ) (rest rest' : List Made) → Shows ranges rest' rest
+      → Shows ranges (made_at m.lowest write (twin_place m p) v ++ rest') (made_at address_of write p v ++ rest)
+  shows_one ranges clear direct Pcl sh write v rest rest' h = core_one ranges 2 (and_left _ _ core_rest) refl write v rest rest' h
+  shows_one ranges clear direct Status sh write v rest rest' h = core_one ranges 3 (and_left _ _ core_3) refl write v rest rest' h
+  shows_one ranges clear direct Fsr sh write v rest rest' h = core_one ranges 4 (and_left _ _ core_4) refl write v rest rest' h
+  shows_one ranges clear direct Pclath sh write v rest rest' h = core_one ranges 10 (and_left _ _ core_10) refl write v rest rest' h
+  shows_one ranges clear direct Intcon sh write v rest rest' h = device_one ranges 11 (and_left _ _ core_11) refl write v rest rest' h
+  shows_one ranges clear direct Pir1 sh write v rest rest' h = device_one ranges 12 (and_left _ _ (interrupts sh)) refl write v rest rest' h
+  shows_one ranges clear direct Pie1 sh write v rest rest' h = device_one ranges 0x8c (and_right (m.is_register 12) _ (interrupts sh)) refl write v rest rest' h
+  shows_one ranges clear direct (General k) sh write v rest rest' h =
+      let c = byte_cells ranges clear k (byte_of m fits direct k sh) in (
+        ap (λ z. event_at write v z ++ events_by m ranges rest') c.0 ∙ ap (λ es. event_at write v (chip.cell_at ranges (address_of k)) ++ es) h.0,
+        ap (λ z. if z then (record { write = write; address = m.lowest (m.byte k); byte = v }) ∷ registers_by m rest' else registers_by m rest') c.1 ∙ h.1
+            ∙ sym (ap (λ z. if z then (record { write = write; address = address_of k; byte = v }) ∷ chip.registers_of rest else chip.registers_of rest) c.2),
+      )
+  shows_one ranges clear direct (Device a) sh write v rest rest' h = let b = register_too a sh in device_one ranges a b.0 b.1 write v rest rest' h
+  shows_one ranges clear direct Nothing sh write v rest rest' h = absurd (cc)
+
+  pub shows_nothing : (ranges : List Range) → Shows ranges [] []
+  shows_nothing ranges = (refl, refl)
+
+  append_nil : (ms : List Made) → ms ++ [] ≡ ms
+  append_nil [] = refl
+  append_nil (m ∷ ms) = ap (λ (l : List Made). m ∷ l) (append_nil ms)
+
+  pub shows_alone : (ranges : List Range) → IsClear ranges → (direct : Bool) (p : Place) → has m direct p ≡ true → (write : Bool) (v : ℕ) → Shows ranges (made_at m.lowest write (twin_place m p) v) (made_at address_of write p v)
+  shows_alone ranges clear direct p sh write v =
+      subst (λ l. Shows ranges l (made_at address_of write p v)) (append_nil (made_at m.lowest write (twin_place m p) v))
+      (subst (λ l. Shows ranges (made_at m.lowest write (twin_place m p) v ++ []) l) (append_nil (made_at address_of write p v)) (shows_one ranges clear direct p sh write v [] [] (shows_nothing ranges)))
+
+  pub shows_both : (ranges : List Range) → IsClear ranges → (direct : Bool) (p : Place) → has m direct p ≡ true → (d : Bool) (v r : ℕ)
+      → Shows ranges (made_at m.lowest false (twin_place m p) v ++ made_if m.lowest d (twin_place m p) r) (made_at address_of false p v ++ made_if address_of d p r)
+  shows_both ranges clear direct p sh true v r = shows_one ranges clear direct p sh false v (made_at address_of true p r) (made_at m.lowest true (twin_place m p) r) (shows_alone ranges clear direct p sh true r)
+  shows_both ranges clear direct p sh false v r = shows_one ranges clear direct p sh false v [] [] (shows_nothing ranges)

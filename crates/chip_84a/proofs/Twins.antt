@@ -1,7 +1,7 @@
 -- One instruction on both chips, by places and numbers.
-use Rattle.std.proofs.Common.{◌≡◌, ℕ, ◌+◌, ◌-◌, ◌<◌, ◌≤◌, ◌⊎◌, inl, inr, Bool, true, false, List, [], ◌∷◌, ◌++◌, length, refl, sym, ap, ◌∙◌, subst, arith}
-use Rattle.std.specs.Prelude.{if◌then◌else◌, nat_eq, nat_lt, nat_le, ◌&&◌, ◌||◌, slice_index, slice_set}
-use Rattle.std.proofs.lemmas.Bool.{eqb-true, eqb-false, ltb-true, ltb-false, leb-true}
+use Rattle.std.proofs.Common.{◌≡◌, ℕ, ◌<◌, Bool, true, false, List, [], ◌∷◌, ◌++◌, length, refl, sym, ap, ◌∙◌, subst, arith}
+use Rattle.std.specs.Prelude.{if◌then◌else◌, nat_eq, nat_lt, ◌&&◌, ◌||◌, slice_index, slice_set}
+use Rattle.std.proofs.lemmas.Bool.{eqb-true, eqb-false, ltb-true, agree_below_at}
 use Rattle.std.proofs.lemmas.List.{get_or-set_same, get_or-set_other, length-set}
 use Rattle.pic_chip.specs.declared.processor.Flags.{Flags}
 use Rattle.pic_chip.specs.declared.processor.Flags.TheVariants.{Keep, OnlyZ, OnlyC, Sums}
@@ -10,41 +10,17 @@ use Rattle.pic_chip.specs.Address.{Place, Pcl, Status, Fsr, Pclath, Intcon, Pir1
 use Rattle.pic_chip.specs.Changes.{after_reading, flagged, keeps_flags, finished, row_done, stored}
 use Rattle.pic_chip.specs.Instructions.{contents, note_by, write_note_by}
 use Rattle.pic_chip.specs.State.{State}
-use Rattle.chip_84a.specs.Lockstep.{SameBytes, twin, is_shared}
-use Rattle.chip_84a.proofs.Places.{twin_place, and_left, and_right}
+use Rattle.chip_84a.specs.Family.{Member, Fits, ShareBytes, byte_test, has, shared_byte, twin_by, twin_place}
+use Rattle.chip_84a.proofs.Places.{and_left, and_right, not_true, or_right}
 
--- ---- numbers of bytes
-abbrev pub pair : ℕ → ℕ
-pair k = if nat_lt k 48 then k + 20 else k - 80
+on_off : (b : Bool) → b ≡ true → b ≡ false → ⊥
+on_off true e f = cc
+on_off false e f = cc
 
--- a byte that both chips have
-abbrev pub IsByte : ℕ → Type 0
-IsByte k = (k < 48) ⊎ ((80 ≤ k) × (k < 96))
-
-pub byte_of : (direct : Bool) (k : ℕ) → is_shared direct (General k) ≡ true → IsByte k
-byte_of direct k h = by (nat_lt k 48) refl h where
-  by : (c : Bool) → nat_lt k 48 ≡ c → (c || (direct && (nat_le 80 k && nat_lt k 96))) ≡ true → IsByte k
-  by true e h' = inl (ltb-true k 48 e)
-  by false e h' = let q = and_right direct _ h' in inr (leb-true 80 k (and_left _ _ q), ltb-true k 96 (and_right (nat_le 80 k) _ q))
-
-pub pair_low : (k : ℕ) → k < 48 → pair k ≡ k + 20
-pair_low k lt = by (nat_lt k 48) refl where
-  by : (c : Bool) → nat_lt k 48 ≡ c → (if c then k + 20 else k - 80) ≡ k + 20
-  by true e = refl
-  by false e = absurd (let z = ltb-false k 48 e in omega (arith, z, lt))
-
-pub pair_high : (k : ℕ) → 80 ≤ k → pair k ≡ k - 80
-pair_high k le = by (nat_lt k 48) refl where
-  by : (c : Bool) → nat_lt k 48 ≡ c → (if c then k + 20 else k - 80) ≡ k - 80
-  by true e = absurd (let z = ltb-true k 48 e in omega (arith, z, le))
-  by false e = refl
-
--- ---- bytes
-pub byte_twin : (k : ℕ) → IsByte k → (ram ram' : List ℕ) → SameBytes ram ram' → slice_index ram' (pair k) ≡ slice_index ram k
-byte_twin k (inl lt) ram ram' b = ap (slice_index ram') (pair_low k lt) ∙ b.low k lt
-byte_twin k (inr h) ram ram' b =
-    let le = h.0 in let lt = h.1 in
-    ap (slice_index ram') (pair_high k le) ∙ b.common (k - 80) (omega (arith, le, lt)) ∙ ap (slice_index ram) (let z : k - 80 + 80 ≡ k = omega (arith, le) in z)
+either_true : (a b c : Bool) → (a || (b && c)) ≡ true → (a || c) ≡ true
+either_true true b c e = refl
+either_true false true c e = e
+either_true false false c e = absurd (cc)
 
 -- a list with one more value, at one place and at another
 one_set : (xs ys : List ℕ) (i j a b v : ℕ) → a < length xs → b < length ys → slice_index ys j ≡ slice_index xs i → (nat_eq i a ≡ nat_eq j b) → slice_index (slice_set ys b v) j ≡ slice_index (slice_set xs a v) i
@@ -64,146 +40,164 @@ same_test i a j b to from = by (nat_eq i a) (nat_eq j b) refl refl where
   by true false p q = absurd (eqb-false j b q (to (eqb-true i a p)))
   by false true p q = absurd (eqb-false i a p (from (eqb-true j b q)))
 
-pub set_twin : (k : ℕ) → IsByte k → (v : ℕ) (ram ram' : List ℕ) → SameBytes ram ram' → SameBytes (slice_set ram k v) (slice_set ram' (pair k) v)
-set_twin k (inl lt) v ram ram' b =
-    let la = b.count in let lb = b.second_count in
-    subst (λ q. SameBytes (slice_set ram k v) (slice_set ram' q v)) (sym (pair_low k lt)) (record {
-      count = length-set ram k v ∙ b.count;
-      second_count = length-set ram' (k + 20) v ∙ b.second_count;
-      low = λ j lj. one_set ram ram' j (j + 20) k (k + 20) v (omega (arith, la, lt)) (omega (arith, lb, lt)) (b.low j lj) (same_test j k (j + 20) (k + 20) (λ e. omega (arith, e)) (λ e. omega (arith, e)));
-      common = λ j lj. one_set ram ram' (j + 80) j k (k + 20) v (omega (arith, la, lt)) (omega (arith, lb, lt)) (b.common j lj) (same_test (j + 80) k j (k + 20) (λ e. absurd (omega (arith, e, lt))) (λ e. absurd (omega (arith, e, lj))));
-    })
-set_twin k (inr h) v ram ram' b =
-    let la = b.count in let lb = b.second_count in
-    let le = h.0 in let lt = h.1 in
-    subst (λ q. SameBytes (slice_set ram k v) (slice_set ram' q v)) (sym (pair_high k le)) (record {
-      count = length-set ram k v ∙ b.count;
-      second_count = length-set ram' (k - 80) v ∙ b.second_count;
-      low = λ j lj. one_set ram ram' j (j + 20) k (k - 80) v (omega (arith, la, lt)) (omega (arith, lb, lt, le)) (b.low j lj) (same_test j k (j + 20) (k - 80) (λ e. absurd (omega (arith, e, lj, le))) (λ e. absurd (omega (arith, e, lt, le))));
-      common = λ j lj. one_set ram ram' (j + 80) j k (k - 80) v (omega (arith, la, lt)) (omega (arith, lb, lt, le)) (b.common j lj) (same_test (j + 80) k j (k - 80) (λ e. omega (arith, e, le)) (λ e. omega (arith, e, le)));
-    })
+-- ---- bytes
+-- a byte that both chips have
+pub record IsByte (m : Member) (k : ℕ) : Type 0 where
+  pub below : k < 368
+  pub shared : shared_byte m k ≡ true
 
--- ---- what a place holds
-pub contents_twin : (direct : Bool) (p : Place) → is_shared direct p ≡ true → (inputs : List ℕ) (s : State) (ram : List ℕ) → SameBytes s.ram ram
-    → value_in (twin s ram) (contents inputs s.pc (twin_place p)) ≡ value_in s (contents inputs s.pc p)
-contents_twin direct Pcl sh inputs s ram b = refl
-contents_twin direct Status sh inputs s ram b = refl
-contents_twin direct Fsr sh inputs s ram b = refl
-contents_twin direct Pclath sh inputs s ram b = refl
-contents_twin direct Intcon sh inputs s ram b = refl
-contents_twin direct Pir1 sh inputs s ram b = absurd (cc)
-contents_twin direct Pie1 sh inputs s ram b = absurd (cc)
-contents_twin direct (General k) sh inputs s ram b = byte_twin k (byte_of direct k sh) s.ram ram b
-contents_twin direct (Device a) sh inputs s ram b = refl
-contents_twin direct Nothing sh inputs s ram b = absurd (cc)
+module _ (m : Member) (fits : Fits m) where
+  pub byte_of : (direct : Bool) (k : ℕ) → has m direct (General k) ≡ true → IsByte m k
+  byte_of direct k h =
+      let rest = and_right (nat_lt k 368) _ h in
+      record { below = ltb-true k 368 (and_left _ _ h); shared = either_true (m.keeps k) direct (m.keeps_direct k) rest }
 
--- ---- what a row leaves
--- the bytes of the second chip behind a write to a place of the first
-abbrev pub put : Place → ℕ → List ℕ → List ℕ
-put (General k) v ram = slice_set ram (pair k) v
-put _ v ram = ram
+  -- what the test says of it
+  tested : (k : ℕ) → IsByte m k → (m.back (m.byte k) ≡ k) × (m.byte k < 368)
+  tested k is =
+      let at : byte_test m k ≡ true = agree_below_at (byte_test m) (λ n. true) 368 k fits.bytes is.below in
+      let both = or_right _ _ at (not_true _ is.shared) in
+      let numbers = and_left (nat_eq (m.back (m.byte k)) k && nat_lt (m.byte k) 368) _ both in
+      (eqb-true _ _ (and_left _ _ numbers), ltb-true _ _ (and_right (nat_eq (m.back (m.byte k)) k) _ numbers))
 
-abbrev pub put_if : Bool → Place → ℕ → List ℕ → List ℕ
-put_if true p v ram = put p v ram
-put_if false p v ram = ram
+  pub set_twin : (k : ℕ) → IsByte m k → (v : ℕ) (ram ram' : List ℕ) → ShareBytes m ram ram' → ShareBytes m (slice_set ram k v) (slice_set ram' (m.byte k) v)
+  set_twin k is v ram ram' b =
+      let la = b.count in let lb = b.second_count in
+      let here = tested k is in
+      let low = is.below in let high = here.1 in
+      record {
+        count = length-set ram k v ∙ b.count;
+        second_count = length-set ram' (m.byte k) v ∙ b.second_count;
+        same = λ j lj shared.
+            let there = tested j (record { below = lj; shared = shared }) in
+            one_set ram ram' j (m.byte j) k (m.byte k) v (omega (arith, la, low)) (omega (arith, lb, high)) (b.same j lj shared)
+            (same_test j k (m.byte j) (m.byte k) (λ e. ap m.byte e) (λ e. sym there.0 ∙ ap m.back e ∙ here.0));
+      }
 
-read_twin : (p : Place) (t : State) (ram : List ℕ) → after_reading (twin_place p) (twin t ram) ≡ twin (after_reading p t) ram
-read_twin Pcl t ram = refl
-read_twin Status t ram = refl
-read_twin Fsr t ram = refl
-read_twin Pclath t ram = refl
-read_twin Intcon t ram = refl
-read_twin Pir1 t ram = refl
-read_twin Pie1 t ram = refl
-read_twin (General k) t ram = refl
-read_twin (Device a) t ram = refl
-read_twin Nothing t ram = refl
+  abbrev pub twin : State → List ℕ → State
+  twin s ram = twin_by m.peripherals s ram
 
-stored_twin : (direct : Bool) (p : Place) → is_shared direct p ≡ true → (plain : Bool) (v : ℕ) (t : State) (ram : List ℕ) → stored plain (twin_place p) v (twin t ram) ≡ twin (stored plain p v t) (put p v ram)
-stored_twin direct Pcl sh plain v t ram = refl
-stored_twin direct Status sh true v t ram = refl
-stored_twin direct Status sh false v t ram = refl
-stored_twin direct Fsr sh plain v t ram = refl
-stored_twin direct Pclath sh plain v t ram = refl
-stored_twin direct Intcon sh plain v t ram = refl
-stored_twin direct Pir1 sh plain v t ram = absurd (cc)
-stored_twin direct Pie1 sh plain v t ram = absurd (cc)
-stored_twin direct (General k) sh plain v t ram = refl
-stored_twin direct (Device a) sh plain v t ram = refl
-stored_twin direct Nothing sh plain v t ram = refl
+  -- ---- what a place holds
+  pub contents_twin : (direct : Bool) (p : Place) → has m direct p ≡ true → (inputs : List ℕ) (s : State) (ram : List ℕ) → ShareBytes m s.ram ram
+      → value_in (twin s ram) (contents inputs s.pc (twin_place m p)) ≡ value_in s (contents inputs s.pc p)
+  contents_twin direct Pcl sh inputs s ram b = refl
+  contents_twin direct Status sh inputs s ram b = refl
+  contents_twin direct Fsr sh inputs s ram b = refl
+  contents_twin direct Pclath sh inputs s ram b = refl
+  contents_twin direct Intcon sh inputs s ram b = refl
+  contents_twin direct Pir1 sh inputs s ram b = ap (λ c. if c then s.pir1 else 0) sh
+  contents_twin direct Pie1 sh inputs s ram b = ap (λ c. if c then s.pie1 else 0) sh
+  contents_twin direct (General k) sh inputs s ram b = let is = byte_of direct k sh in b.same k is.below is.shared
+  contents_twin direct (Device a) sh inputs s ram b = refl
+  contents_twin direct Nothing sh inputs s ram b = absurd (cc)
 
-flagged_twin : (fl : Flags) (v : ℕ) (t : State) (ram : List ℕ) → flagged fl v (twin t ram) ≡ twin (flagged fl v t) ram
-flagged_twin Keep v t ram = refl
-flagged_twin OnlyZ v t ram = refl
-flagged_twin (OnlyC c) v t ram = refl
-flagged_twin (Sums c dc) v t ram = refl
+  -- ---- what a row leaves
+  -- the bytes of the member behind a write to a place of the first
+  abbrev pub put : Place → ℕ → List ℕ → List ℕ
+  put (General k) v ram = slice_set ram (m.byte k) v
+  put _ v ram = ram
 
-pub finished_twin : (direct : Bool) (p : Place) → is_shared direct p ≡ true → (d : Bool) (v : ℕ) (fl : Flags) (t : State) (ram : List ℕ) → finished (twin_place p) d v fl (twin t ram) ≡ twin (finished p d v fl t) (put_if d p v ram)
-finished_twin direct p sh true v fl t ram = ap (flagged fl v) (stored_twin direct p sh (keeps_flags fl) v t ram) ∙ flagged_twin fl v (stored (keeps_flags fl) p v t) (put p v ram)
-finished_twin direct p sh false v fl t ram = flagged_twin fl v (record t { w = v }) ram
+  abbrev pub put_if : Bool → Place → ℕ → List ℕ → List ℕ
+  put_if true p v ram = put p v ram
+  put_if false p v ram = ram
 
-pub row_twin : (direct : Bool) (p : Place) → is_shared direct p ≡ true → (n : ℕ) (d : Bool) (v : ℕ) (fl : Flags) (s : State) (ram : List ℕ) → row_done n (twin_place p) d v fl (twin s ram) ≡ twin (row_done n p d v fl s) (put_if d p v ram)
-row_twin direct p sh n d v fl s ram = ap (finished (twin_place p) d v fl) (read_twin p (record s { pc = n }) ram) ∙ finished_twin direct p sh d v fl (after_reading p (record s { pc = n })) ram
+  read_twin : (p : Place) (t : State) (ram : List ℕ) → after_reading (twin_place m p) (twin t ram) ≡ twin (after_reading p t) ram
+  read_twin Pcl t ram = refl
+  read_twin Status t ram = refl
+  read_twin Fsr t ram = refl
+  read_twin Pclath t ram = refl
+  read_twin Intcon t ram = refl
+  read_twin Pir1 t ram = refl
+  read_twin Pie1 t ram = refl
+  read_twin (General k) t ram = refl
+  read_twin (Device a) t ram = refl
+  read_twin Nothing t ram = refl
 
-pub reading_twin : (p : Place) (n : ℕ) (s : State) (ram : List ℕ) → after_reading (twin_place p) (record (twin s ram) { pc = n }) ≡ twin (after_reading p (record s { pc = n })) ram
-reading_twin p n s ram = read_twin p (record s { pc = n }) ram
+  stored_twin : (direct : Bool) (p : Place) → has m direct p ≡ true → (plain : Bool) (v : ℕ) (t : State) (ram : List ℕ) → stored plain (twin_place m p) v (twin t ram) ≡ twin (stored plain p v t) (put p v ram)
+  stored_twin direct Pcl sh plain v t ram = refl
+  stored_twin direct Status sh true v t ram = refl
+  stored_twin direct Status sh false v t ram = refl
+  stored_twin direct Fsr sh plain v t ram = refl
+  stored_twin direct Pclath sh plain v t ram = refl
+  stored_twin direct Intcon sh plain v t ram = refl
+  stored_twin direct Pir1 sh plain v t ram = ap (λ z. record (twin t ram) { pir1 = z }) (sym (ap (λ c. if c then v else 0) sh))
+  stored_twin direct Pie1 sh plain v t ram = ap (λ z. record (twin t ram) { pie1 = z }) (sym (ap (λ c. if c then v else 0) sh))
+  stored_twin direct (General k) sh plain v t ram = refl
+  stored_twin direct (Device a) sh plain v t ram = refl
+  stored_twin direct Nothing sh plain v t ram = refl
 
--- ---- PIE1 and the bytes of the first chip
-abbrev pub put_first : Place → ℕ → List ℕ → List ℕ
-put_first (General k) v ram = slice_set ram k v
-put_first _ v ram = ram
+  flagged_twin : (fl : Flags) (v : ℕ) (t : State) (ram : List ℕ) → flagged fl v (twin t ram) ≡ twin (flagged fl v t) ram
+  flagged_twin Keep v t ram = refl
+  flagged_twin OnlyZ v t ram = refl
+  flagged_twin (OnlyC c) v t ram = refl
+  flagged_twin (Sums c dc) v t ram = refl
 
-flagged_keeps : (fl : Flags) (v : ℕ) (t : State) → ((flagged fl v t).ram ≡ t.ram) × ((flagged fl v t).pie1 ≡ t.pie1)
-flagged_keeps Keep v t = (refl, refl)
-flagged_keeps OnlyZ v t = (refl, refl)
-flagged_keeps (OnlyC c) v t = (refl, refl)
-flagged_keeps (Sums c dc) v t = (refl, refl)
+  pub finished_twin : (direct : Bool) (p : Place) → has m direct p ≡ true → (d : Bool) (v : ℕ) (fl : Flags) (t : State) (ram : List ℕ) → finished (twin_place m p) d v fl (twin t ram) ≡ twin (finished p d v fl t) (put_if d p v ram)
+  finished_twin direct p sh true v fl t ram = ap (flagged fl v) (stored_twin direct p sh (keeps_flags fl) v t ram) ∙ flagged_twin fl v (stored (keeps_flags fl) p v t) (put p v ram)
+  finished_twin direct p sh false v fl t ram = flagged_twin fl v (record t { w = v }) ram
 
-stored_keeps : (direct : Bool) (p : Place) → is_shared direct p ≡ true → (plain : Bool) (v : ℕ) (t : State) → ((stored plain p v t).ram ≡ put_first p v t.ram) × ((stored plain p v t).pie1 ≡ t.pie1)
-stored_keeps direct Pcl sh plain v t = (refl, refl)
-stored_keeps direct Status sh true v t = (refl, refl)
-stored_keeps direct Status sh false v t = (refl, refl)
-stored_keeps direct Fsr sh plain v t = (refl, refl)
-stored_keeps direct Pclath sh plain v t = (refl, refl)
-stored_keeps direct Intcon sh plain v t = (refl, refl)
-stored_keeps direct Pir1 sh plain v t = absurd (cc)
-stored_keeps direct Pie1 sh plain v t = absurd (cc)
-stored_keeps direct (General k) sh plain v t = (refl, refl)
-stored_keeps direct (Device a) sh plain v t = (refl, refl)
-stored_keeps direct Nothing sh plain v t = absurd (cc)
+  pub row_twin : (direct : Bool) (p : Place) → has m direct p ≡ true → (n : ℕ) (d : Bool) (v : ℕ) (fl : Flags) (s : State) (ram : List ℕ) → row_done n (twin_place m p) d v fl (twin s ram) ≡ twin (row_done n p d v fl s) (put_if d p v ram)
+  row_twin direct p sh n d v fl s ram = ap (finished (twin_place m p) d v fl) (read_twin p (record s { pc = n }) ram) ∙ finished_twin direct p sh d v fl (after_reading p (record s { pc = n })) ram
 
-put_same : (direct : Bool) (p : Place) → is_shared direct p ≡ true → (v : ℕ) (ram ram' : List ℕ) → SameBytes ram ram' → SameBytes (put_first p v ram) (put p v ram')
-put_same direct Pcl sh v ram ram' b = b
-put_same direct Status sh v ram ram' b = b
-put_same direct Fsr sh v ram ram' b = b
-put_same direct Pclath sh v ram ram' b = b
-put_same direct Intcon sh v ram ram' b = b
-put_same direct Pir1 sh v ram ram' b = b
-put_same direct Pie1 sh v ram ram' b = b
-put_same direct (General k) sh v ram ram' b = set_twin k (byte_of direct k sh) v ram ram' b
-put_same direct (Device a) sh v ram ram' b = b
-put_same direct Nothing sh v ram ram' b = b
+  pub reading_twin : (p : Place) (n : ℕ) (s : State) (ram : List ℕ) → after_reading (twin_place m p) (record (twin s ram) { pc = n }) ≡ twin (after_reading p (record s { pc = n })) ram
+  reading_twin p n s ram = read_twin p (record s { pc = n }) ram
 
-pub finished_keeps : (direct : Bool) (p : Place) → is_shared direct p ≡ true → (d : Bool) (v : ℕ) (fl : Flags) (t : State) (ram : List ℕ) → SameBytes t.ram ram → SameBytes (finished p d v fl t).ram (put_if d p v ram) × ((finished p d v fl t).pie1 ≡ t.pie1)
-finished_keeps direct p sh true v fl t ram b =
-    let f = flagged_keeps fl v (stored (keeps_flags fl) p v t) in
-    let s = stored_keeps direct p sh (keeps_flags fl) v t in
-    (subst (λ r. SameBytes r (put p v ram)) (sym (f.0 ∙ s.0)) (put_same direct p sh v t.ram ram b), f.1 ∙ s.1)
-finished_keeps direct p sh false v fl t ram b =
-    let f = flagged_keeps fl v (record t { w = v }) in
-    (subst (λ r. SameBytes r ram) (sym f.0) b, f.1)
+  -- ---- PIE1 and the bytes of the first chip
+  abbrev pub put_first : Place → ℕ → List ℕ → List ℕ
+  put_first (General k) v ram = slice_set ram k v
+  put_first _ v ram = ram
 
-pub reading_keeps : (p : Place) (t : State) → ((after_reading p t).ram ≡ t.ram) × ((after_reading p t).pie1 ≡ t.pie1)
-reading_keeps Pcl t = (refl, refl)
-reading_keeps Status t = (refl, refl)
-reading_keeps Fsr t = (refl, refl)
-reading_keeps Pclath t = (refl, refl)
-reading_keeps Intcon t = (refl, refl)
-reading_keeps Pir1 t = (refl, refl)
-reading_keeps Pie1 t = (refl, refl)
-reading_keeps (General k) t = (refl, refl)
-reading_keeps (Device a) t = (refl, refl)
-reading_keeps Nothing t = (refl, refl)
+  flagged_keeps : (fl : Flags) (v : ℕ) (t : State) → ((flagged fl v t).ram ≡ t.ram) × ((flagged fl v t).pie1 ≡ t.pie1)
+  flagged_keeps Keep v t = (refl, refl)
+  flagged_keeps OnlyZ v t = (refl, refl)
+  flagged_keeps (OnlyC c) v t = (refl, refl)
+  flagged_keeps (Sums c dc) v t = (refl, refl)
+
+  stored_keeps : (direct : Bool) (p : Place) → has m direct p ≡ true → (plain : Bool) (v : ℕ) (t : State) → ((stored plain p v t).ram ≡ put_first p v t.ram) × (m.peripherals ≡ false → (stored plain p v t).pie1 ≡ t.pie1)
+  stored_keeps direct Pcl sh plain v t = (refl, λ off. refl)
+  stored_keeps direct Status sh true v t = (refl, λ off. refl)
+  stored_keeps direct Status sh false v t = (refl, λ off. refl)
+  stored_keeps direct Fsr sh plain v t = (refl, λ off. refl)
+  stored_keeps direct Pclath sh plain v t = (refl, λ off. refl)
+  stored_keeps direct Intcon sh plain v t = (refl, λ off. refl)
+  stored_keeps direct Pir1 sh plain v t = (refl, λ off. refl)
+  stored_keeps direct Pie1 sh plain v t = (refl, λ off. absurd (on_off m.peripherals sh off))
+  stored_keeps direct (General k) sh plain v t = (refl, λ off. refl)
+  stored_keeps direct (Device a) sh plain v t = (refl, λ off. refl)
+  stored_keeps direct Nothing sh plain v t = absurd (cc)
+
+  put_same : (direct : Bool) (p : Place) → has m direct p ≡ true → (v : ℕ) (ram ram' : List ℕ) → ShareBytes m ram ram' → ShareBytes m (put_first p v ram) (put p v ram')
+  put_same direct Pcl sh v ram ram' b = b
+  put_same direct Status sh v ram ram' b = b
+  put_same direct Fsr sh v ram ram' b = b
+  put_same direct Pclath sh v ram ram' b = b
+  put_same direct Intcon sh v ram ram' b = b
+  put_same direct Pir1 sh v ram ram' b = b
+  put_same direct Pie1 sh v ram ram' b = b
+  put_same direct (General k) sh v ram ram' b = set_twin k (byte_of direct k sh) v ram ram' b
+  put_same direct (Device a) sh v ram ram' b = b
+  put_same direct Nothing sh v ram ram' b = b
+
+  pub finished_keeps : (direct : Bool) (p : Place) → has m direct p ≡ true → (d : Bool) (v : ℕ) (fl : Flags) (t : State) (ram : List ℕ) → ShareBytes m t.ram ram → ShareBytes m (finished p d v fl t).ram (put_if d p v ram) × (m.peripherals ≡ false → (finished p d v fl t).pie1 ≡ t.pie1)
+  finished_keeps direct p sh true v fl t ram b =
+      let f = flagged_keeps fl v (stored (keeps_flags fl) p v t) in
+      let s = stored_keeps direct p sh (keeps_flags fl) v t in
+      (subst (λ r. ShareBytes m r (put p v ram)) (sym (f.0 ∙ s.0)) (put_same direct p sh v t.ram ram b), λ off. f.1 ∙ s.1 off)
+  finished_keeps direct p sh false v fl t ram b =
+      let f = flagged_keeps fl v (record t { w = v }) in
+      (subst (λ r. ShareBytes m r ram) (sym f.0) b, λ off. f.1)
+
+  pub reading_keeps : (p : Place) (t : State) → ((after_reading p t).ram ≡ t.ram) × ((after_reading p t).pie1 ≡ t.pie1)
+  reading_keeps Pcl t = (refl, refl)
+  reading_keeps Status t = (refl, refl)
+  reading_keeps Fsr t = (refl, refl)
+  reading_keeps Pclath t = (refl, refl)
+  reading_keeps Intcon t = (refl, refl)
+  reading_keeps Pir1 t = (refl, refl)
+  reading_keeps Pie1 t = (refl, refl)
+  reading_keeps (General k) t = (refl, refl)
+  reading_keeps (Device a) t = (refl, refl)
+  reading_keeps Nothing t = (refl, refl)
 
 -- ---- accesses
 abbrev pub made_at : (ℕ → ℕ) → Bool → Place → ℕ → List Made

@@ -1,254 +1,127 @@
--- The lockstep of both runs.
-use Rattle.std.proofs.Common.{◌≡◌, ℕ, zero, suc, ◌+◌, ◌/◌, ◌%◌, ◌<◌, Bool, true, false, List, [], ◌∷◌, ◌++◌, Option, Some, None, refl, sym, ap, ◌∙◌, subst, arith}
-use lib.Bits.{and_zero_r}
-use Rattle.std.specs.Prelude.{if◌then◌else◌, nat_eq, not, ◌&&◌, ◌||◌, slice_index, bit_and, bit_or}
+-- The second chip as a member of the family: its lockstep.
+use Rattle.std.proofs.Common.{◌≡◌, ℕ, zero, suc, ◌+◌, ◌-◌, ◌/◌, ◌%◌, ◌<◌, ◌≤◌, ◌⊎◌, inl, inr, ⊎_elim, Bool, true, false, List, [], ◌∷◌, Option, None, refl, sym, ap, ◌∙◌, subst, arith}
+use Rattle.std.specs.Prelude.{if◌then◌else◌, nat_eq, nat_lt, nat_le, not, ◌&&◌, ◌||◌, slice_index}
+use Rattle.std.proofs.lemmas.Bool.{ltb-true, lt-ltb, leb-true, le-leb}
 use Rattle.pic_isa.specs.declared.Ins.{Ins}
-use Rattle.pic_isa.specs.declared.Ins.TheVariants as isa
-use Rattle.pic_isa.specs.Lookup.{row_of}
 use Rattle.pic_world.specs.Arrivals.{arriving}
-use Rattle.pic_world.specs.Control as control
-use Rattle.pic_world.specs.Control.{has_bits}
-use Rattle.pic_world.specs.declared.Event.TheVariants as events
-use Rattle.pic_chip.specs.Act.{perform, accesses}
-use Rattle.pic_chip.specs.Instructions.{act_by, big, is_modelled, is_return_from_interrupt}
+use Rattle.pic_chip.specs.Address.{Place, Pcl, Status, Fsr, Pclath, Intcon, Pir1, Pie1, General, Device, Nothing, address_of}
+use Rattle.pic_chip.specs.Instructions.{is_modelled}
 use Rattle.pic_chip.specs.Interrupts as chip
-use Rattle.pic_chip.specs.Interrupts.{control_of, enter}
 use Rattle.pic_chip.specs.Run as chip_run
-use Rattle.pic_chip.specs.Run.{Range, Watch, Moment, object_at, observed, moment as first_moment_at}
+use Rattle.pic_chip.specs.Run.{Moment, object_at, moment as first_moment_at}
 use Rattle.pic_chip.specs.State as chip_state
 use Rattle.pic_chip.specs.State.{State}
-use Rattle.pic_chip.specs.SmallAddress.{small}
-use Rattle.chip_84a.specs.Lockstep.{IsNear, SameBytes, twin, AreAlike, Lockstep}
-use Rattle.chip_84a.specs.Machine.{room, reset, is_due, raised, begun, fetched, execute}
-use Rattle.chip_84a.specs.Port.{ported_row, IsPorted}
+use Rattle.chip_84a.specs.Family as family
+use Rattle.chip_84a.specs.Family.{ShareBytes, StaysNear, BeginAlike, has, moment_by}
+use Rattle.chip_84a.specs.Lockstep.{IsNear, SameBytes, is_shared, place_of, twin, AreAlike, Lockstep}
+use Rattle.chip_84a.specs.Machine.{room, reset}
+use Rattle.chip_84a.specs.Members.{pic16f84a}
+use Rattle.chip_84a.specs.Port.{low, ported_row}
 use Rattle.chip_84a.specs.Run as run
-use Rattle.chip_84a.specs.Run.{Setting, events_of, registers_of, moment as second_moment_at}
-use Rattle.chip_84a.proofs.Shown.{shows_nothing}
-use Rattle.chip_84a.proofs.Steps.{Steps, ins_steps}
+use Rattle.chip_84a.specs.Run.{Setting, moment as second_moment_at}
+use Rattle.chip_84a.proofs.Members.{second_fits}
+use Rattle.chip_84a.proofs.Places.{and_left, and_right}
+use Rattle.chip_84a.proofs.Shown.{small_address}
+use Rattle.chip_84a.proofs.Together as together
+use Rattle.chip_84a.proofs.Together.{keeps_step, modelled_by}
 
-abbrev pub twin_moment : Moment → List ℕ → Moment
-twin_moment m ram = record m { state = twin m.state ram }
+pub handling_twin : (mask : ℕ) (m : Moment) (ram : List ℕ) → m.state.pie1 ≡ 0 → run.is_handling mask (record m { state = twin m.state ram }) ≡ chip_run.is_handling mask m
+handling_twin mask m ram quiet = together.handling_by false mask m ram (λ off. quiet)
 
--- ---- interrupts
-and_zero : (x : ℕ) → bit_and x 0 ≡ 0
-and_zero x = and_zero_r x
-
-no_fourth : (e a b c d : Bool) → d ≡ false → (e && (a || b || c || d)) ≡ (e && (a || b || c))
-no_fourth e true b c d z = refl
-no_fourth e false true c d z = refl
-no_fourth e false false true d z = refl
-no_fourth e false false false d z = ap (λ y. e && y) z
-
-and_off : (b : Bool) → (b && false) ≡ false
-and_off true = refl
-and_off false = refl
-
-due_twin : (intcon pir1 pie1 : ℕ) → pie1 ≡ 0 → control.is_due (record { intcon = intcon; pir1 = pir1; pie1 = pie1 }) ≡ is_due intcon
-unfolding control.is_due
-due_twin intcon pir1 pie1 q =
-    no_fourth (nat_eq (intcon / 128 % 2) 1) (has_bits intcon 5 2) (has_bits intcon 4 1) (has_bits intcon 3 0) (nat_eq (intcon / 64 % 2) 1 && not (nat_eq (bit_and pir1 pie1) 0))
-    (ap (λ y. nat_eq (intcon / 64 % 2) 1 && not (nat_eq (bit_and pir1 y) 0)) q ∙ ap (λ y. nat_eq (intcon / 64 % 2) 1 && not (nat_eq y 0)) (and_zero pir1) ∙ and_off (nat_eq (intcon / 64 % 2) 1))
-
-module _ (mask : ℕ) (s : State) (ram : List ℕ) (quiet : s.pie1 ≡ 0) where
-  takes_twin : control.is_due (control_of (chip.raised mask s)) ≡ is_due (raised mask (twin s ram)).intcon
-  takes_twin = due_twin (bit_or s.intcon (mask % 8)) (bit_or s.pir1 (mask / 8 % 256)) s.pie1 quiet
-
-  begun_twin : begun mask (twin s ram) ≡ twin (chip.begun mask s) ram
-  begun_twin =
-      sym (ap (λ b. if b then perform enter (raised mask (twin s ram)) else raised mask (twin s ram)) takes_twin) ∙ by (control.is_due (control_of (chip.raised mask s))) where
-        by : (b : Bool) → (if b then perform enter (raised mask (twin s ram)) else raised mask (twin s ram)) ≡ twin (if b then perform enter (chip.raised mask s) else chip.raised mask s) ram
-        by true = refl
-        by false = refl
-
-  begun_keeps : ((chip.begun mask s).ram ≡ s.ram) × ((chip.begun mask s).pie1 ≡ s.pie1)
-  begun_keeps = by (control.is_due (control_of (chip.raised mask s))) where
-    by : (b : Bool) → ((if b then perform enter (chip.raised mask s) else chip.raised mask s).ram ≡ s.ram) × ((if b then perform enter (chip.raised mask s) else chip.raised mask s).pie1 ≡ s.pie1)
-    by true = (refl, refl)
-    by false = (refl, refl)
-
-pub handling_twin : (mask : ℕ) (m : Moment) (ram : List ℕ) → m.state.pie1 ≡ 0 → run.is_handling mask (twin_moment m ram) ≡ chip_run.is_handling mask m
-handling_twin mask m ram quiet = ap (λ b. m.handling || b) (sym (takes_twin mask m.state ram quiet))
-
--- ---- rows that were ported
 pub modelled_twin : (o : Option Ins) → is_modelled (ported_row o) ≡ is_modelled o
-modelled_twin None = refl
-modelled_twin (Some (isa.Addwf a b)) = refl
-modelled_twin (Some (isa.Andwf a b)) = refl
-modelled_twin (Some (isa.Comf a b)) = refl
-modelled_twin (Some (isa.Decf a b)) = refl
-modelled_twin (Some (isa.Decfsz a b)) = refl
-modelled_twin (Some (isa.Incf a b)) = refl
-modelled_twin (Some (isa.Incfsz a b)) = refl
-modelled_twin (Some (isa.Iorwf a b)) = refl
-modelled_twin (Some (isa.Movf a b)) = refl
-modelled_twin (Some (isa.Rlf a b)) = refl
-modelled_twin (Some (isa.Rrf a b)) = refl
-modelled_twin (Some (isa.Subwf a b)) = refl
-modelled_twin (Some (isa.Swapf a b)) = refl
-modelled_twin (Some (isa.Xorwf a b)) = refl
-modelled_twin (Some (isa.Bcf a b)) = refl
-modelled_twin (Some (isa.Bsf a b)) = refl
-modelled_twin (Some (isa.Btfsc a b)) = refl
-modelled_twin (Some (isa.Btfss a b)) = refl
-modelled_twin (Some (isa.Clrf a)) = refl
-modelled_twin (Some (isa.Movwf a)) = refl
-modelled_twin (Some (isa.Addlw a)) = refl
-modelled_twin (Some (isa.Andlw a)) = refl
-modelled_twin (Some (isa.Call a)) = refl
-modelled_twin (Some (isa.Goto a)) = refl
-modelled_twin (Some (isa.Iorlw a)) = refl
-modelled_twin (Some (isa.Movlw a)) = refl
-modelled_twin (Some (isa.Retlw a)) = refl
-modelled_twin (Some (isa.Sublw a)) = refl
-modelled_twin (Some (isa.Xorlw a)) = refl
-modelled_twin (Some isa.Clrw) = refl
-modelled_twin (Some isa.Nop) = refl
-modelled_twin (Some isa.Clrwdt) = refl
-modelled_twin (Some isa.Retfie) = refl
-modelled_twin (Some isa.Return) = refl
-modelled_twin (Some isa.Sleep) = refl
+modelled_twin o = modelled_by low o
 
-returns_twin : (o : Option Ins) → is_return_from_interrupt (ported_row o) ≡ is_return_from_interrupt o
-returns_twin None = refl
-returns_twin (Some (isa.Addwf a b)) = refl
-returns_twin (Some (isa.Andwf a b)) = refl
-returns_twin (Some (isa.Comf a b)) = refl
-returns_twin (Some (isa.Decf a b)) = refl
-returns_twin (Some (isa.Decfsz a b)) = refl
-returns_twin (Some (isa.Incf a b)) = refl
-returns_twin (Some (isa.Incfsz a b)) = refl
-returns_twin (Some (isa.Iorwf a b)) = refl
-returns_twin (Some (isa.Movf a b)) = refl
-returns_twin (Some (isa.Rlf a b)) = refl
-returns_twin (Some (isa.Rrf a b)) = refl
-returns_twin (Some (isa.Subwf a b)) = refl
-returns_twin (Some (isa.Swapf a b)) = refl
-returns_twin (Some (isa.Xorwf a b)) = refl
-returns_twin (Some (isa.Bcf a b)) = refl
-returns_twin (Some (isa.Bsf a b)) = refl
-returns_twin (Some (isa.Btfsc a b)) = refl
-returns_twin (Some (isa.Btfss a b)) = refl
-returns_twin (Some (isa.Clrf a)) = refl
-returns_twin (Some (isa.Movwf a)) = refl
-returns_twin (Some (isa.Addlw a)) = refl
-returns_twin (Some (isa.Andlw a)) = refl
-returns_twin (Some (isa.Call a)) = refl
-returns_twin (Some (isa.Goto a)) = refl
-returns_twin (Some (isa.Iorlw a)) = refl
-returns_twin (Some (isa.Movlw a)) = refl
-returns_twin (Some (isa.Retlw a)) = refl
-returns_twin (Some (isa.Sublw a)) = refl
-returns_twin (Some (isa.Xorlw a)) = refl
-returns_twin (Some isa.Clrw) = refl
-returns_twin (Some isa.Nop) = refl
-returns_twin (Some isa.Clrwdt) = refl
-returns_twin (Some isa.Retfie) = refl
-returns_twin (Some isa.Return) = refl
-returns_twin (Some isa.Sleep) = refl
+-- ---- its runs are those of the member
+general : Setting → family.Setting
+general h = record { image = h.image; watch = h.watch; reset = reset h.start; inputs = h.inputs; arrivals = h.arrivals }
 
--- ---- what a look at the program counter leaves
-observed_twin : (w : Watch) (m : Moment) (ram : List ℕ) → (observed w (twin_moment m ram) ≡ twin_moment (observed w m) ram) × ((observed w m).state ≡ m.state)
-observed_twin w m ram = by m.met where
-  ended : (b : Bool) → ((if b then record (twin_moment m ram) { ended = true; trace = m.trace ++ events.End ∷ [] } else twin_moment m ram) ≡ twin_moment (if b then record m { ended = true; trace = m.trace ++ events.End ∷ [] } else m) ram)
-      × ((if b then record m { ended = true; trace = m.trace ++ events.End ∷ [] } else m).state ≡ m.state)
-  ended true = (refl, refl)
-  ended false = (refl, refl)
+same_moment : (h : Setting) (n : ℕ) → second_moment_at h n ≡ moment_by pic16f84a (general h) n
+unfolding second_moment_at moment_by general
+same_moment h zero = refl
+same_moment h (suc n) = ap (λ m. run.next_moment h.image h.inputs h.watch (arriving h.arrivals n) m) (same_moment h n)
 
-  by : (b : Bool) → ((if b then (if nat_eq m.state.pc w.halt && not m.ended then record (twin_moment m ram) { ended = true; trace = m.trace ++ events.End ∷ [] } else twin_moment m ram) else record (twin_moment m ram) { met = nat_eq m.state.pc w.main })
-      ≡ twin_moment (if b then (if nat_eq m.state.pc w.halt && not m.ended then record m { ended = true; trace = m.trace ++ events.End ∷ [] } else m) else record m { met = nat_eq m.state.pc w.main }) ram)
-      × ((if b then (if nat_eq m.state.pc w.halt && not m.ended then record m { ended = true; trace = m.trace ++ events.End ∷ [] } else m) else record m { met = nat_eq m.state.pc w.main }).state ≡ m.state)
-  by true = ended (nat_eq m.state.pc w.halt && not m.ended)
-  by false = (refl, refl)
+-- ---- bytes
+both : (a b : Bool) → a ≡ true → b ≡ true → (a && b) ≡ true
+both true b e f = f
+both false b e f = absurd (cc)
 
--- ---- one moment further
-pub record Goes (a b : Moment) : Type 0 where
-  pub ram : List ℕ
-  pub bytes : SameBytes a.state.ram ram
-  pub quiet : a.state.pie1 ≡ 0
-  pub same : b ≡ twin_moment a ram
+either : (a b : Bool) → (a || b) ≡ true → (a ≡ true) ⊎ (b ≡ true)
+either true b e = inl refl
+either false b e = inr e
 
-observed_goes : (w : Watch) (a b : Moment) → Goes a b → Goes (observed w a) (observed w b)
-observed_goes w a b x =
-    let o = observed_twin w a x.ram in
-    record {
-      ram = x.ram;
-      bytes = subst (λ (s : State). SameBytes s.ram x.ram) (sym o.1) x.bytes;
-      quiet = ap (λ (s : State). s.pie1) o.1 ∙ x.quiet;
-      same = ap (observed w) x.same ∙ o.0;
-    }
+-- a byte that both have stands below 48, or from 80 to 95
+which : (k : ℕ) → family.shared_byte pic16f84a k ≡ true → (k < 48) ⊎ ((80 ≤ k) × (k < 96))
+which k e =
+    ⊎_elim (λ l. inl (ltb-true k 48 l)) (λ h. inr (leb-true 80 k (and_left _ _ h), ltb-true k 96 (and_right (nat_le 80 k) _ h)))
+    (either (nat_lt k 48) (nat_le 80 k && nat_lt k 96) e)
 
-module _ (image image' inputs : List ℕ) (watch : Watch) (ported_image : IsPorted image image') (clear : (k : ℕ) → k < 16 → object_at watch.ranges 0 (k + 0x70) ≡ None) (mask : ℕ) (m : Moment) (ram : List ℕ)
-    (bytes : SameBytes m.state.ram ram) (quiet : m.state.pie1 ≡ 0) (near : IsNear image (chip.begun mask m.state)) where
-  abbrev s : State
-  s = chip.begun mask m.state
+byte_low : (k : ℕ) → k < 48 → pic16f84a.byte k ≡ k + 20
+byte_low k lt = ap (λ b. if b then k + 20 else k - 80) (lt-ltb k 48 lt)
 
-  abbrev t : State
-  t = begun mask (twin m.state ram)
+byte_high : (k : ℕ) → 80 ≤ k → pic16f84a.byte k ≡ k - 80
+byte_high k le = by (nat_lt k 48) refl where
+  by : (b : Bool) → nat_lt k 48 ≡ b → (if b then k + 20 else k - 80) ≡ k - 80
+  by true e = absurd (let z = ltb-true k 48 e in omega (arith, z, le))
+  by false e = refl
 
-  s_bytes : SameBytes s.ram ram
-  s_bytes = subst (λ z. SameBytes z ram) (sym (begun_keeps mask m.state ram quiet).0) bytes
+share : (ram ram' : List ℕ) → SameBytes ram ram' → ShareBytes pic16f84a ram ram'
+share ram ram' b = record {
+  count = b.count;
+  second_count = b.second_count;
+  same = λ k lt shared.
+      ⊎_elim (λ l. ap (λ j. slice_index ram' j) (byte_low k l) ∙ b.low k l)
+      (λ h.
+        let le = h.0 in let up = h.1 in
+        ap (λ j. slice_index ram' j) (byte_high k le) ∙ b.common (k - 80) (omega (arith, le, up)) ∙ ap (slice_index ram) (let z : k - 80 + 80 ≡ k = omega (arith, le) in z))
+      (which k shared);
+}
 
-  s_quiet : s.pie1 ≡ 0
-  s_quiet = (begun_keeps mask m.state ram quiet).1 ∙ quiet
+unshare : (ram ram' : List ℕ) → ShareBytes pic16f84a ram ram' → SameBytes ram ram'
+unshare ram ram' b = record {
+  count = b.count;
+  second_count = b.second_count;
+  low = λ k lt. sym (ap (λ j. slice_index ram' j) (byte_low k lt)) ∙ b.same k (omega (arith, lt)) (first (nat_lt k 48) (nat_le 80 k && nat_lt k 96) (lt-ltb k 48 lt));
+  common = λ k lt.
+      let j = k + 80 in
+      let e : j - 80 ≡ k = omega arith in
+      ap (λ i. slice_index ram' i) (sym e) ∙ sym (ap (λ i. slice_index ram' i) (byte_high j (omega arith)))
+      ∙ b.same j (omega (arith, lt)) (second (nat_lt j 48) (nat_le 80 j && nat_lt j 96) (both _ _ (le-leb 80 j (omega arith)) (lt-ltb j 96 (omega (arith, lt)))));
+} where
+  first : (a b : Bool) → a ≡ true → (a || b) ≡ true
+  first true b e = refl
+  first false b e = absurd (cc)
 
-  same : t ≡ twin s ram
-  same = begun_twin mask m.state ram quiet
+  second : (a b : Bool) → b ≡ true → (a || b) ≡ true
+  second true b e = refl
+  second false b e = e
 
-  word : row_of (slice_index image' (s.pc % 1024)) ≡ ported_row (row_of (slice_index image s.pc))
-  word = let lt = near.pc in ap (λ k. row_of (slice_index image' k)) (let z : s.pc % 1024 ≡ s.pc = omega (arith, lt) in z) ∙ ported_image s.pc (omega (arith, lt))
+-- ---- what both have
+has_it : (direct : Bool) (p : Place) → is_shared direct p ≡ true → has pic16f84a direct p ≡ true
+has_it direct (General k) e = both (nat_lt k 368) _ (lt-ltb k 368 (below k direct e)) e where
+  below : (k : ℕ) (direct : Bool) → (nat_lt k 48 || (direct && (nat_le 80 k && nat_lt k 96))) ≡ true → k < 368
+  below k direct e =
+      ⊎_elim (λ l. let z = ltb-true k 48 l in omega (arith, z)) (λ h. let z = ltb-true k 96 (and_right (nat_le 80 k) _ (and_right direct _ h)) in omega (arith, z))
+      (either (nat_lt k 48) (direct && (nat_le 80 k && nat_lt k 96)) e)
+has_it direct (Device a) e = let z = small_address a e in both (nat_lt a 512) _ (lt-ltb a 512 (omega (arith, z))) e
+has_it direct Pcl e = refl
+has_it direct Status e = refl
+has_it direct Fsr e = refl
+has_it direct Pclath e = refl
+has_it direct Intcon e = refl
+has_it direct Pir1 e = e
+has_it direct Pie1 e = e
+has_it direct Nothing e = e
 
-  by_row : (o : Option Ins) → row_of (slice_index image s.pc) ≡ o → Steps inputs watch.ranges clear s ram s_bytes s_quiet (act_by big inputs s.pc o) (act_by small inputs s.pc (ported_row o))
-  by_row None e = record { ram = ram; bytes = s_bytes; quiet = s_quiet; same = refl; shows = shows_nothing watch.ranges }
-  by_row (Some i) e = ins_steps inputs watch.ranges clear s ram s_bytes s_quiet near.bank near.fsr i (λ f q. near.operand i f e q)
+near_it : (image : List ℕ) (s : State) → IsNear image s → StaysNear pic16f84a image s
+near_it image s n = record {
+  pc = n.pc;
+  bank = n.bank;
+  fsr = n.fsr;
+  operand = λ i f row file. let o = n.operand i f row file in (o.0, has_it (not (nat_eq f 0)) (place_of s f) o.1);
+}
 
-  does : Steps inputs watch.ranges clear s ram s_bytes s_quiet (act_by big inputs s.pc (row_of (slice_index image s.pc))) (act_by small inputs s.pc (row_of (slice_index image' (s.pc % 1024))))
-  does = subst (λ o. Steps inputs watch.ranges clear s ram s_bytes s_quiet (act_by big inputs s.pc (row_of (slice_index image s.pc))) (act_by small inputs s.pc o)) (sym word) (by_row (row_of (slice_index image s.pc)) refl)
-
-  after : State
-  after = perform (act_by small inputs s.pc (row_of (slice_index image' (s.pc % 1024)))) (twin s ram)
-
-  stepped_goes : Goes (chip_run.stepped image inputs watch.ranges mask m) (run.stepped image' inputs watch.ranges mask (twin_moment m ram))
-  stepped_goes =
-      let x = does in
-      let state : perform (execute image' inputs) t ≡ twin (perform (act_by big inputs s.pc (row_of (slice_index image s.pc))) s) x.ram = ap (perform (execute image' inputs)) same ∙ x.same in
-      let made : accesses (execute image' inputs) t ≡ accesses (execute image' inputs) (twin s ram) = ap (accesses (execute image' inputs)) same in
-      let handling : ((m.handling || is_due (raised mask (twin m.state ram)).intcon) && not (is_return_from_interrupt (fetched image' t))) ≡ ((m.handling || control.is_due (control_of (chip.raised mask m.state))) && not (is_return_from_interrupt (row_of (slice_index image s.pc)))) =
-      ap (λ b. (m.handling || b) && not (is_return_from_interrupt (fetched image' t))) (sym (takes_twin mask m.state ram quiet))
-      ∙ ap (λ (u : State). (m.handling || control.is_due (control_of (chip.raised mask m.state))) && not (is_return_from_interrupt (fetched image' u))) same
-      ∙ ap (λ b. (m.handling || control.is_due (control_of (chip.raised mask m.state))) && not b) (ap is_return_from_interrupt word ∙ returns_twin (row_of (slice_index image s.pc))) in
-      let early : (if m.met then m.early else m.early ++ registers_of (accesses (execute image' inputs) t)) ≡ (if m.met then m.early else m.early ++ chip_run.registers_of (accesses (act_by big inputs s.pc (row_of (slice_index image s.pc))) s)) =
-      ap (λ z. if m.met then m.early else m.early ++ registers_of z) made ∙ ap (λ z. if m.met then m.early else m.early ++ z) x.shows.1 in
-      let trace : (if m.met then m.trace ++ events_of watch.ranges (accesses (execute image' inputs) t) else m.trace) ≡ (if m.met then m.trace ++ chip_run.events_of watch.ranges (accesses (act_by big inputs s.pc (row_of (slice_index image s.pc))) s) else m.trace) =
-      ap (λ z. if m.met then m.trace ++ events_of watch.ranges z else m.trace) made ∙ ap (λ z. if m.met then m.trace ++ z else m.trace) x.shows.0 in
-      record {
-        ram = x.ram;
-        bytes = x.bytes;
-        quiet = x.quiet;
-        same = λ i. record m { state = state i; handling = handling i; early = early i; trace = trace i };
-      }
-
-  ends_same : run.ends_at image' mask (twin_moment m ram) ≡ chip_run.ends_at image mask m
-  ends_same =
-      ap (λ (u : State). m.stopped || not (is_modelled (fetched image' u))) same
-      ∙ ap (λ b. m.stopped || not b) (ap is_modelled word ∙ modelled_twin (row_of (slice_index image s.pc)))
-
-  next_goes : Goes (chip_run.next_moment image inputs watch mask m) (run.next_moment image' inputs watch mask (twin_moment m ram))
-  next_goes =
-      subst (λ b. Goes (chip_run.next_moment image inputs watch mask m) (if b then record (twin_moment m ram) { stopped = true } else observed watch (run.stepped image' inputs watch.ranges mask (twin_moment m ram)))) (sym ends_same)
-      (by (chip_run.ends_at image mask m)) where
-        by : (b : Bool) → Goes (if b then record m { stopped = true } else observed watch (chip_run.stepped image inputs watch.ranges mask m)) (if b then record (twin_moment m ram) { stopped = true } else observed watch (run.stepped image' inputs watch.ranges mask (twin_moment m ram)))
-        by true = record { ram = ram; bytes = bytes; quiet = quiet; same = refl }
-        by false = observed_goes watch _ _ stepped_goes
-
--- ---- all moments
+-- ---- both runs
 module _ (g : chip_run.Setting) (h : Setting) (alike : AreAlike g h) where
-  next_by : (w : Watch) (ins : List ℕ) (mask : ℕ) (a b : Moment) → g.watch ≡ w → g.inputs ≡ ins → (x : Goes a b) → IsNear g.image (chip.begun mask a.state) → Goes (chip_run.next_moment g.image g.inputs g.watch mask a) (run.next_moment h.image ins w mask b)
-  next_by w ins mask a b ew ei x near =
-      subst (λ v. Goes (chip_run.next_moment g.image g.inputs g.watch mask a) (run.next_moment h.image ins v mask b)) ew
-      (subst (λ v. Goes (chip_run.next_moment g.image g.inputs g.watch mask a) (run.next_moment h.image v g.watch mask b)) ei
-      (subst (λ (z : Moment). Goes (chip_run.next_moment g.image g.inputs g.watch mask a) (run.next_moment h.image g.inputs g.watch mask z)) (sym x.same)
-      (next_goes g.image h.image g.inputs g.watch alike.image alike.clear mask a x.ram x.bytes x.quiet near)))
-
   first_state : reset h.start ≡ twin (chip_state.reset g.start) (room h.start.ram)
   first_state = λ i. record {
     w = alike.w i;
@@ -269,27 +142,40 @@ module _ (g : chip_run.Setting) (h : Setting) (alike : AreAlike g h) where
     taken = 0;
   }
 
-  abbrev at_reset : State → Moment
-  at_reset s = record { state = s; stopped = false; handling = false; met = false; ended = false; early = []; trace = [] }
+  -- where an access shows nothing there is no object
+  clear_it : (k : ℕ) → k < 368 → family.shared_byte pic16f84a k ≡ true → pic16f84a.hides (pic16f84a.lowest (pic16f84a.byte k)) ≡ true → object_at g.watch.ranges 0 (address_of k) ≡ None
+  clear_it k lt shared hidden =
+      ⊎_elim
+      (λ l.
+        let e : k + 20 + 12 ≡ k + 32 = omega arith in
+        let z = ltb-true (k + 32) 0x20 (and_right (nat_le 0x0c (k + 32)) _ (subst (λ a. pic16f84a.hides a ≡ true) (ap (λ q. q + 12) (byte_low k l) ∙ e) hidden)) in
+        absurd (omega (arith, z)))
+      (λ r.
+        let le = r.0 in let up = r.1 in
+        let a : address_of k ≡ k + 0x20 = ap (λ b. if b then k + 0x20 else (if nat_lt k 176 then k + 0x40 else if nat_lt k 272 then k + 0x60 else k + 0x80)) (lt-ltb k 96 up) in
+        let e : k + 32 ≡ k - 80 + 112 = omega (arith, le) in
+        ap (object_at g.watch.ranges 0) (a ∙ e) ∙ alike.clear (k - 80) (omega (arith, le, up)))
+      (which k shared)
 
-  first_goes : Goes (observed g.watch (at_reset (chip_state.reset g.start))) (observed h.watch (at_reset (reset h.start)))
-  first_goes =
-      subst (λ w. Goes (observed g.watch (at_reset (chip_state.reset g.start))) (observed w (at_reset (reset h.start)))) (sym alike.watch)
-      (observed_goes g.watch (at_reset (chip_state.reset g.start)) (at_reset (reset h.start)) (record { ram = room h.start.ram; bytes = alike.ram; quiet = refl; same = ap at_reset first_state }))
-
-  pub all_goes : (n : ℕ) → ((k : ℕ) → k < n → IsNear g.image (chip.begun (arriving g.arrivals k) (first_moment_at g k).state)) → Goes (first_moment_at g n) (second_moment_at h n)
-  unfolding first_moment_at second_moment_at
-  all_goes zero near = first_goes
-  all_goes (suc n) near =
-      subst (λ l. Goes (first_moment_at g (suc n)) (run.next_moment h.image h.inputs h.watch (arriving l n) (second_moment_at h n))) (sym alike.arrivals)
-      (next_by h.watch h.inputs (arriving g.arrivals n) (first_moment_at g n) (second_moment_at h n) (sym alike.watch) (sym alike.inputs) (all_goes n (λ k lt. near k (omega (arith, lt)))) (near n (omega arith)))
+  begin_alike : BeginAlike pic16f84a g (general h)
+  unfolding general
+  begin_alike = record {
+    image = alike.image;
+    watch = alike.watch;
+    inputs = alike.inputs;
+    arrivals = alike.arrivals;
+    ram = room h.start.ram;
+    bytes = share g.start.ram (room h.start.ram) alike.ram;
+    reset = first_state;
+    clear = clear_it;
+  }
 
 pub lockstep : Lockstep
 lockstep g h alike n near =
-    let x = all_goes g h alike n near in
-    let e : (second_moment_at h n).state.ram ≡ x.ram = ap (λ (m : Moment). m.state.ram) x.same in
+    let x = keeps_step pic16f84a second_fits g (general h) (begin_alike g h alike) n (λ k lt. near_it g.image (chip.begun (arriving g.arrivals k) (first_moment_at g k).state) (near k lt)) in
+    let e = same_moment h n in
     record {
-      bytes = subst (λ r. SameBytes (first_moment_at g n).state.ram r) (sym e) x.bytes;
-      quiet = x.quiet;
-      same = x.same ∙ ap (twin_moment (first_moment_at g n)) (sym e);
+      bytes = subst (λ (b : Moment). SameBytes (first_moment_at g n).state.ram b.state.ram) (sym e) (unshare (first_moment_at g n).state.ram (moment_by pic16f84a (general h) n).state.ram x.bytes);
+      quiet = x.quiet refl;
+      same = subst (λ (b : Moment). b ≡ record (first_moment_at g n) { state = twin (first_moment_at g n).state b.state.ram }) (sym e) x.same;
     }

@@ -5,36 +5,43 @@ use Rattle.pic_isa.specs.declared.Ins.{Ins}
 use Rattle.pic_isa.specs.declared.Ins.TheVariants.{Addwf, Andwf, Clrf, Comf, Decf, Decfsz, Incf, Incfsz, Iorwf, Movf, Movwf, Rlf, Rrf, Subwf, Swapf, Xorwf, Bcf, Bsf, Btfsc, Btfss}
 use Rattle.pic_isa.specs.Lookup.{row_of}
 
--- a row's operand, and the row
+-- a row's operand
 abbrev pub low : ℕ → ℕ
 low f = if nat_le 0x70 f then f - 0x64 else f
 
+-- g is what an operand becomes
+abbrev pub ported_by : (ℕ → ℕ) → Ins → Ins
+ported_by g (Addwf f d) = Addwf (g f) d
+ported_by g (Andwf f d) = Andwf (g f) d
+ported_by g (Clrf f) = Clrf (g f)
+ported_by g (Comf f d) = Comf (g f) d
+ported_by g (Decf f d) = Decf (g f) d
+ported_by g (Decfsz f d) = Decfsz (g f) d
+ported_by g (Incf f d) = Incf (g f) d
+ported_by g (Incfsz f d) = Incfsz (g f) d
+ported_by g (Iorwf f d) = Iorwf (g f) d
+ported_by g (Movf f d) = Movf (g f) d
+ported_by g (Movwf f) = Movwf (g f)
+ported_by g (Rlf f d) = Rlf (g f) d
+ported_by g (Rrf f d) = Rrf (g f) d
+ported_by g (Subwf f d) = Subwf (g f) d
+ported_by g (Swapf f d) = Swapf (g f) d
+ported_by g (Xorwf f d) = Xorwf (g f) d
+ported_by g (Bcf f b) = Bcf (g f) b
+ported_by g (Bsf f b) = Bsf (g f) b
+ported_by g (Btfsc f b) = Btfsc (g f) b
+ported_by g (Btfss f b) = Btfss (g f) b
+ported_by g i = i
+
 abbrev pub ported : Ins → Ins
-ported (Addwf f d) = Addwf (low f) d
-ported (Andwf f d) = Andwf (low f) d
-ported (Clrf f) = Clrf (low f)
-ported (Comf f d) = Comf (low f) d
-ported (Decf f d) = Decf (low f) d
-ported (Decfsz f d) = Decfsz (low f) d
-ported (Incf f d) = Incf (low f) d
-ported (Incfsz f d) = Incfsz (low f) d
-ported (Iorwf f d) = Iorwf (low f) d
-ported (Movf f d) = Movf (low f) d
-ported (Movwf f) = Movwf (low f)
-ported (Rlf f d) = Rlf (low f) d
-ported (Rrf f d) = Rrf (low f) d
-ported (Subwf f d) = Subwf (low f) d
-ported (Swapf f d) = Swapf (low f) d
-ported (Xorwf f d) = Xorwf (low f) d
-ported (Bcf f b) = Bcf (low f) b
-ported (Bsf f b) = Bsf (low f) b
-ported (Btfsc f b) = Btfsc (low f) b
-ported (Btfss f b) = Btfss (low f) b
-ported i = i
+ported = ported_by low
+
+abbrev pub ported_row_by : (ℕ → ℕ) → Option Ins → Option Ins
+ported_row_by g None = None
+ported_row_by g (Some i) = Some (ported_by g i)
 
 abbrev pub ported_row : Option Ins → Option Ins
-ported_row None = None
-ported_row (Some i) = Some (ported i)
+ported_row = ported_row_by low
 
 -- at each address the second image has the row of the first one, ported
 abbrev pub IsPorted : List ℕ → List ℕ → Type 0

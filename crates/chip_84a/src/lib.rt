@@ -5,11 +5,13 @@
 //! The promise: each step is that of the definitions in specs/, which have the rows, the processor and the 368 bytes of pic_chip with this
 //! chip's own addresses. Over a board chip and trace go on as a run by these definitions, with the board's answers. As long as each
 //! instruction of the first chip keeps within what both chips have, the second one with the image that `port` makes of the first one's is
-//! beside it: the same trace, registers and return stack.
+//! beside it: the same trace, registers and return stack. That law is one of each chip of the family whose tables pass a test (specs/Family.antt).
 #![tactic(auto)]
 
 ghost use Rattle.chip_84a.specs.Examples.{WorkedStates};
+ghost use Rattle.chip_84a.specs.Family.{FamilyKeepsStep};
 ghost use Rattle.chip_84a.specs.Lockstep.{Lockstep};
+ghost use Rattle.chip_84a.specs.Members.{MembersFit};
 ghost use Rattle.chip_84a.specs.Port.{ImagesPort};
 ghost use Rattle.chip_84a.specs.Simulated.{MasksAreArrivals, BeginsAtReset, GoesOn, GoesOnByScript, StopsForGood};
 
@@ -30,6 +32,13 @@ pub struct Start84 {
     pub flags: u8,
     pub ram: [u8; 68],
 }
+
+/// A chip of the family whose tables pass a test is beside the first one as long as each instruction of that keeps within what both have; and
+/// which chips pass it.
+pub fn members_keep_step()
+    ensures law { FamilyKeepsStep }
+    ensures members { MembersFit }
+{}
 
 /// As long as each instruction of the first chip keeps within what both chips have, the second one is beside it.
 pub fn runs_in_lockstep()

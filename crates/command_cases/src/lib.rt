@@ -213,7 +213,7 @@ fn file_count(case: Case<'_>) -> usize {
     } else {
         case.files.split('@').count()
     };
-    let has_built = case.commands.starts_with("build ")
+    let has_built = case.commands.starts_with("build")
         && (case.status == 0 || case.commands.contains(';'));
     fields.saturating_add(if has_built { 2 } else { 0 })
 }
