@@ -23,7 +23,7 @@ use Rattle.picc_cli.proofs.FilesKept.{same_bytes}
 -- what the passes made for the first chip is built, too
 built_for : (chip : Profile) (text hex map : List ℕ) → files_for chip text hex map → IsBuiltBy (build_for chip) text hex map
 built_for Pic16F877a text hex map is = is.built
-built_for Pic16F84a text hex map is = is
+built_for Pic16F84a text hex map is = is.built
 
 -- of each build there is one answer
 answer_for : (chip : Profile) (text : List ℕ) → HasOneAnswerOf (build_for chip) text

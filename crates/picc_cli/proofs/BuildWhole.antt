@@ -39,4 +39,4 @@ module _ (text hex map : List ℕ) (built : Built) (hex_file : IsHexFile hex bui
   pub made_whole : (chip : Profile) → IsCompiledBy (build_for chip) text built → PassesMade chip built → files_for chip text hex map
   unfolding built_by
   made_whole Pic16F877a is passes = record { built = built_by plain is; translated = passes }
-  made_whole Pic16F84a is passes = built_by second is
+  made_whole Pic16F84a is passes = record { built = built_by second is; translated = passes }

@@ -38,7 +38,7 @@ read_long most text bytes e long =
 -- what is built of a text for a chip shows that it has a tree
 tree_of : (chip : Profile) (text hex map : List ℕ) → files_for chip text hex map → HasTree text
 tree_of Pic16F877a text hex map is = is.built.tree
-tree_of Pic16F84a text hex map is = is.tree
+tree_of Pic16F84a text hex map is = is.built.tree
 
 built_whole : (chip : Profile) (text bytes hex map : List ℕ) → take 262145 text ≡ bytes → files_for chip bytes hex map → files_for chip text hex map
 built_whole chip text bytes hex map e built = subst (λ t. files_for chip t hex map) (tree_whole text bytes e (tree_of chip bytes hex map built)) built

@@ -24,7 +24,7 @@ use Rattle.picc_cli.specs.ScriptInput.{IsScript}
 use Rattle.picc_cli.specs.Trace.{Knows, IsTraceText}
 
 -- ---- the files, where the host tells what they held before
--- Of a build: what its files are said to be is the promise (`IsBuiltBy`), or that the passes made them besides (`IsMade`).
+-- Of a build: what its files are said to be is the promise (`IsBuiltBy`), or that the passes made them besides (`files_for`).
 pub record BuildHasFilesBy (b : builds.Build) (Are : Files) (names : Names) (old : Contents) (new : Option Contents) (result : ℕ) : Type 0 where
   pub built : result ≡ 0 → Builds Are names old new
   pub refused : result ≡ 1 → (why : Outcome) × RefusesBy b why names old new

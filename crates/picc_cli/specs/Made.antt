@@ -10,7 +10,7 @@ use Rattle.pic_chip.specs.declared.profile.Profile.{Profile}
 use Rattle.pic_chip.specs.declared.profile.Profile.TheVariants.{Pic16F877a, Pic16F84a}
 use Rattle.c_typed.specs.Views.{program_of}
 use Rattle.pic_map.specs.MapView.{content_of}
-use Rattle.picc_core.specs.SecondChip.{second}
+use Rattle.picc_core.specs.SecondChip.{second, IsTranslatedSecond}
 use Rattle.picc_core.specs.declared.known.Built.{Built}
 use Rattle.picc_cli.specs.Built.{IsBuilt, IsBuiltBy}
 use Rattle.picc_cli.specs.Command.{Form, Build, Trace, Simulate, Agree, Generate, Check}
@@ -23,15 +23,20 @@ pub record IsMade (text hex map : List ℕ) : Type 0 where
   pub built : IsBuilt text hex map
   pub translated : IsTranslated built.program built.image built.content
 
--- What the files of a build for a chip are said to be: for the second chip the passes make another image, which is ported.
+-- So for the second chip, with the operands of that chip.
+pub record IsMadeSecond (text hex map : List ℕ) : Type 0 where
+  pub built : IsBuiltBy second text hex map
+  pub translated : IsTranslatedSecond built.program built.image built.content
+
+-- what the files of a build for a chip are said to be
 abbrev pub files_for : Profile → Files
 files_for Pic16F877a = IsMade
-files_for Pic16F84a = IsBuiltBy second
+files_for Pic16F84a = IsMadeSecond
 
--- The passes made it, where it is for the first chip.
+-- the passes made it for this chip
 abbrev pub PassesMade : Profile → Built → Type 0
 PassesMade Pic16F877a built = IsTranslated (program_of built.typed) built.image (content_of built.map)
-PassesMade Pic16F84a built = Unit {0}
+PassesMade Pic16F84a built = IsTranslatedSecond (program_of built.typed) built.image (content_of built.map)
 
 -- This is told of the runs of a text, and their image and map are what all passes make of its program.
 pub record RunsMade (text : List ℕ) (script : ScriptContent) (n : ℕ) (agreed : Agreed) : Type 0 where

@@ -11,7 +11,7 @@ ghost use Rattle.picc_cli.specs.Command.{Build};
 ghost use Rattle.picc_cli.specs.CommandView.{names_of};
 ghost use Rattle.picc_cli.specs.Finished.{HasFiles, HasFaults, HasStatus, HasPrinted, HasTold, IsComplete};
 ghost use Rattle.picc_cli.specs.Made.{HasMade, PassesMade, files_for};
-ghost use Rattle.pic_chip.specs.declared.profile.Profile.TheVariants.{Pic16F877a};
+ghost use Rattle.pic_chip.specs.declared.profile.Profile.TheVariants.{Pic16F877a, Pic16F84a};
 ghost use Rattle.picc_core.specs.Compiled.{IsCompiledBy, plain};
 ghost use Rattle.picc_core.specs.SecondChip.{second};
 ghost use Rattle.picc_cli.specs.declared.building.Outcome.TheVariants as outcomes;
@@ -126,6 +126,7 @@ fn compiled_first(alloc: Global, text: &[u8]) -> Result<Program, Outcome>
 /// The same for the second chip.
 fn compiled_second(alloc: Global, text: &[u8]) -> Result<Program, Outcome>
     ensures whole { IfOk result (IsCompiledBy second text.now) }
+    ensures made { IfOk result (PassesMade Pic16F84a) }
     ensures why { IfErr result (λ why. (why ≡ outcomes.NoMemory) ⊎ TellsWhyBy second text.now why) }
 {
     match compile84(alloc, text) {

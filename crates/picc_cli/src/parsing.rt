@@ -4,13 +4,14 @@
 //! The proof goes by them alone, so what clap finds isn't compared with the words again. Nothing that clap adds to a command
 //! is accepted: words that begin with `-` don't come here, and the command has no options and no subcommand `help`.
 
-ghost use Rattle.std.specs.Prelude.{◌≡◌, true, None, codes, length, IfOk};
+ghost use Rattle.std.specs.Prelude.{◌≡◌, true, None, length, IfOk};
 ghost use Rattle.std.specs.List.{list_all};
 ghost use Rattle.std.specs.Option.{MatchOption};
+ghost use Rattle.clap.specs.Simple.{with_subcommand};
 ghost use Rattle.clap.specs.Words.{app_of};
 ghost use Rattle.picc_cli.specs.Command as stated;
 ghost use Rattle.picc_cli.specs.Command.{form_by_name, words_of};
-ghost use Rattle.picc_cli.specs.Clap.{words_found, IsSubcommand, forms_app};
+ghost use Rattle.picc_cli.specs.Clap.{words_found, IsSubcommand, forms_app, subcommand_shape};
 
 use clap::error::ErrorKind;
 use clap::{Arg, ArgMatches};
@@ -54,79 +55,36 @@ pub fn parsed<'a>(alloc: Global, words: &'a [String]) -> Result<Option<ArgMatche
     }
 }
 
-/// The command line, without the options and the subcommand for help that clap would add.
+/// The command line, without the options and the subcommand for help that clap would add: the eight forms, each with the names of its
+/// places.
 fn forms<'a>(alloc: Global) -> Result<clap::Command<'a>, AllocError>
     ensures { IfOk result (λ line. app_of line ≡ forms_app) }
 {
-    let build = build(alloc)?;
-    let trace = trace(alloc)?;
-    let simulate = simulate(alloc)?;
-    let agree = agree(alloc)?;
-    let generate = generate(alloc)?;
-    let check = check(alloc)?;
-    let build84 = build84(alloc)?;
-    let simulate84 = simulate84(alloc)?;
-    clap::Command::new(alloc, "picc")
+    let line = clap::Command::new(alloc, "picc")
         .no_binary_name(true)
         .disable_help_flag(true)
-        .disable_help_subcommand(true)
-        .subcommand(build)?
-        .subcommand(trace)?
-        .subcommand(simulate)?
-        .subcommand(agree)?
-        .subcommand(generate)?
-        .subcommand(check)?
-        .subcommand(build84)?
-        .subcommand(simulate84)
+        .disable_help_subcommand(true);
+    let line = with_form(alloc, line, "build", &["IN", "OUT", "MAP"])?;
+    let line = with_form(alloc, line, "trace", &["IN", "SCRIPT", "M"])?;
+    let line = with_form(alloc, line, "sim", &["HEX", "MAP", "SCRIPT", "N"])?;
+    let line = with_form(alloc, line, "agree", &["IN", "SCRIPT", "N"])?;
+    let line = with_form(alloc, line, "gen", &["K"])?;
+    let line = with_form(alloc, line, "check", &["HEX"])?;
+    let line = with_form(alloc, line, "build84", &["IN", "OUT", "MAP"])?;
+    with_form(alloc, line, "sim84", &["HEX", "MAP", "SCRIPT", "N"])
 }
 
-// ---- the eight forms, each with the names of its places
-fn build<'a>(alloc: Global) -> Result<clap::Command<'a>, AllocError>
-    ensures { IfOk result (IsSubcommand (codes "build") 3) }
+/// The command line with one form more, of this name, with a word for each of these places.
+fn with_form<'a>(
+    alloc: Global,
+    line: clap::Command<'a>,
+    name: &'a str,
+    places: &'a [&'a str],
+) -> Result<clap::Command<'a>, AllocError>
+    ensures { IfOk result (λ longer. app_of longer ≡ with_subcommand (app_of line.entry) (subcommand_shape name.entry.now (length places.entry.now))) }
 {
-    subcommand(alloc, "build", &["IN", "OUT", "MAP"])
-}
-
-fn trace<'a>(alloc: Global) -> Result<clap::Command<'a>, AllocError>
-    ensures { IfOk result (IsSubcommand (codes "trace") 3) }
-{
-    subcommand(alloc, "trace", &["IN", "SCRIPT", "M"])
-}
-
-fn simulate<'a>(alloc: Global) -> Result<clap::Command<'a>, AllocError>
-    ensures { IfOk result (IsSubcommand (codes "sim") 4) }
-{
-    subcommand(alloc, "sim", &["HEX", "MAP", "SCRIPT", "N"])
-}
-
-fn agree<'a>(alloc: Global) -> Result<clap::Command<'a>, AllocError>
-    ensures { IfOk result (IsSubcommand (codes "agree") 3) }
-{
-    subcommand(alloc, "agree", &["IN", "SCRIPT", "N"])
-}
-
-fn generate<'a>(alloc: Global) -> Result<clap::Command<'a>, AllocError>
-    ensures { IfOk result (IsSubcommand (codes "gen") 1) }
-{
-    subcommand(alloc, "gen", &["K"])
-}
-
-fn check<'a>(alloc: Global) -> Result<clap::Command<'a>, AllocError>
-    ensures { IfOk result (IsSubcommand (codes "check") 1) }
-{
-    subcommand(alloc, "check", &["HEX"])
-}
-
-fn build84<'a>(alloc: Global) -> Result<clap::Command<'a>, AllocError>
-    ensures { IfOk result (IsSubcommand (codes "build84") 3) }
-{
-    subcommand(alloc, "build84", &["IN", "OUT", "MAP"])
-}
-
-fn simulate84<'a>(alloc: Global) -> Result<clap::Command<'a>, AllocError>
-    ensures { IfOk result (IsSubcommand (codes "sim84") 4) }
-{
-    subcommand(alloc, "sim84", &["HEX", "MAP", "SCRIPT", "N"])
+    let form = subcommand(alloc, name, places)?;
+    line.subcommand(form)
 }
 
 /// The subcommand of this name, with a word for each of these places.

@@ -25,7 +25,7 @@ use Rattle.picc_core.specs.Compiled.{IsCompiledBy, IsCompiledTo}
 use Rattle.picc_core.specs.Decided.{IsAcceptedText}
 use Rattle.picc_core.specs.Kept.{IsKept}
 use Rattle.picc_core.specs.Limits.{second_chip, IsFirstRefusalWithin}
-use Rattle.picc_core.specs.SecondChip.{second, AreAcceptedSecond, HasFewWords, IsPlacedLow, IsFrontSecond, IsPortedTo, TellsSecond, of_compile}
+use Rattle.picc_core.specs.SecondChip.{second, AreAcceptedSecond, HasFewWords, IsPlacedLow, IsFrontSecond, IsPortedTo, IsTranslatedSecond, TellsSecond, of_compile}
 use Rattle.picc_core.specs.declared.for_second.Compile84Error.{Compile84Error}
 use Rattle.picc_core.specs.declared.known.Built.{Built}
 use Rattle.picc_core.specs.declared.known.Front.{Front}
@@ -114,6 +114,12 @@ module _ (text : List ℕ) (f : Front) (b : Built) (front : IsFrontSecond text f
 
   pub compiled_second : (s : Built) → IsPortedTo b s → IsCompiledBy second text s
   compiled_second s port = subst (IsCompiledBy second text) (sym port.same) (compiled s.image port.rows)
+
+-- what the passes made is behind it
+pub translated_second : (b s : Built) → IsTranslated (program_of b.typed) b.image (content_of b.map) → IsPortedTo b s → IsTranslatedSecond (program_of s.typed) s.image (content_of s.map)
+translated_second b s made port =
+    subst (λ (t : Built). IsTranslatedSecond (program_of t.typed) t.image (content_of t.map)) (sym port.same)
+    (record { first = b.image; translated = made; rows = port.rows })
 
 -- what is known of what a text is compiled to has its parts
 pub part_of : (text : List ℕ) (P : Built → Type 0) (r : Result Built Compile84Error) → IfOk r (IsCompiledBy second text) → ((b : Built) → IsCompiledBy second text b → P b) → IfOk r P

@@ -14,8 +14,9 @@ use Rattle.headline_84a.specs.Second.{AreLowLines}
 use Rattle.named_registers.specs.Foreign.{IsFirstForeign}
 use Rattle.named_registers.specs.Registers.{names_register}
 use Rattle.pic_chip.specs.SmallAddress.{is_small_register}
-use Rattle.pic_map.specs.MapContent.{ObjectLine, FrameLine}
+use Rattle.pic_map.specs.MapContent.{ObjectLine, FrameLine, MapContent}
 use Rattle.pic_map.specs.MapView.{object_of, frame_of}
+use Rattle.program_code.specs.Translated.{IsTranslated}
 use Rattle.ram_place.specs.Placement as placement
 use Rattle.picc_core.specs.Answers.{TellsBy}
 use Rattle.picc_core.specs.Blocks.{HasBlocks, HasWords}
@@ -81,6 +82,13 @@ pub record IsPortedTo (built ported : Built) : Type 0 where
 pub record IsPlacedLow (p : Program) (objects : List ObjectLine) (frames : List FrameLine) : Type 0 where
   pub placed : IsPlaced p objects frames
   pub low : AreLowLines objects frames
+
+-- Image and map are what the passes made of the program for the first chip, each as it promises its part, but for the operands of the
+-- second chip.
+pub record IsTranslatedSecond (p : Program) (image : List ℕ) (content : MapContent) : Type 0 where
+  pub first : List ℕ
+  pub translated : IsTranslated p first content
+  pub rows : IsPorted first image
 
 -- so many words are stated of the program, and they are no more than the chip has
 pub record HasFewWords (p : Program) (words : ℕ) : Type 0 where

@@ -97,6 +97,7 @@ fn compiled84(alloc: Global, text: &[u8]) -> Result<Built, Compile84Error>
     ensures refused { IfErr result (TellsSecond text.now) }
     ensures tokens { (r : Refusal) → program_tokens text.now ≡ Err (first.Refused r) → stated.IsRefusedUnless result r }
     ensures whole { IfOk result (IsCompiledBy second text.now) }
+    ensures translated { IfOk result (λ built. stated.IsTranslatedSecond (program_of built.typed) built.image (content_of built.map)) }
 {
     let front = front84(alloc, text)?;
     let made = built(alloc, front, Saving::Lean)?;
@@ -123,6 +124,9 @@ pub fn compile84(alloc: Global, text: &[u8]) -> Result<Built, Compile84Error>
     ensures faithful { IfOk result (λ built. IsFaithfulAs pic16f84a source_of (program_of built.typed) (content_of built.map) built.image) }
     // All this together, with all that is known of what `compile` makes of any text but its image.
     ensures whole { IfOk result (IsCompiledBy second text.now) }
+    // Beside it: the image and the map are what the passes make of the program, with the operands of that chip. None of the clauses above
+    // speaks of passes.
+    ensures translated { IfOk result (λ built. stated.IsTranslatedSecond (program_of built.typed) built.image (content_of built.map)) }
 {
     compiled84(alloc, text)
 }

@@ -12,5 +12,8 @@ returns-in-Pic16F877a-clause-why c = rw c.in-Pic16F877a.is c.compiled_first.ensu
 pub returns-in-Pic16F84a-clause-whole : goal.returns-in-Pic16F84a-clause-whole
 returns-in-Pic16F84a-clause-whole c = rw c.in-Pic16F84a.is c.compiled_second.ensures.whole
 
+pub returns-in-Pic16F84a-clause-made : goal.returns-in-Pic16F84a-clause-made
+returns-in-Pic16F84a-clause-made c = rw c.in-Pic16F84a.is c.compiled_second.ensures.made
+
 pub returns-in-Pic16F84a-clause-why : goal.returns-in-Pic16F84a-clause-why
 returns-in-Pic16F84a-clause-why c = rw c.in-Pic16F84a.is c.compiled_second.ensures.why
