@@ -1,0 +1,2 @@
+void f(void){f();}
+void main(void){f();}
