@@ -1,0 +1,11 @@
+pub mod Equal
+pub mod Numbers
+pub mod SumLaws
+pub mod BitLaws
+pub mod MaskLaws
+pub mod CarryLaws
+pub mod PutLaws
+pub mod Whole
+pub mod Examples
+pub mod Made
+pub mod Powers

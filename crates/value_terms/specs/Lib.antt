@@ -1,0 +1,10 @@
+pub mod Terms
+pub mod Shown
+pub mod Equality
+pub mod Sums
+pub mod Bits
+pub mod Masks
+pub mod Carries
+pub mod Putting
+pub mod Laws
+pub mod Samples
