@@ -3,11 +3,11 @@ use Rattle.std.proofs.Common.{◌≡◌, ℕ, zero, suc, ◌+◌, ◌<◌, ◌�
 use Rattle.std.specs.Prelude.{slice_get, Contains}
 use Rattle.std.proofs.Math.ListN.{get_or}
 use Rattle.std.proofs.lemmas.Bool.{cases_lt}
-use Rattle.std.proofs.lemmas.Option.{slice_get_cases, slice_get-get_or}
+use Rattle.std.proofs.lemmas.Option.{slice_get-get_or}
 use Rattle.c_typed.specs.Trees.{Program}
 use Rattle.call_graph.specs.declared.types.FnCopy.{FnCopy}
 use Rattle.headline_84a.specs.Second.{IsLow, AreLowLines}
-use Rattle.live_frames.specs.Memory.{IsLowest, Stands, regions}
+use Rattle.live_frames.specs.Memory.{IsLowest, regions}
 use Rattle.live_frames.specs.declared.memory.Span.{Span}
 use Rattle.pic_map.specs.MapContent.{ObjectLine, FrameLine}
 use Rattle.ram_place.proofs.Below.{ends_below, stands_whole}

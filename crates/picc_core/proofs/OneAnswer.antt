@@ -8,7 +8,7 @@ use Rattle.program_code.specs.Stated.{sizes}
 use Rattle.picc_core.specs.Accepted.{AreAccepted, IsFirstRefusal, PassesPages}
 use Rattle.picc_core.specs.Answers.{IsRefusedAs, IsRefusedBy, Tells, TellsBy}
 use Rattle.picc_core.specs.Decided.{IsAcceptedBy, IsAcceptedText, HasOneAnswer}
-use Rattle.picc_core.specs.Limits.{AreAcceptedWithin, IsFirstRefusalWithin, NoneIsOver, PassesWords, whole_chip}
+use Rattle.picc_core.specs.Limits.{AreAcceptedWithin, IsFirstRefusalWithin, PassesWords, whole_chip}
 use Rattle.picc_core.specs.declared.refusal.Refusal.{Refusal}
 use Rattle.picc_core.specs.declared.refusal.Refusal.TheVariants.{Lex, Word, Directive, Syntax, Typing, Recursion, Roots, Depth, Ram, Code, Page, Limit}
 use Rattle.picc_core.proofs.OneWithin.{within_answer}

@@ -5,27 +5,23 @@ use Rattle.c_typed.specs.Views.{program_of}
 use Rattle.call_graph.specs.Copies.{AreCopies}
 use Rattle.call_graph.specs.declared.types.FnCopy.{FnCopy}
 use Rattle.chip_84a.specs.Port.{IsPorted}
-use Rattle.headline.specs.Keeps.{AllStayWithin, StaysWithin}
-use Rattle.headline.specs.OnChip.{setting_of}
+use Rattle.headline.specs.Keeps.{AllStayWithin}
 use Rattle.headline.specs.SourceOf.{source_of, IsFaithfulAs, IsFaithfulTo}
 use Rattle.headline_84a.proofs.Second as law
 use Rattle.headline_84a.specs.OnSecondChip.{pic16f84a}
 use Rattle.headline_84a.specs.Second.{AreLowLines, HasAll}
 use Rattle.named_registers.specs.Registers.{names_register}
-use Rattle.pic_chip.specs.SmallAddress.{is_small_register}
 use Rattle.pic_map.specs.MapContent.{ObjectLine, FrameLine, MapContent}
 use Rattle.pic_map.specs.MapView.{content_of, object_of, frame_of}
 use Rattle.program_code.specs.Stated.{sizes, end_of_code}
 use Rattle.program_code.specs.Translated.{IsTranslated}
-use Rattle.headline_trace.proofs.Faithful.{translations_faithful}
 use Rattle.picc_core.specs.Accepted.{IsCodeOrder}
 use Rattle.picc_core.specs.Answers.{TellsErrorBy}
-use Rattle.picc_core.specs.Blocks.{HasBlocks}
 use Rattle.picc_core.specs.Compiled.{IsCompiledBy, IsCompiledTo}
 use Rattle.picc_core.specs.Decided.{IsAcceptedText}
 use Rattle.picc_core.specs.Kept.{IsKept}
 use Rattle.picc_core.specs.Limits.{second_chip, IsFirstRefusalWithin}
-use Rattle.picc_core.specs.SecondChip.{second, AreAcceptedSecond, HasFewWords, IsPlacedLow, IsFrontSecond, IsPortedTo, IsTranslatedSecond, TellsSecond, of_compile}
+use Rattle.picc_core.specs.SecondChip.{second, AreAcceptedSecond, IsFrontSecond, IsPortedTo, IsTranslatedSecond, TellsSecond, of_compile}
 use Rattle.picc_core.specs.declared.for_second.Compile84Error.{Compile84Error}
 use Rattle.picc_core.specs.declared.known.Built.{Built}
 use Rattle.picc_core.specs.declared.known.Front.{Front}

@@ -1,0 +1,6 @@
+pub mod Filtering
+pub mod HiddenMap
+pub mod Kept
+pub mod KeptCode
+pub mod KeptSource
+pub mod KeptSteps

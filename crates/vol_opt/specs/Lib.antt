@@ -1,0 +1,5 @@
+pub mod Uses
+pub mod Kept
+pub mod Marks
+pub mod Laws
+pub mod Examples
