@@ -51,7 +51,8 @@ simulated() {
 traced blink 90060
 traced keypad 1463
 traced serial 436
-for name in blink keypad serial; do
+traced stairs 59
+for name in blink keypad serial stairs; do
     simulated $name
 done
 exit $failed

@@ -71,8 +71,8 @@ share ram ram' b = record {
   same = λ k lt shared.
       ⊎_elim (λ l. ap (λ j. slice_index ram' j) (byte_low k l) ∙ b.low k l)
       (λ h.
-        let le = h.0 in let up = h.1 in
-        ap (λ j. slice_index ram' j) (byte_high k le) ∙ b.common (k - 80) (omega (arith, le, up)) ∙ ap (slice_index ram) (let z : k - 80 + 80 ≡ k = omega (arith, le) in z))
+      let le = h.0 in let up = h.1 in
+      ap (λ j. slice_index ram' j) (byte_high k le) ∙ b.common (k - 80) (omega (arith, le, up)) ∙ ap (slice_index ram) (let z : k - 80 + 80 ≡ k = omega (arith, le) in z))
       (which k shared);
 }
 
@@ -147,14 +147,14 @@ module _ (g : chip_run.Setting) (h : Setting) (alike : AreAlike g h) where
   clear_it k lt shared hidden =
       ⊎_elim
       (λ l.
-        let e : k + 20 + 12 ≡ k + 32 = omega arith in
-        let z = ltb-true (k + 32) 0x20 (and_right (nat_le 0x0c (k + 32)) _ (subst (λ a. pic16f84a.hides a ≡ true) (ap (λ q. q + 12) (byte_low k l) ∙ e) hidden)) in
-        absurd (omega (arith, z)))
+      let e : k + 20 + 12 ≡ k + 32 = omega arith in
+      let z = ltb-true (k + 32) 0x20 (and_right (nat_le 0x0c (k + 32)) _ (subst (λ a. pic16f84a.hides a ≡ true) (ap (λ q. q + 12) (byte_low k l) ∙ e) hidden)) in
+      absurd (omega (arith, z)))
       (λ r.
-        let le = r.0 in let up = r.1 in
-        let a : address_of k ≡ k + 0x20 = ap (λ b. if b then k + 0x20 else (if nat_lt k 176 then k + 0x40 else if nat_lt k 272 then k + 0x60 else k + 0x80)) (lt-ltb k 96 up) in
-        let e : k + 32 ≡ k - 80 + 112 = omega (arith, le) in
-        ap (object_at g.watch.ranges 0) (a ∙ e) ∙ alike.clear (k - 80) (omega (arith, le, up)))
+      let le = r.0 in let up = r.1 in
+      let a : address_of k ≡ k + 0x20 = ap (λ b. if b then k + 0x20 else (if nat_lt k 176 then k + 0x40 else if nat_lt k 272 then k + 0x60 else k + 0x80)) (lt-ltb k 96 up) in
+      let e : k + 32 ≡ k - 80 + 112 = omega (arith, le) in
+      ap (object_at g.watch.ranges 0) (a ∙ e) ∙ alike.clear (k - 80) (omega (arith, le, up)))
       (which k shared)
 
   begin_alike : BeginAlike pic16f84a g (general h)
