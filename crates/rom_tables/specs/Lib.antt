@@ -1,0 +1,4 @@
+pub mod Laws
+pub mod Outlined
+pub mod Rows
+pub mod Tables
