@@ -31,10 +31,11 @@ abbrev pub setting_of : MapContent → List ℕ → Start84 → List ℕ → Lis
 setting_of content image start inputs arrivals =
     record { image = image; watch = watch_of content; start = start; inputs = inputs; arrivals = arrivals }
 
+-- An image has 8,192 words, and its HEX all of them, so each is spoken of; the chip has the first 1,024.
 abbrev pub pic16f84a : Chip
 pic16f84a = record {
   Start = Start84;
   IsStart = IsStart;
-  words = 1024;
+  words = 8192;
   run = λ content image start inputs arrivals. run_of (setting_of content image start inputs arrivals);
 }

@@ -39,7 +39,8 @@ with_schedule o schedule = record o { schedule = schedule }
 abbrev pub setting_of : Program → Outside → Setting
 setting_of p o = record { program = p; outside = o }
 
--- what arrives now is what the schedule has at the length of the kept trace
+-- What arrives now is what the schedule has at the length of the kept trace. It is asked again behind each event that isn't kept; to raise a flag again
+-- changes nothing, since only a write to its register clears it, and that is an event that is kept.
 abbrev pub by_kept : {B : Type 0} → List Bool → Outside → World B → Outside
 by_kept kept o w = with_schedule o (λ n. o.schedule (kept_length kept w))
 

@@ -1,8 +1,8 @@
 //! Kept runs of the source and of byte code: their runs, seen by the device registers and by the static objects that are kept.
 //!
 //! In: nothing; the crate has definitions, and laws about them. Out: nothing.
-//! The promise: a kept run is, up to each moment, a run under a schedule by the length of the whole trace. The source of an
-//! optimised build is a value of what the headline speaks of, and so is what an optimised image has to keep to (`IsKeptFaithfulTo`).
+//! The promise: a kept run is, up to each moment, a run under a schedule by the length of the whole trace. What the headline would be of
+//! a build that watches kept objects alone is defined, over the source that such runs are of (`IsKeptFaithfulTo`); no clause claims it yet.
 #![tactic(auto)]
 
 ghost use Rattle.kept_trace.specs.Filtering.{Filters};

@@ -18,7 +18,7 @@ abbrev pub node_steps : ℕ
 node_steps = 200
 
 -- Byte code follows the first n micro-steps, at the costs that lowering promises; and fewer steps are counted by then than its marks so far
--- and one allow.
+-- and one allow, or byte code rests there.
 pub record IsPaced (p : Program) (copies : List FnCopy) (o : Outside) (n : ℕ) : Type 0 where
   pub link : Follows (event_as (held_as p copies)) (source_run (record { program = p; outside = o })) (marked_run (record { program = core_of p copies; outside = o })) n
   pub lag : IsWithin (marked_run (record { program = core_of p copies; outside = o })) (node_steps * nodes_of p) (steps_by (record { program = p; outside = o }) n) (link.at n)

@@ -1,5 +1,5 @@
--- The marks of a run of byte code: calls, leaves but main's own, repeats of loops, and entries of the handler. An instruction of each stays
--- whatever accesses to objects and temporary bytes are left out.
+-- The marks of a run of byte code: calls, leaves but main's own, repeats of loops, and entries of the handler. No access to an object or
+-- to a temporary byte is one.
 use Rattle.std.specs.Prelude.{ℕ, zero, suc, ◌+◌, if◌then◌else◌, List, [], ◌∷◌}
 use Rattle.pic_world.specs.World.{Happening, arrived, is_due}
 use Rattle.run_links.specs.Runs.{Run}

@@ -1,10 +1,11 @@
-//! Lag by calls, leaves and repeats: byte code keeps pace with the source by its marks alone, whatever accesses are left out.
+//! Lag by calls, leaves and repeats: byte code keeps pace with the source by its marks alone, accesses not counted.
 //!
 //! In: nothing; the crate has definitions, and theorems about them. Out: nothing.
 //! The promise: of every typed program that is as `IsLowerable` says, and its copies, under every schedule and as long as no step of the
 //! source is undefined, byte code follows the source at the costs that lowering promises; and by each moment fewer steps of the source are
-//! counted than its marks so far and one, times 200 for each node of the program. Marks are calls, leaves but main's own, repeats of loops and
-//! entries of the handler. Accesses to static objects and frames are none, so this holds of code that leaves some of them out.
+//! counted than its marks so far and one, times 200 for each node of the program, or byte code rests there. Marks are calls, leaves but main's
+//! own, repeats of loops and entries of the handler; accesses to static objects and frames are none. So a pass that keeps the marks, and
+//! leaves accesses out, keeps this bound.
 #![tactic(auto)]
 
 ghost use Rattle.lag_trace.specs.Laws.{KeepsPace, MarksCost, MarksServe};

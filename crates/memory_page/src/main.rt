@@ -10,13 +10,11 @@ ghost use Rattle.std.specs.Prelude.{◌≡◌, IfOk};
 ghost use Rattle.host_io.specs.Host.{Closed};
 ghost use Rattle.picc_core.specs.Founded.{IsFounded};
 
-mod refused;
-
-use crate::refused::build_said;
 use host_io::{Host, HostError, RealHost, read_whole, write_whole};
 use host_lines::{say, say_line};
 use memory_html::{Shown, page};
-use picc_core::{Built, CompileError, Front, codes_of, compile, front};
+use picc_cli::say_refusal;
+use picc_core::{Built, CompileError, Front, Refusal, codes_of, compile, front};
 use std::alloc::{AllocError, Global};
 use std::process::ExitCode;
 use std::{env, io};
@@ -27,7 +25,7 @@ const LIMIT: usize = 262_144;
 /// Why there is no page.
 #[derive(Drop)]
 enum Missing {
-    Refused,
+    Refused(Refusal),
     NoMemory,
 }
 
@@ -92,15 +90,8 @@ fn page_of(
 fn made(alloc: Global, name: &str, text: &[u8]) -> Result<Vec<u8>, Missing> {
     match known(alloc, text) {
         Ok((front, built)) => Ok(page_of(alloc, name, text, &front, &built)?),
-        Err(CompileError::Refused(_)) => Err(Missing::Refused),
+        Err(CompileError::Refused(refusal)) => Err(Missing::Refused(refusal)),
         Err(CompileError::NoMemory) => Err(Missing::NoMemory),
-    }
-}
-
-fn say_refused<H: Host>(alloc: Global, host: &mut H, name: &str, text: &[u8]) -> u8 {
-    match build_said(alloc, name, text) {
-        Ok(said) => say_line(host, said.status, &said.line),
-        Err(_) => 9,
     }
 }
 
@@ -119,7 +110,7 @@ fn show<H: Host>(alloc: Global, host: &mut H, name: &str, output: &str, text: &[
 {
     match made(alloc, name, text) {
         Ok(page) => write(host, output, &page),
-        Err(Missing::Refused) => say_refused(alloc, host, name, text),
+        Err(Missing::Refused(refusal)) => say_refusal(alloc, host, name, &refusal),
         Err(Missing::NoMemory) => 9,
     }
 }

@@ -10,7 +10,8 @@ use Rattle.pic_chip.specs.declared.profile.Profile.{Profile}
 use Rattle.pic_chip.specs.declared.profile.Profile.TheVariants.{Pic16F877a, Pic16F84a}
 use Rattle.c_typed.specs.Views.{program_of}
 use Rattle.pic_map.specs.MapView.{content_of}
-use Rattle.picc_core.specs.SecondChip.{second, IsTranslatedSecond}
+use Rattle.picc_core.specs.SecondChip.{second}
+use Rattle.picc_core.specs.SecondMade.{IsTranslatedSecond}
 use Rattle.picc_core.specs.declared.known.Built.{Built}
 use Rattle.picc_cli.specs.Built.{IsBuilt, IsBuiltBy}
 use Rattle.picc_cli.specs.Command.{Form, Build, Trace, Simulate, Agree, Generate, Check}

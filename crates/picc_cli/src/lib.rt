@@ -25,3 +25,4 @@ mod tracing;
 
 pub use dispatch::picc;
 pub use generating::generate;
+pub use say::say_refusal;

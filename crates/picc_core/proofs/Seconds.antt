@@ -21,7 +21,8 @@ use Rattle.picc_core.specs.Compiled.{IsCompiledBy, IsCompiledTo}
 use Rattle.picc_core.specs.Decided.{IsAcceptedText}
 use Rattle.picc_core.specs.Kept.{IsKept}
 use Rattle.picc_core.specs.Limits.{second_chip, IsFirstRefusalWithin}
-use Rattle.picc_core.specs.SecondChip.{second, AreAcceptedSecond, IsFrontSecond, IsPortedTo, IsTranslatedSecond, TellsSecond, of_compile}
+use Rattle.picc_core.specs.SecondChip.{second, AreAcceptedSecond, TellsSecond, of_compile}
+use Rattle.picc_core.specs.SecondMade.{IsFrontSecond, IsPortedTo, IsTranslatedSecond}
 use Rattle.picc_core.specs.declared.for_second.Compile84Error.{Compile84Error}
 use Rattle.picc_core.specs.declared.known.Built.{Built}
 use Rattle.picc_core.specs.declared.known.Front.{Front}

@@ -12,3 +12,4 @@ pub mod Kept
 pub mod Coded
 pub mod Decided
 pub mod SecondChip
+pub mod SecondMade

@@ -9,6 +9,7 @@ ghost use Rattle.picc_core.specs.Compiled.{HasOneAnswerOf, IsCompiledBy};
 ghost use Rattle.picc_core.specs.Decided.{IsAcceptedBy};
 ghost use Rattle.picc_core.specs.SecondChip as stated;
 ghost use Rattle.picc_core.specs.SecondChip.{second, AreAcceptedSecond, HasFewWords, IsPlacedLow, TellsSecond};
+ghost use Rattle.picc_core.specs.SecondMade.{IsFrontSecond, IsPortedTo, IsTranslatedSecond};
 ghost use Rattle.picc_core.specs.Texts.{program_tokens};
 ghost use Rattle.picc_core.specs.declared.for_second.Compile84Error.TheVariants.{NoMemory, Refused};
 ghost use Rattle.picc_core.specs.declared.refusal.CompileError.TheVariants as first;
@@ -56,7 +57,7 @@ impl From<CompileError> for Compile84Error {
 
 /// What is known of a text that is accepted for the second chip, or why it isn't.
 fn front84(alloc: Global, text: &[u8]) -> Result<Front, Compile84Error>
-    ensures known { IfOk result (stated.IsFrontSecond text.now) }
+    ensures known { IfOk result (IsFrontSecond text.now) }
     ensures refused { IfErr result (TellsSecond text.now) }
     ensures tokens { (r : Refusal) → program_tokens text.now ≡ Err (first.Refused r) → stated.IsRefusedUnless result r }
     ensures long { 262144 < length text.now → result ≡ Err (Refused (refusals.Limit kinds.Text 0)) }
@@ -70,7 +71,7 @@ fn front84(alloc: Global, text: &[u8]) -> Result<Front, Compile84Error>
 
 /// The same program on the second chip: its image is ported, and all else is as it was.
 fn ported(alloc: Global, built: Built) -> Result<Built, AllocError>
-    ensures { IfOk result (stated.IsPortedTo built) }
+    ensures { IfOk result (IsPortedTo built) }
 {
     let Built {
         typed,
@@ -97,7 +98,7 @@ fn compiled84(alloc: Global, text: &[u8]) -> Result<Built, Compile84Error>
     ensures refused { IfErr result (TellsSecond text.now) }
     ensures tokens { (r : Refusal) → program_tokens text.now ≡ Err (first.Refused r) → stated.IsRefusedUnless result r }
     ensures whole { IfOk result (IsCompiledBy second text.now) }
-    ensures translated { IfOk result (λ built. stated.IsTranslatedSecond (program_of built.typed) built.image (content_of built.map)) }
+    ensures translated { IfOk result (λ built. IsTranslatedSecond (program_of built.typed) built.image (content_of built.map)) }
 {
     let front = front84(alloc, text)?;
     let made = built(alloc, front, Saving::Lean)?;
@@ -126,7 +127,7 @@ pub fn compile84(alloc: Global, text: &[u8]) -> Result<Built, Compile84Error>
     ensures whole { IfOk result (IsCompiledBy second text.now) }
     // Beside it: the image and the map are what the passes make of the program, with the operands of that chip. None of the clauses above
     // speaks of passes.
-    ensures translated { IfOk result (λ built. stated.IsTranslatedSecond (program_of built.typed) built.image (content_of built.map)) }
+    ensures translated { IfOk result (λ built. IsTranslatedSecond (program_of built.typed) built.image (content_of built.map)) }
 {
     compiled84(alloc, text)
 }

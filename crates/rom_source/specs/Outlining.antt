@@ -30,6 +30,6 @@ pub record IsFollowed (p : Program) (o : Outside) (n : ℕ) : Type 0 where
   pub most : (i : ℕ) → i < n → steps_by (setting (outlined p) o) (at (suc i)) + 4 * steps_by (setting p o) i ≤ steps_by (setting (outlined p) o) (at i) + 4 * steps_by (setting p o) (suc i)
   pub rests : is_idle (step (setting p o) (moment (setting p o) n)) ≡ true → is_idle (step (setting (outlined p) o) (moment (setting (outlined p) o) (at n))) ≡ true
 
--- the law of outlining: of each sound program, under every schedule
+-- the law of outlining: of each proper program, under every schedule and from any input of bytes
 abbrev pub OutlineKeeps : Type 0
 OutlineKeeps = (p : Program) → IsProper p → (o : Outside) → IsOfBytes o → (n : ℕ) → IsDefined (setting p o) n → IsFollowed p o n

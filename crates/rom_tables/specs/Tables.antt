@@ -66,7 +66,8 @@ abbrev pub start_table : List ℕ → Expression → Option ℕ
 start_table ts (tree.Address place ty line) = place_table ts place
 start_table ts _ = None
 
--- The table that the left or the right operand of a sum is the start of, and where a place is what a sum points to.
+-- The table that the left or the right operand of a sum is the start of, and where a place is what a sum points to. The operator isn't looked at: in a
+-- sound program the start of a const array is an operand of sums alone.
 abbrev pub sum_table_left : List ℕ → Expression → Option ℕ
 sum_table_left ts (tree.Offset op left right size ty line) = start_table ts left
 sum_table_left ts _ = None

@@ -43,7 +43,7 @@ fn shown(alloc: Global, text: &[u8]) -> Result<String, Fail> {
     Ok(line)
 }
 
-// A read of a table by a constant has five nodes less and three more; a reader has nine.
+// Of a read of a table by a constant five nodes go, and a call and a conversion come; a reader has nine.
 const OUTLINES: &str = r#"1 main => void main(void){}
 16 0:1 main $rom.t => const unsigned char t[2]={7,9};void main(void){PORTB=t[1];}
 10 0:1 main $rom.t => const char t[2]={7,9};void main(void){}
