@@ -1,0 +1,15 @@
+pub mod Accesses
+pub mod Carrying
+pub mod Effects
+pub mod Laid
+pub mod Moments
+pub mod Named
+pub mod Owners
+pub mod Routines
+pub mod Sampled
+pub mod Selection
+pub mod Steps
+pub mod Switch
+pub mod Threads
+pub mod Within
+pub mod Worked

@@ -1,0 +1,11 @@
+pub mod Carrying
+pub mod KeptLayout
+pub mod Laid
+pub mod NamedCode
+pub mod OpenCode
+pub mod Routines
+pub mod Sample
+pub mod Sampled
+pub mod Selection
+pub mod Switching
+pub mod Within
