@@ -350,9 +350,11 @@ begins q callee s m w = goes (tasks [] (q.body callee) []) callee None s m w
 abbrev pub with_index : Program → ℕ → Memory → Memory
 with_index q callee m = with_byte (with_byte m (Result (q.root callee) 0) (m (Frame callee 0))) (Result (q.root callee) 1) (m (Frame callee 1))
 
--- a copy with a body, or one that reads a table
+-- A copy with a body, or one that reads a table. A body begins with no value in its root's results, so what an earlier call left
+-- there is no value of this one. The source allows that: a function that ends without a value gives none, and a use of it is
+-- undefined (ISO/IEC 9899:1990, 6.6.6.4).
 abbrev pub called : Program → Option (List ℕ) → ℕ → List Waiting → Memory → World Held → Next
-called q None callee s m w = begins q callee s m w
+called q None callee s m w = begins q callee s (without_results (q.root callee) m) w
 called q (Some bytes) callee s m w = goes (Reading bytes ∷ Do [] tree.Leave ∷ []) callee None s (with_index q callee m) w
 
 abbrev pub call : Program → ℕ → List Task → ℕ → Option ℕ → List Waiting → Memory → World Held → Next

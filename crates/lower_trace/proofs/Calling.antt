@@ -3,7 +3,7 @@ use Rattle.std.proofs.Common.{◌≡◌, ℕ, ◌+◌, ◌*◌, ◌<◌, ◌≤�
 use Rattle.c_typed.specs.Trees as tree
 use Rattle.c_typed.specs.Trees.{Expression, Expressions}
 use Rattle.c_typed.specs.declared.types.Ty.{Ty}
-use Rattle.core_code.specs.Bytes.{Held, Memory, with_bytes, without_frame}
+use Rattle.core_code.specs.Bytes.{Held, Memory, with_bytes, without_frame, without_results}
 use Rattle.core_code.specs.Machine.{Machine, Do as Todo, InCall}
 use Rattle.core_code.specs.Tree as code
 use Rattle.core_code.specs.declared.code.Byte.TheVariants.{Frame, Result}
@@ -36,13 +36,15 @@ use Rattle.lower_trace.proofs.CodeLeft.{Scene, held, number, ground_in, core_in,
 use Rattle.lower_trace.proofs.Constants.{due_below, again_below}
 use Rattle.lower_trace.proofs.Entering.{copy_is, copy_self, bool_cases, frame_kept, opened_agrees}
 use Rattle.lower_trace.proofs.Flow.{arrive}
-use Rattle.lower_trace.proofs.Giving.{agree_moved, placed_of}
+use Rattle.lower_trace.proofs.Giving.{agree_moved, agrees_same, placed_of}
+use Rattle.lower_trace.proofs.Helped.{spoiled_frame, spoiled_object, spoiled_others}
 use Rattle.lower_trace.proofs.Kept.{SceneLaws, Apart, MainsWait, own_copy, holds_far}
 use Rattle.lower_trace.proofs.Mirrors.{Mirrors, Agree, Agrees, core_byte}
 use Rattle.lower_trace.proofs.Operations.{Comes, comes_within}
 use Rattle.lower_trace.proofs.Passing.{allowed, apart_of, passes_then, call_then}
 use Rattle.lower_trace.proofs.Placed.{Placed, todo_join}
 use Rattle.lower_trace.proofs.Reading.{lt_of}
+use Rattle.lower_trace.proofs.Returning.{Resumables, holds_frames}
 use Rattle.lower_trace.proofs.Storing.{agree_self}
 use Rattle.lower_trace.proofs.Written.{same_nat, and_left, and_right, bytes_clear}
 
@@ -93,14 +95,14 @@ unfolding core_of
 has_body z n = refl
 
 -- ---- the call
-call_case : (z : Scene) (laws : SceneLaws z) (f : ℕ) (arguments : Expressions) (ty : Ty) (line : ℕ) (values : List Datum) (k : List Pending) (cp : CopyOf) (l : source.Memory) (w : World value.Byte) (c : Machine) (count : ℕ) → IsReached z.program cp → IsReached z.program (copy_of cp.root f) → (number z cp ≡ number z (copy_of cp.root f) → ⊥) → Apart z (number z (copy_of cp.root f)) k → MainsWait k
+call_case : (z : Scene) (laws : SceneLaws z) (f : ℕ) (arguments : Expressions) (ty : Ty) (line : ℕ) (values : List Datum) (k : List Pending) (cp : CopyOf) (l : source.Memory) (w : World value.Byte) (c : Machine) (count : ℕ) → IsReached z.program cp → IsReached z.program (copy_of cp.root f) → (number z cp ≡ number z (copy_of cp.root f) → ⊥) → Apart z (number z (copy_of cp.root f)) k → MainsWait k → Resumables cp.root k
     → lowered_copy (ground_in z cp).layout f ≡ number z (copy_of cp.root f) → allowed (core_in z).program (number z cp) (number z (copy_of cp.root f)) ≡ true → arguments_width (ground_in z cp).layout 0 arguments ≡ count
     → count ≤ (core_in z).program.parameter_bytes (number z (copy_of cp.root f)) → count ≤ (core_in z).program.frame_bytes (number z (copy_of cp.root f)) → base (ground_in z cp) k + count ≤ (core_in z).program.frame_bytes (number z cp)
     → HasParameters z (copy_of cp.root f) 0 values (with_bytes (without_frame (number z (copy_of cp.root f)) c.memory) (Frame (number z (copy_of cp.root f)) 0) count (λ i. c.memory (Frame (number z cp) (base (ground_in z cp) k + i))))
     → is_due (arrived z.outside w) ≡ false → Mirrors z (state cp Calls (In (tree.Call f arguments ty line) (Passed values) ∷ k) l w) c
     → Comes (core_in z) (Mirrors z (state (copy_of cp.root f) Past (body_of z.program f (Returns cp ∷ In (tree.Call f arguments ty line) Called ∷ k)) (with_values (fresh l (copy_of cp.root f)) (copy_of cp.root f) 0 values) (arrived z.outside w))) (6 * count + 12) 1 c
 unfolding active
-call_case z laws f arguments ty line values k cp l w c count reached there far apart mains lowered may wide params frame room bound due h =
+call_case z laws f arguments ty line values k cp l w c count reached there far apart mains resumables lowered may wide params frame room bound due h =
     let cc' = copy_of cp.root f in
     let e = tree.Call f arguments ty line in
     let n = number z cp in
@@ -110,7 +112,9 @@ call_case z laws f arguments ty line values k cp l w c count reached there far a
     let W = world_as (held z) (arrived z.outside w) in
     let body = (function_at z.program f).body in
     let k' = Returns cp ∷ In e Called ∷ k in
-    let m' = with_bytes (without_frame q c.memory) (Frame q 0) count (λ i. c.memory (Frame n (b + i))) in
+    let root = (core_in z).program.root q in
+    let m0 = with_bytes (without_frame q c.memory) (Frame q 0) count (λ i. c.memory (Frame n (b + i))) in
+    let m' = without_results root m0 in
     let l' = with_values (fresh l cc') cc' 0 values in
     let T = Mirrors z (state cc' Past (Before body ∷ k') l' (arrived z.outside w)) in
     let s = stack_after z g k in
@@ -131,12 +135,14 @@ call_case z laws f arguments ty line values k cp l w c count reached there far a
     (λ x px.
     arrive z cc' Past (Before body ∷ k') l' w m' x
     (subst (λ y. Placed (core_in z) q None y (InCall n r ∷ s) m' W x) (ap (λ y. todo y []) (laws.bodies cc' there) ∙ todo_join (stmts_code (ground_in z cc') outside body) (code.Leave ∷ []) []) px)
-    (bounds_agree z (cc' ∷ active cp Calls k) cc' 0 values (fresh l cc') m' bound (opened_far z laws cc' (active cp Calls k) l c.memory count (λ i. c.memory (Frame n (b + i))) there h.agrees)) (
+    (agrees_same z (cc' ∷ active cp Calls k) l' m0 m' (λ object at here lt. spoiled_object z true root m0 object at)
+    (bounds_agree z (cc' ∷ active cp Calls k) cc' 0 values (fresh l cc') m0 bound (opened_far z laws cc' (active cp Calls k) l c.memory count (λ i. c.memory (Frame n (b + i))) there h.agrees))) (
       tt,
-      holds_far z q cp k c.memory m'
+      holds_frames z cp.root cp k m0 m' resumables (λ i y. spoiled_frame true root m0 i y) (spoiled_others true root cp.root m0 (laws.roots cc' there))
+          (holds_far z q cp k c.memory m0
           (λ i f' y. bytes_clear (without_frame q c.memory) q 0 count (λ j. c.memory (Frame n (b + j))) (Frame i y) (inl (apart_of i q f')) ∙ frame_kept q i y c.memory f')
           (λ i. bytes_clear (without_frame q c.memory) q 0 count (λ j. c.memory (Frame n (b + j))) (Result Main i) tt)
-          far apart mains h.holds.1,
+          far apart mains h.holds.1),
     )
     tt)))
     (omega arith) (omega arith)
@@ -148,11 +154,11 @@ call_when z true f arguments ty line values k cp l w c q e r = tt
 call_when z false f arguments ty line values k cp l w c q e r = r
 
 -- The source's own call: undefined where an argument is missing.
-pub call_goes : (z : Scene) (laws : SceneLaws z) (f : ℕ) (arguments : Expressions) (ty : Ty) (line : ℕ) (values : List Datum) (k : List Pending) (cp : CopyOf) (l : source.Memory) (w : World value.Byte) (c : Machine) (count : ℕ) → IsReached z.program cp → IsReached z.program (copy_of cp.root f) → (number z cp ≡ number z (copy_of cp.root f) → ⊥) → Apart z (number z (copy_of cp.root f)) k → MainsWait k
+pub call_goes : (z : Scene) (laws : SceneLaws z) (f : ℕ) (arguments : Expressions) (ty : Ty) (line : ℕ) (values : List Datum) (k : List Pending) (cp : CopyOf) (l : source.Memory) (w : World value.Byte) (c : Machine) (count : ℕ) → IsReached z.program cp → IsReached z.program (copy_of cp.root f) → (number z cp ≡ number z (copy_of cp.root f) → ⊥) → Apart z (number z (copy_of cp.root f)) k → MainsWait k → Resumables cp.root k
     → lowered_copy (ground_in z cp).layout f ≡ number z (copy_of cp.root f) → allowed (core_in z).program (number z cp) (number z (copy_of cp.root f)) ≡ true → arguments_width (ground_in z cp).layout 0 arguments ≡ count
     → count ≤ (core_in z).program.parameter_bytes (number z (copy_of cp.root f)) → count ≤ (core_in z).program.frame_bytes (number z (copy_of cp.root f)) → base (ground_in z cp) k + count ≤ (core_in z).program.frame_bytes (number z cp)
     → HasParameters z (copy_of cp.root f) 0 values (with_bytes (without_frame (number z (copy_of cp.root f)) c.memory) (Frame (number z (copy_of cp.root f)) 0) count (λ i. c.memory (Frame (number z cp) (base (ground_in z cp) k + i))))
     → is_due (arrived z.outside w) ≡ false → Mirrors z (state cp Calls (In (tree.Call f arguments ty line) (Passed values) ∷ k) l w) c
     → Follow z (6 * count + 12) 1 c (call z.program (In (tree.Call f arguments ty line) (Passed values) ∷ k) cp l (arrived z.outside w))
-call_goes z laws f arguments ty line values k cp l w c count reached there far apart mains lowered may wide params frame room bound due h =
-    call_when z (has_missing values) f arguments ty line values k cp l (arrived z.outside w) c (6 * count + 12) 1 (call_case z laws f arguments ty line values k cp l w c count reached there far apart mains lowered may wide params frame room bound due h)
+call_goes z laws f arguments ty line values k cp l w c count reached there far apart mains resumables lowered may wide params frame room bound due h =
+    call_when z (has_missing values) f arguments ty line values k cp l (arrived z.outside w) c (6 * count + 12) 1 (call_case z laws f arguments ty line values k cp l w c count reached there far apart mains resumables lowered may wide params frame room bound due h)

@@ -18,7 +18,7 @@ use Rattle.lower_trace.proofs.Calling.{call_goes}
 use Rattle.lower_trace.proofs.CodeLeft.{Scene, base, ground_in, number}
 use Rattle.lower_trace.proofs.CopyNumbers.{layout_number}
 use Rattle.lower_trace.proofs.Kept.{own_copy}
-use Rattle.lower_trace.proofs.Known.{small}
+use Rattle.lower_trace.proofs.Known.{resumables, small}
 use Rattle.lower_trace.proofs.Leads.{Law, led_by}
 use Rattle.lower_trace.proofs.Parameters.{arguments_are, arguments_wide, call_bytes, parameters_first, parameters_have}
 use Rattle.lower_trace.proofs.Scenes.{frame_is, frame_small, parameters_is, scene_laws}
@@ -55,7 +55,7 @@ module _ (z : Scene) (given : IsLowerable z.program z.copies) (input : All (λ b
       let free = or_parts (same_copy cp other) (is_among (callers k) other) (called_new p given.acyclic (state cp Calls (In (tree.Call f arguments ty line) (Passed values) ∷ k) l w) s f arguments ty line values k refl) in
       let m' : Memory = with_bytes (without_frame q c.memory) (Frame q 0) count (λ i. c.memory (Frame n (b + i))) in
       led_by z _ _ (6 * count + 12) 1 c _ (omega arith) (omega arith)
-      (call_goes z laws f arguments ty line values k cp l w c count s.reached there (called_apart z given cp f s.reached there own.0) (others_wait z laws other cp k refl there st.3 free.1) (mains_wait p cp k st.3)
+      (call_goes z laws f arguments ty line values k cp l w c count s.reached there (called_apart z given cp f s.reached there own.0) (others_wait z laws other cp k refl there st.3 free.1) (mains_wait p cp k st.3) (resumables z _ known)
       (layout_number z given cp f there) (called_allowed z given cp f s.reached there own.0) (wide ∙ (omega arith)) (omega arith) (omega arith) (omega arith)
       (parameters_have z cp other c.memory m' b count (omega arith)
       (λ y lt.

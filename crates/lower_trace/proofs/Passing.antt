@@ -3,7 +3,7 @@ use Rattle.std.proofs.Common.{◌≡◌, ℕ, zero, suc, ◌+◌, ◌*◌, ◌<�
 use Rattle.std.proofs.lemmas.Bool.{cases_lt}
 use Rattle.pic_world.specs.Roots.{same_root}
 use Rattle.pic_world.specs.World.{World, arrived, is_due}
-use Rattle.core_code.specs.Bytes.{Held, Memory, with_byte, with_bytes, without_frame}
+use Rattle.core_code.specs.Bytes.{Held, Memory, with_byte, with_bytes, without_frame, without_results}
 use Rattle.core_code.specs.Cost.{cost_of, least_call}
 use Rattle.core_code.specs.Machine.{Setting, Machine, Task, Do as Todo, Waiting, InCall, Program, goes, operate, is_own, is_valid, is_others, put, may_call, is_entry, opened, tasks, begins, called, when}
 use Rattle.core_code.specs.Tree as code
@@ -93,24 +93,24 @@ module _ (g : Setting) (T : Machine → Type 0) (n callee : ℕ) (s : List Waiti
       (subst (λ x. Placed g n (Some callee) r s (with_byte (opened (passing_after k) callee (memory_after m b k)) (Frame callee (0 + k)) x) w e) (kept_after m b k (b + k)) pe)))))
       (omega arith) (omega arith)
 
-  -- the copy is called, which has a body: this begins
+  -- the copy is called, which has a body: this begins, with no value in the results of its root
   pub call_then : (k b : ℕ) (r : List Task) (m : Memory) (c : Machine) (q l : ℕ) → g.program.reads callee ≡ None → Placed g n (passing_after k) (Todo [] (code.Call callee) ∷ r) s (memory_after m b k) w c
-      → ((d : Machine) → Placed g callee None (todo (g.program.body callee) []) (InCall n r ∷ s) (with_bytes (without_frame callee m) (Frame callee 0) k (λ i. m (Frame n (b + i)))) w d → Comes g T q l d) → Comes g T (12 + q) (1 + l) c
+      → ((d : Machine) → Placed g callee None (todo (g.program.body callee) []) (InCall n r ∷ s) (without_results (g.program.root callee) (with_bytes (without_frame callee m) (Frame callee 0) k (λ i. m (Frame n (b + i))))) w d → Comes g T q l d) → Comes g T (12 + q) (1 + l) c
   unfolding operate cost_of
   call_then k b r m c q l body p next =
       let t = code.Call callee in
       let a = passing_after k in
       let mk = memory_after m b k in
       let f = front c.code t r p.code in
-      let d : Machine = record { copy = callee; passing = None; code = tasks [] (g.program.body callee) []; stack = InCall n f.rest ∷ c.stack; memory = opened a callee mk; world = w } in
+      let d : Machine = record { copy = callee; passing = None; code = tasks [] (g.program.body callee) []; stack = InCall n f.rest ∷ c.stack; memory = without_results (g.program.root callee) (opened a callee mk); world = w } in
       let em = most_operates g n a (Todo [] t ∷ r) s mk w c p t r f due in
       let el = least_operates g n a (Todo [] t ∷ r) s mk w c p t r f due in
       let one : least_call (g.program.reads callee) ≡ 1 = ap least_call body in
       comes_first g T q l 12 1 c d
       (operates g n a (Todo [] t ∷ r) s mk w c p t r f due
       ∙ ap (λ o. when (may_call g.program n a callee) (called g.program o callee (InCall n f.rest ∷ c.stack) (opened a callee mk) w)) body
-      ∙ ap (λ x. when x (begins g.program callee (InCall n f.rest ∷ c.stack) (opened a callee mk) w)) (may_after k))
+      ∙ ap (λ x. when x (begins g.program callee (InCall n f.rest ∷ c.stack) (without_results (g.program.root callee) (opened a callee mk)) w)) (may_after k))
       (omega arith) (omega arith)
       (next d
-      (subst (λ x. Placed g callee None (todo (g.program.body callee) []) (InCall n r ∷ s) x w d) (opened_after m b k)
+      (subst (λ x. Placed g callee None (todo (g.program.body callee) []) (InCall n r ∷ s) (without_results (g.program.root callee) x) w d) (opened_after m b k)
       (record { copy = refl; passing = refl; code = plain_tasks [] (g.program.body callee) []; stack = ap (λ x. InCall n x ∷ plain_behind c.stack) f.behind ∙ ap (λ x. InCall n r ∷ x) p.stack; memory = refl; world = again })))

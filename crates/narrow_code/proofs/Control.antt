@@ -6,7 +6,7 @@ use Rattle.pic_world.specs.World.{World, noted, left, entered, Ended}
 use Rattle.pic_world.specs.declared.Root.{Root}
 use Rattle.pic_world.specs.declared.Root.TheVariants.{Main, Isr}
 use Rattle.core_code.specs.Bytes as bytes
-use Rattle.core_code.specs.Bytes.{Held, Memory, Place, behind, with_byte, without_frame}
+use Rattle.core_code.specs.Bytes.{Held, Memory, Place, behind, with_byte, without_frame, without_results}
 use Rattle.core_code.specs.Machine as task
 use Rattle.core_code.specs.Machine.{Task, Waiting, Next, Goes, Stuck, Still, goes, when, is_own, may_call, opened, begins, with_index, called, call, exit, again, leave, at_end, chosen, may_interrupt, enter}
 use Rattle.core_code.specs.Tree as tree
@@ -20,7 +20,7 @@ use Rattle.narrow_code.specs.Plans.{Plan, Plans, given, made, all_given, all_mad
 use Rattle.narrow_code.specs.Right.{Exits, Repeats, is_low_alone, fits_way, Fits, AllFit, IsSound}
 use Rattle.narrow_code.proofs.Memory.{never, holds_tells, holds_denies, Alike, lower, lower_refl, own_holds, none_above, truth_same}
 use Rattle.narrow_code.proofs.Relation.{Job, ToDo, ToJoin, ToRead, ToEnd, Hold, HoldLoop, HoldCall, HoldHandler, ones, others, one_stack, other_stack, loops_of, Runs, Weak, Passes, Interrupts, Stands, Outcome, Halts, Moves, when_same, when_both, below_kept, stands_kept, jobs, jobs_first, jobs_second, jobs_run}
-use Rattle.narrow_code.proofs.Values.{no_pointer_if}
+use Rattle.narrow_code.proofs.Values.{no_pointer_if, results_alike}
 use Rattle.narrow_code.proofs.Steps.{own_less, own_same, calls_parts, Scene, parameter_same, result_alike, fresh, fresh_alike, fresh_off, known_open, open_alike, open_off, differs, fresh_below, loops, go_same}
 
 -- what a test of a value comes to of which but the lowest byte is 0
@@ -62,7 +62,8 @@ module _ (x : Narrowing) (sound : IsSound x) where
   called_step : (o : Option (List ℕ)) (d p : ℕ) (js : List Job) (s : List Hold) (known : Marks) (m l : Memory) (w : World Held)
       → Alike x.lent known m l → Below d (λ byte. Same) known → Stands x d known (HoldCall p js ∷ s)
       → Outcome x (called (given_program x) o d (one_stack (HoldCall p js ∷ s)) m w) (called (made_program x) o d (other_stack (HoldCall p js ∷ s)) l w)
-  called_step None d p js s known m l w alike link stands = begins_step d (HoldCall p js ∷ s) known m l w (body_runs d) alike link stands
+  called_step None d p js s known m l w alike link stands =
+      begins_step d (HoldCall p js ∷ s) known (without_results (x.rest.root d) m) (without_results (x.rest.root d) l) w (body_runs d) (results_alike x.lent (x.rest.root d) known m l alike) link stands
   called_step (Some table) d p js s known m l w alike link stands =
       Moves (record { copy = d; passing = None; jobs = ToRead table ∷ ToDo [] [] (plans.Stays tree.Leave) ∷ []; holds = HoldCall p js ∷ s; memory = with_index (given_program x) d m; second = with_index (made_program x) d l; world = w; here = λ byte. Same; known = known })
       (record {

@@ -289,7 +289,7 @@ module _ (lent : Object → Bool) where
           goes_fine (tasks [] (g.program.body d) []) d None s m w (subst (λ (ts : List Tree). TasksFine (tasks [] ts [])) (sym (is_body d)) (tasks_fine [] (body_is d) [] (bodies d) tt)) f e
 
       called_fine : (o : Option (List ℕ)) (d : ℕ) (s : List Waiting) (m : Memory) (w : World Held) → StackFine s → MemoryFine m → NextFine (called g.program o d s m w)
-      called_fine None d s m w f e = begins_fine d s m w f e
+      called_fine None d s m w f e = begins_fine d s (without_results (g.program.root d) m) w f (results_fine (g.program.root d) m e)
       called_fine (Some bytes) d s m w f e =
           goes_fine (task.Reading bytes ∷ task.Do [] tree.Leave ∷ []) d None s (with_index g.program d m) w (tt, (refl, tt)) f (index_fine g.program d m e)
 

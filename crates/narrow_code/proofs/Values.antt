@@ -287,7 +287,7 @@ thin_converted UChar to m b e = thin_by UChar to (number_in m b 1) refl
 thin_converted _ to m b e = never e
 
 -- ---- the steps
-results_alike : (lent : ℕ → Bool) (r : Root) (known : Marks) (m l : Memory) → Alike lent known m l → Alike lent known (without_results r m) (without_results r l)
+pub results_alike : (lent : ℕ → Bool) (r : Root) (known : Marks) (m l : Memory) → Alike lent known m l → Alike lent known (without_results r m) (without_results r l)
 results_alike lent r known m l h (Static n i) = h (Static n i)
 results_alike lent r known m l h (Frame c i) = h (Frame c i)
 results_alike lent r known m l h (Result s k) = if_same lent (is_result_of r (Result s k)) Unset Unset (m (Result s k)) (l (Result s k)) refl (h (Result s k))

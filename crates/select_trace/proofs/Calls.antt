@@ -5,7 +5,7 @@ use Rattle.pic_world.specs.World.{World, Ended, noted, left}
 use Rattle.pic_world.specs.Control as control
 use Rattle.pic_world.specs.declared.Root.TheVariants.{Main, Isr}
 use Rattle.core_code.specs.Bytes as bytes
-use Rattle.core_code.specs.Bytes.{Held}
+use Rattle.core_code.specs.Bytes.{Held, without_results}
 use Rattle.core_code.specs.Cost.{restoring, least_call, least_leave}
 use Rattle.core_code.specs.Machine as core
 use Rattle.core_code.specs.Machine.{Task, Over, Waiting, InLoop, InCall, InHandler, tasks, can_pass, may_call, is_entry, is_copy, opened}
@@ -35,7 +35,7 @@ use Rattle.select_trace.proofs.Placed.{same_roots}
 use Rattle.select_trace.proofs.Sites.{Site, layout, show}
 use Rattle.select_trace.proofs.Machines.{at, lower, Calm, inside_as, cost_at, ends_goes, leaves_goes}
 use Rattle.select_trace.proofs.Live.{IsUser, passes, is_live, below, Chain, chain_user, called_user, main_root, user_below, main_not_isr}
-use Rattle.select_trace.proofs.Memory.{Agree, agree_fewer, agree_opened, or_swap}
+use Rattle.select_trace.proofs.Memory.{Agree, agree_fewer, agree_opened, agree_unset, or_swap}
 use Rattle.select_trace.proofs.Blocks.{block, parts, ending, body_of, whole, front_lands, next_lands}
 use Rattle.select_trace.proofs.Relation.{place, Left, Here, Frames, AreBytes, least_at, most_at, stop, further, Went, weaken, After}
 use Rattle.select_trace.proofs.Steps.{thread, machine, Fit, stands_at, stays, dear, is_counted, opens_at, open_word, word_to, word_quiet, effect_word}
@@ -124,7 +124,7 @@ module _ (s : Site) (t : Machine) (wc : World Held) (calm : Calm s wc) where
   pub call_goes : (f : ℕ) (pr : Option ℕ) (st : List Waiting) (loops : List ℕ) (ps : List Position) (cm : bytes.Memory) (m : Memory) → Fit s t wc f pr st loops ps cm m
       → (h n : ℕ) (r : Registers) (c : List Task) → Fits r → Has (block s f) n (call_code h) → Left s f loops (n + 1) c → After s (least_call (s.q.reads h)) 12 (core.call s.q h c f pr st cm wc) (at s t (thread s f n ps r) m wc)
   call_goes f pr st loops ps cm m fit h n r c fits hs l =
-      let d = machine h None (tasks [] (s.q.body h) []) (InCall f c ∷ st) (opened pr h cm) wc in
+      let d = machine h None (tasks [] (s.q.body h) []) (InCall f c ∷ st) (without_results (s.q.root h) (opened pr h cm)) wc in
       let v = at s t (thread s f n ps r) m wc in
       subst (λ (o : Option (List ℕ)). After s (least_call o) 12 (core.when (may_call s.q f pr h) (core.called s.q o h (InCall f c ∷ st) (opened pr h cm) wc)) v) (sym (s.chosen.no_tables h))
       (when_after s 1 12 (may_call s.q f pr h) (core.Goes d) v (λ ca.
@@ -143,10 +143,11 @@ module _ (s : Site) (t : Machine) (wc : World Held) (calm : Calm s wc) where
       let lim : s.g.limit (is_inside (s.q.root h)) ≡ s.g.limit wc.inside = ap s.g.limit (ap is_inside rh ∙ inside_root wc.inside) in
       let lt : nat_lt (length ps) (s.g.limit wc.inside) ≡ true = of_lt _ _ (omega (arith, up, top, lv, lim)) in
       let ps' = place s f (suc n) ∷ ps in
-      let fit' : Fit s t wc h None (InCall f c ∷ st) [] ps' (opened pr h cm) m = record {
+      let fit' : Fit s t wc h None (InCall f c ∷ st) [] ps' (without_results (s.q.root h) (opened pr h cm)) m = record {
         inside = fit.inside;
         control = fit.control;
-        agree = agree_fewer s (is_live f (Some h) (below st)) (is_live h None (below (InCall f c ∷ st))) (opened pr h cm) m (λ x q. or_swap (nat_eq x h) (nat_eq x f) (below st x) q) (agree_opened s f pr h (below st) cm m cp fit.agree);
+        agree = agree_unset s (is_live h None (below (InCall f c ∷ st))) (s.q.root h) (opened pr h cm) m
+            (agree_fewer s (is_live f (Some h) (below st)) (is_live h None (below (InCall f c ∷ st))) (opened pr h cm) m (λ x q. or_swap (nat_eq x h) (nat_eq x f) (below st x) q) (agree_opened s f pr h (below st) cm m cp fit.agree));
         bytes = fit.bytes;
         passing = tt;
         chain = (cf, ro, ne, fit.chain);
@@ -157,7 +158,7 @@ module _ (s : Site) (t : Machine) (wc : World Held) (calm : Calm s wc) where
       weaken s v d 1 (s.price (names.Copy f) n + 0) 1 12 (omega arith) (dear s f u n 12 (call_code h) hs refl (omega arith))
       (word_quiet s t wc calm f ps u n r m (syms.Call (targets.Block (names.Copy h))) (thread s h 0 ps' r) None d 0 0 hs.0 refl refl
       (call_is wc.inside f n ps r m h lt ∙ ap (λ k. Quiet (thread s h 0 (place s f k ∷ ps) r) None) (omega arith)) (front_lands s h uh)
-      (left_goes s t wc calm h None (InCall f c ∷ st) [] ps' (opened pr h cm) m fit' 0 r (tasks [] (s.q.body h) []) fits (body_left s h uh)))))
+      (left_goes s t wc calm h None (InCall f c ∷ st) [] ps' (without_results (s.q.root h) (opened pr h cm)) m fit' 0 r (tasks [] (s.q.body h) []) fits (body_left s h uh)))))
 
   -- ---- ends
   halt_is : (f n : ℕ) (r : Registers) (m : Memory) → effect_of s.g false (position (names.Copy f) n) (thread s f n [] r) m (syms.Goto (targets.Label labels.Halt)) ≡ Ends (record (thread s f n [] r) { at = None })

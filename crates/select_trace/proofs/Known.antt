@@ -213,6 +213,9 @@ module _ (q : Program) where
       roots Isr Main n = refl
       roots Isr Isr n = absurd (n refl)
 
+  pub spares_unset : (r : Root) (m m1 : Memory) → Spares r m m1 → Spares r m (without_results r m1)
+  spares_unset r m m1 s = record { frames = λ c k n. s.frames c k n; results = λ x k n. (spares_results r m1).results x k n ∙ s.results x k n }
+
   pub spares_opened : (r : Root) (a : Option ℕ) (m : Memory) (c : ℕ) → q.root c ≡ r → Spares r m (opened a c m)
   spares_opened r None m c e = spares_frame r m c e
   spares_opened r (Some x) m c e = spares_none r m

@@ -1,11 +1,11 @@
 -- What is known to be left in a byte is there at each moment of a run of byte code.
-use Rattle.std.proofs.Common.{◌≡◌, ◌⊎◌, inl, inr, ℕ, zero, suc, ◌+◌, ◌%◌, Bool, true, false, not, ◌&&◌, ◌||◌, nat_eq, if◌then◌else◌, List, [], ◌∷◌, Option, Some, None, refl, sym, ap, ◌∙◌}
+use Rattle.std.proofs.Common.{◌≡◌, ◌⊎◌, inl, inr, ℕ, zero, suc, ◌+◌, ◌%◌, Bool, true, false, not, ◌&&◌, ◌||◌, nat_eq, if◌then◌else◌, List, [], ◌∷◌, Option, Some, None, refl, sym, ap, ◌∙◌, subst}
 use Rattle.pic_world.specs.Roots.{same_root}
 use Rattle.pic_world.specs.Bits.{bit}
 use Rattle.pic_world.specs.World.{World, arrived, is_due, entered, device_value}
 use Rattle.pic_world.specs.declared.Root.TheVariants.{Main, Isr}
 use Rattle.core_code.specs.Bytes as bytes
-use Rattle.core_code.specs.Bytes.{Held, Number, Memory, Object, Fixed, FrameOf, Place, byte_in, behind, is_private, same_byte, with_byte, with_bytes, without_frame}
+use Rattle.core_code.specs.Bytes.{Held, Number, Memory, Object, Fixed, FrameOf, Place, byte_in, behind, is_private, same_byte, with_byte, with_bytes, without_frame, without_results}
 use Rattle.core_code.specs.Machine as core
 use Rattle.core_code.specs.Machine.{Setting, Program, Task, Do, Put, PutBit, PutBack, Join, LoadFrom, StoreTo, Reading, Over, Waiting, InLoop, InCall, InHandler, Machine, Next, Goes, Stuck, Still, goes, tasks, is_own, is_valid, is_reached, is_among, callers, may_hold, memory_with, opened, may_call, put, copy, written, writes, after_helper, load, store, loading, storing, load_from, store_to, bit_write, call, begins, chosen, exit, again, leave, at_end, operate, act, may_interrupt, enter, core_step, core_run, core_start, core_moment, gone}
 use Rattle.c_ints.specs.Range.{bytes_of}
@@ -20,7 +20,7 @@ use Rattle.select_trace.proofs.Memory.{same_bytes}
 use Rattle.select_trace.proofs.Sites.{Site, core_of}
 use Rattle.select_trace.proofs.Following.{KnowsAll}
 use Rattle.select_trace.proofs.Known as known
-use Rattle.select_trace.proofs.Known.{no_number, some_number, Fresh, Behind, Linked, fresh_by, tasks_linked, tasks_fresh, Holds, HoldsAll, Rests, Spares, OfRoot, Looks, Sure, SureNext, fresh_holds, rests_main, rests_keep, own_root, spares_none, spares_byte, spares_bytes, spares_frame, spares_then, spares_results, spares_opened, sure_when, fresh_goes, put_sure}
+use Rattle.select_trace.proofs.Known.{no_number, some_number, Fresh, Behind, Linked, fresh_by, tasks_linked, tasks_fresh, Holds, HoldsAll, Rests, Spares, OfRoot, Looks, Sure, SureNext, fresh_holds, rests_main, rests_keep, own_root, spares_none, spares_byte, spares_unset, spares_bytes, spares_frame, spares_then, spares_results, spares_opened, sure_when, fresh_goes, put_sure}
 
 byte_self : (b : Byte) → same_byte b b ≡ true
 byte_self (Static n k) = ap (λ z. z && nat_eq k k) (nat_same n n refl) ∙ nat_same k k refl
@@ -139,7 +139,9 @@ module _ (g : Setting) where
   called_sure : (o : Option (List ℕ)) (h : ℕ) (c : List Task) (p : ℕ) (a : Option ℕ) (st : List Waiting) (m : Memory) (w : World Held) → g.program.root p ≡ g.program.root h → Fresh c → Linked c → Rests g.program p m st
       → SureNext g.program (core.called g.program o h (InCall p c ∷ st) (opened a h m) w)
   called_sure None h c p a st m w ro f l r =
-      record { linked = tasks_linked [] (g.program.body h) [] tt tt; holds = body_holds h (opened a h m); rests = (ro, f, l, rests_keep g.program p m (opened a h m) st (spares_opened g.program (g.program.root p) a m h (sym ro)) r) }
+      let cleared = subst (λ z. Spares g.program (g.program.root p) m (without_results z (opened a h m))) ro
+      (spares_unset g.program (g.program.root p) m (opened a h m) (spares_opened g.program (g.program.root p) a m h (sym ro))) in
+      record { linked = tasks_linked [] (g.program.body h) [] tt tt; holds = body_holds h (without_results (g.program.root h) (opened a h m)); rests = (ro, f, l, rests_keep g.program p m (without_results (g.program.root h) (opened a h m)) st cleared r) }
   called_sure (Some table) h c p a st m w ro f l r =
       let first : Memory = with_byte (opened a h m) (Result (g.program.root h) 0) (opened a h m (Frame h 0)) in
       let one = spares_byte g.program (g.program.root p) m (opened a h m) (Result (g.program.root h) 0) (opened a h m (Frame h 0)) (sym ro) (spares_opened g.program (g.program.root p) a m h (sym ro)) in

@@ -1,9 +1,10 @@
 -- Memory agrees on what is live: a number is itself, a byte of a pointer is one of an address, and a byte that holds nothing
 -- agrees with anything.
 use Rattle.std.proofs.Common.{◌≡◌, ◌⊎◌, inl, inr, ℕ, zero, suc, ◌<◌, ◌≤◌, Bool, true, false, ◌||◌, nat_eq, if◌then◌else◌, length, Option, Some, None, refl, sym, ap, ◌∙◌, subst, arith}
+use Rattle.pic_world.specs.declared.Root.{Root}
 use Rattle.pic_world.specs.Roots.{same_root}
 use Rattle.core_code.specs.Bytes as bytes
-use Rattle.core_code.specs.Bytes.{Held, Unset, Number, Part, Object, Fixed, FrameOf, same_byte, behind, with_bytes, without_frame}
+use Rattle.core_code.specs.Bytes.{Held, Unset, Number, Part, Object, Fixed, FrameOf, same_byte, behind, with_bytes, without_frame, without_results}
 use Rattle.core_code.specs.Machine.{object_bytes, opened, can_pass}
 use Rattle.core_code.specs.declared.code.Byte.{Byte}
 use Rattle.core_code.specs.declared.code.Byte.TheVariants.{Static, Frame, Result, Device}
@@ -103,6 +104,17 @@ agree_blank s l k c cm m i a (Static n x) e = a (Static n x) e
 agree_blank s l k c cm m i a (Frame d x) e = blank_frame s c d x (cm (Frame d x)) (m (slot (layout s) (Frame d x))) (nat_eq d c) (λ t. a (Frame d x) (both _ _ (or_false (nat_eq d c) (l d) t (i d (and_left _ _ e))) (and_right (k d) _ e)))
 agree_blank s l k c cm m i a (Result r x) e = a (Result r x) e
 agree_blank s l k c cm m i a (Device x) e = absurd (cc)
+
+unset_shown : (s : Site) (t : Bool) (held : Held) (v : ℕ) → Shown s held v → Shown s (if t then Unset else held) v
+unset_shown s true held v e = tt
+unset_shown s false held v e = e
+
+-- no value in the results of a root
+pub agree_unset : (s : Site) (l : ℕ → Bool) (r : Root) (cm : bytes.Memory) (m : Memory) → Agree s l cm m → Agree s l (without_results r cm) m
+agree_unset s l r cm m a (Static n x) e = a (Static n x) e
+agree_unset s l r cm m a (Frame d x) e = a (Frame d x) e
+agree_unset s l r cm m a (Result y x) e = unset_shown s (same_root y r) (cm (Result y x)) (m (slot (layout s) (Result y x))) (a (Result y x) e)
+agree_unset s l r cm m a (Device x) e = absurd (cc)
 
 pub or_swap : (a b c : Bool) → (a || (b || c)) ≡ true → (b || (a || c)) ≡ true
 or_swap true true c e = refl

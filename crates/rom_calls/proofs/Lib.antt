@@ -1,0 +1,13 @@
+pub mod Values
+pub mod Relation
+pub mod Steps
+pub mod Control
+pub mod Index
+pub mod Inside
+pub mod Costs
+pub mod Small
+pub mod Whole
+pub mod Lowering
+pub mod Examples
+pub mod Clearing
+pub mod Made
