@@ -79,7 +79,7 @@ bool_cases : (b : Bool) → (b ≡ true) ⊎ (b ≡ false)
 bool_cases true = inl refl
 bool_cases false = inr refl
 
-under_some : (p : Program) (k : List Pending) (c : CopyOf) → body_words p c ≤ under p c k
+pub under_some : (p : Program) (k : List Pending) (c : CopyOf) → body_words p c ≤ under p c k
 unfolding under
 under_some p [] c = omega arith
 under_some p (In e got ∷ k) c = under_some p k c
@@ -106,7 +106,7 @@ module _ (z : Scene) (given : IsLowerable z.program z.copies) (input : All (λ b
   abbrev s : Setting
   s = source_in z
 
-  under_small : (t : State) → Known z t → under z.program t.copy t.stack ≤ 8192
+  pub under_small : (t : State) → Known z t → under z.program t.copy t.stack ≤ 8192
   under_small t k = under_few z given t.stack t.copy k.stands.reached k.stands.stack
 
   -- ---- what a state owes
@@ -114,18 +114,18 @@ module _ (z : Scene) (given : IsLowerable z.program z.copies) (input : All (λ b
   owed_by true t = bulk z.program t.copy t.stack
   owed_by false t = load z.program t.copy t.focus t.stack
 
-  unfoldable owed : State → ℕ
+  unfoldable pub owed : State → ℕ
   owed t = owed_by (counts s t) t
 
   owed_few_by : (b : Bool) (t : State) → Known z t → IsSpanned z t → owed_by b t ≤ under z.program t.copy t.stack + 4130
   owed_few_by true t k q = let e = bulk_is z.program t.stack t.copy in omega arith
   owed_few_by false t k q = load_few z.program (body_small z given) t.focus t.stack t.copy k.stands.reached k.stands.focus k.stands.stack q.0 q.1
 
-  owed_few : (t : State) → Known z t → IsSpanned z t → owed t ≤ under z.program t.copy t.stack + 4130
+  pub owed_few : (t : State) → Known z t → IsSpanned z t → owed t ≤ under z.program t.copy t.stack + 4130
   unfolding owed
   owed_few t k q = owed_few_by (counts s t) t k q
 
-  counted_owes : (t : State) → counts s t ≡ true → owed t ≡ bulk z.program t.copy t.stack
+  pub counted_owes : (t : State) → counts s t ≡ true → owed t ≡ bulk z.program t.copy t.stack
   unfolding owed
   counted_owes t e = ap (λ b. owed_by b t) e
 
@@ -138,7 +138,7 @@ module _ (z : Scene) (given : IsLowerable z.program z.copies) (input : All (λ b
   or_no true c e = absurd (false≢true (sym e))
   or_no false c e = (refl, e)
 
-  rise : (t u : State) (event : Option (Happening Byte)) (most : ℕ) → Known z u → step s t ≡ Went u event → (begins_body s t ≡ true → most ≤ 700) → most ≤ step_room → most + under z.program u.copy u.stack ≤ under z.program t.copy t.stack + 2750
+  pub rise : (t u : State) (event : Option (Happening Byte)) (most : ℕ) → Known z u → step s t ≡ Went u event → (begins_body s t ≡ true → most ≤ 700) → most ≤ step_room → most + under z.program u.copy u.stack ≤ under z.program t.copy t.stack + 2750
   rise t u event most ku e brief dear =
       ⊎_elim
       (λ yes.
@@ -150,20 +150,20 @@ module _ (z : Scene) (given : IsLowerable z.program z.copies) (input : All (λ b
       (bool_cases (begins_body s t))
 
   -- ---- what is known of each state
-  spanned_first : IsSpanned z (start s)
+  pub spanned_first : IsSpanned z (start s)
   unfolding start
   spanned_first = (tt, (omega arith, tt))
 
-  spanned_next : (t u : State) (event : Option (Happening Byte)) → Known z t → IsSpanned z t → step s t ≡ Went u event → IsSpanned z u
+  pub spanned_next : (t u : State) (event : Option (Happening Byte)) → Known z t → IsSpanned z t → step s t ≡ Went u event → IsSpanned z u
   spanned_next t u event k q e =
       ⊎_elim (λ over. over_span s t u event over q.1 e)
       (λ on. subst (KeepsSpan z.program) e (step_span s t k.stands q.0 q.1 on))
       (bool_cases (is_over t.focus))
 
-  record Kept (t : State) (c : Machine) : Type 0 where
-    known : Known z t
-    spanned : IsSpanned z t
-    relates : Relates z t c
+  pub record Kept (t : State) (c : Machine) : Type 0 where
+    pub known : Known z t
+    pub spanned : IsSpanned z t
+    pub relates : Relates z t c
 
   -- ---- a step that doesn't count
   line_none : (t : State) → counts s t ≡ false → (enters s t ≡ false) × (counted_line z.program t.copy t.focus t.stack ≡ None)
@@ -174,10 +174,10 @@ module _ (z : Scene) (given : IsLowerable z.program z.copies) (input : All (λ b
   unfolding counts
   counts_by_line u e = ap (λ b. if b then true else is_some_line (counted_line z.program u.copy u.focus u.stack)) e
 
-  record Paid (t u : State) : Type 0 where
-    paid : most_at z.program t.focus t.stack + owed u ≤ owed t
-    quiet : u.world.trace ≡ t.world.trace
-    goes_on : is_over u.focus ≡ false
+  pub record Paid (t u : State) : Type 0 where
+    pub paid : most_at z.program t.focus t.stack + owed u ≤ owed t
+    pub quiet : u.world.trace ≡ t.world.trace
+    pub goes_on : is_over u.focus ≡ false
 
   owed_within : (u : State) (n : ℕ) → Known z u → enters s u ≡ false → Owes z.program n u.copy u.focus u.stack → owed u ≤ n
   owed_within u n k e o =
@@ -191,7 +191,7 @@ module _ (z : Scene) (given : IsLowerable z.program z.copies) (input : All (λ b
       (bool_cases (counts s u)))
       o.0
 
-  paid_step : (t u : State) (event : Option (Happening Byte)) → Known z t → IsSpanned z t → Known z u → counts s t ≡ false → step s t ≡ Went u event → Paid t u
+  pub paid_step : (t u : State) (event : Option (Happening Byte)) → Known z t → IsSpanned z t → Known z u → counts s t ≡ false → step s t ≡ Went u event → Paid t u
   paid_step t u event k q ku free e =
       let line = line_none t free in
       let m = most_owed z.program t.focus t.stack t.copy k.stands.focus line.1 in
@@ -233,7 +233,7 @@ module _ (z : Scene) (given : IsLowerable z.program z.copies) (input : All (λ b
   rests_too t c o due (inl (inr (inr a))) = absurd (over_waits z t.copy t.stack t.memory t.world c (subst (λ x. Waiting z (state t.copy x t.stack t.memory t.world) c) (over_is t.focus o) a))
   rests_too t c o due (inr d) = absurd (false≢true (sym due ∙ d.due))
 
-  still : (t : State) (c : Machine) → Kept t c → is_idle (step s t) ≡ true → is_still (core_step (core_in z) c) ≡ true
+  pub still : (t : State) (c : Machine) → Kept t c → is_idle (step s t) ≡ true → is_still (core_step (core_in z) c) ≡ true
   still t c h e = let o = idle_over t h.known h.spanned e in rests_too t c o (rests_free s t o (idle_is (step s t) e)) h.relates
 
   -- ---- moments
@@ -331,7 +331,7 @@ module _ (z : Scene) (given : IsLowerable z.program z.copies) (input : All (λ b
   stays_idle t Idle e i = ap is_idle e
   stays_idle t Lost e i = absurd (false≢true i)
 
-  first_small : owed (start s) ≤ 7500
+  pub first_small : owed (start s) ≤ 7500
   unfolding start under
   first_small =
       let k = known_first z given input in
@@ -339,7 +339,7 @@ module _ (z : Scene) (given : IsLowerable z.program z.copies) (input : All (λ b
       let b = body_small z given (start s).copy k.stands.reached in
       omega arith
 
-  low_owed : (t : State) → Known z t → counts s t ≡ true → 2048 ≤ owed t
+  pub low_owed : (t : State) → Known z t → counts s t ≡ true → 2048 ≤ owed t
   low_owed t k e =
       let q = counted_owes t e in
       let b = bulk_is z.program t.stack t.copy in

@@ -82,7 +82,7 @@ given_most_for sizes (tree.Return (Some e) line) Tests = 6 * value_bytes sizes e
 given_most_for sizes _ _ = 0
 
 abbrev pub given_most_to : Place → ℕ
-given_most_to (tree.Deref pointer ty line) = step_room
+given_most_to (tree.Deref pointer ty line) = 0
 given_most_to _ = 0
 
 abbrev pub given_most : List ℕ → List Pending → ℕ
