@@ -30,6 +30,7 @@ mod Early
 mod Tracks
 mod Near
 pub mod WholePrices
+pub mod TablePrices
 pub mod Cheaper
 mod LeanRows
 mod LeanWords

@@ -106,7 +106,7 @@ module _ (placed : Placed) (own : BlockName) (st : State) (s : Sym) (rest : List
   abbrev pub priced : ℕ → ℕ
   priced k = price_from 0 (selected_from placed own st (s ∷ rest)) k
 
-  put_price : (plain : Bool) (needs : Option Needs) (more : List Sym) (k : ℕ) → price_from 0 (put_of (is_select s) plain own st s needs ++ more) k ≡ price_from (count_of plain own st needs) (s ∷ more) k
+  pub put_price : (plain : Bool) (needs : Option Needs) (more : List Sym) (k : ℕ) → price_from 0 (put_of (is_select s) plain own st s needs ++ more) k ≡ price_from (count_of plain own st needs) (s ∷ more) k
   put_price plain needs more k = ap (λ (b : Bool). price_from 0 (put_of b plain own st s needs ++ more) k) no_select ∙ by_needs plain needs
     where
       by_needs : (plain : Bool) (needs : Option Needs) → price_from 0 (put_of false plain own st s needs ++ more) k ≡ price_from (count_of plain own st needs) (s ∷ more) k

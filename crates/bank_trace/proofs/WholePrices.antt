@@ -30,7 +30,7 @@ use Rattle.bank_trace.proofs.Tracks.{priced_at}
 use Rattle.bank_trace.proofs.Near.{near_at}
 
 module _ (placed : Placed) (given made : List SymBlock) (has : AreSelected placed given made) (name : BlockName) where
-  code_is : block_in made name ≡ selected_from placed name front (block_in given name)
+  pub code_is : block_in made name ≡ selected_from placed name front (block_in given name)
   code_is = exact_at placed given made has.each name
 
   pub no_selects : has_none (block_in given name) ≡ true

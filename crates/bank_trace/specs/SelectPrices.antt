@@ -1,5 +1,5 @@
 -- What instructions cost together with the selects before them, in blocks that were given and what `selects` makes of them.
-use Rattle.std.specs.Prelude.{◌≡◌, ℕ, ◌<◌, ◌≤◌, true, List, length}
+use Rattle.std.specs.Prelude.{◌≡◌, ℕ, ◌<◌, ◌≤◌, true, List, length, Some, slice_get}
 use Rattle.std.specs.List.{AllZip}
 use Rattle.c_typed.specs.declared.calls.Helper.{Helper}
 use Rattle.pic_world.specs.declared.Root.{Root}
@@ -10,6 +10,7 @@ use Rattle.sym_code.specs.Selects.{bare}
 use Rattle.sym_code.specs.declared.code.BlockName.{BlockName}
 use Rattle.sym_code.specs.declared.code.BlockName.TheVariants.{Copy}
 use Rattle.sym_code.specs.declared.code.Sym.{Sym}
+use Rattle.sym_code.specs.declared.code.Sym.TheVariants.{Table}
 use Rattle.sym_code.specs.declared.code.SymBlock.{SymBlock}
 use Rattle.code_place.specs.Layouts.{layout_of}
 use Rattle.math_helpers.specs.Routines.{helper_code}
@@ -30,6 +31,12 @@ BlocksAreDear =
     (placed : Placed) (given made : List SymBlock) → AreSelected placed given made
     → ((c : ℕ) → c < length (layout_of placed).frames → is_whole (frame (layout_of placed) c).address (frame (layout_of placed) c).size ≡ true)
     → (name : BlockName) → AreDear (layout_of placed) (price_in (block_in made) name) (block_in given name)
+
+-- A read of a table costs twelve instructions, and two selects of its page.
+abbrev pub TablesArePriced : Type 0
+TablesArePriced =
+    (placed : Placed) (given made : List SymBlock) → AreSelected placed given made
+    → (name : BlockName) (n table : ℕ) (root : Root) → slice_get (block_in given name) n ≡ Some (Table table root) → price_in (block_in made) name n ≤ 14
 
 -- A routine whose frame stands whole in a bank costs the selects of the frame's bank and of its own page once between two labels.
 abbrev pub RoutinesArePriced : Type 0

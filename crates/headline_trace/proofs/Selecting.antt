@@ -1,5 +1,5 @@
 -- All that the link of selection is given, put together.
-use Rattle.std.proofs.Common.{refl, sym}
+use Rattle.std.proofs.Common.{◌≡◌, ℕ, List, Option, None, Some, refl, sym, ◌∙◌}
 use Rattle.src_rules.proofs.Starts.{sound_runs}
 use Rattle.headline_trace.specs.Selection.{SelectionIsHad, reaches_in, level_in}
 use Rattle.headline_trace.proofs.Apart.{laid_out}
@@ -10,14 +10,18 @@ use Rattle.headline_trace.proofs.Had.{bodies_had}
 use Rattle.headline_trace.proofs.Laid.{layout_is, routine_room}
 use Rattle.headline_trace.proofs.Statics.{first_there}
 
+none_some : {list : List ℕ} → ◌≡◌ {A = Option (List ℕ)} None (Some list) → ⊥
+none_some e = absurd (cc)
+
+-- No copy reads a table.
 pub selection_had : SelectionIsHad
 selection_had p copies core given made placed at passed has spread link =
     let runs = sound_runs p passed.blocks.sound passed.blocks.roots passed.blocks.numbers in
     let reach = reach_had p copies has in
     let levels = levels_had p copies has in
     record {
-      bodies_there = bodies_had p copies core given made placed at passed;
-      blocks = block_there core copies given passed.blocks.joined;
+      bodies_there = λ c copy there user no_table. bodies_had p copies core given made placed at passed c copy there user;
+      blocks = λ c copy there user no_table. block_there core copies given passed.blocks.joined c copy there user;
       routines = routine_block core copies given passed.blocks.joined;
       roots = root_is p copies;
       main_there = main_first p copies has.known has.acyclic runs;
@@ -25,7 +29,7 @@ selection_had p copies core given made placed at passed has spread link =
       routine_there = routine_is p copies;
       handler_there = handler_user p copies has.known has.acyclic runs;
       handler = handler_is p copies;
-      no_tables = reads_none p copies;
+      entries = λ c entry. reads_none p copies c;
       same_handler = sym (handler_is p copies);
       no_selects = refl;
       first = first_there p copies passed.blocks.sound passed.blocks.numbers;
@@ -37,6 +41,7 @@ selection_had p copies core given made placed at passed has spread link =
       reach_routine = reach.routine;
       level = level_in copies;
       levels = record { calls = levels.calls; helpers = levels.helpers; within = levels.within };
+      readers = λ c copy there user list reads. absurd (none_some (sym (reads_none p copies c) ∙ reads));
       prices = link.prices;
       routine_prices = link.routine_prices;
       sures = link.sures;

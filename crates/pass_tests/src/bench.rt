@@ -18,7 +18,7 @@ use lean_pass::lean;
 use pic_map::{FrameLine, ObjLine, Placed};
 use pic_world::Root;
 use select_code::select_byte;
-use select_wide::select;
+use select_wide::{select, select_with_tables};
 use std::alloc::{AllocError, Global};
 use sym_code::{BlockName, Sym, SymBlock, SymProgram};
 
@@ -251,6 +251,19 @@ impl Bench {
         Ok(())
     }
 
+    // The blocks of main, which has no code, and of a copy behind it that reads a table.
+    fn read(&mut self, alloc: Global, table: u16) -> Result<(), AllocError> {
+        let mut list = Vec::new(alloc);
+        list.push(under_main(FnId::User(1)))?;
+        list.push(under_main(FnId::User(2)))?;
+        let copies = Copies { list, depth: 2 };
+        if copies.list.len() <= 65_536 {
+            let p = program(alloc, Vec::new(alloc))?;
+            self.made = select_with_tables(alloc, &p, &copies, &[None, Some(table)])?.blocks;
+        }
+        Ok(())
+    }
+
     fn narrow(&mut self, alloc: Global) -> Result<(), AllocError> {
         let mut code = self.taken_code(alloc);
         code.push(Core::Leave)?;
@@ -274,6 +287,7 @@ impl Bench {
             "start" => self.start(alloc, handler(rest))?,
             "code" => self.select_byte(alloc)?,
             "select" => self.select(alloc)?,
+            "read" => self.read(alloc, number(rest))?,
             "narrow" => self.narrow(alloc)?,
             "test" => self.test_low_bytes(alloc)?,
             _ => return Ok(false),

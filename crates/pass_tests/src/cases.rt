@@ -2,8 +2,9 @@
 //!
 //! A case begins with its name. `object` and `frame` say where a static object and a copy's frame stand, with their sizes; `block`
 //! begins a block, and `put` has its instructions; `do` has operations of main's body, each behind those in it. Then comes a pass:
-//! `code` and `select` select instructions for the last operation and for main's body, `narrow` does operators of it on low bytes
-//! alone, `test` comparisons and conditions, `plain` puts the selects of banks and pages into the blocks that they need by straight code,
+//! `code` and `select` select instructions for the last operation and for main's body, `read` those of a copy that reads a table,
+//! `narrow` does operators of it on low bytes alone, `test` comparisons and conditions, `plain` puts the selects of banks and pages
+//! into the blocks that they need by straight code,
 //! `selects` those that they need by flow facts, for a handler and blocks at these addresses, `start` makes the start block for a handler, of an object of two bytes, 0 and the low byte of its
 //! own address. What is wanted of what is made: `blocks`, how many; `made`, that there is a block of this number, to which `wants`,
 //! its instructions (`*` is any), and `end` belong; `lengths`, how many instructions each block has; `name`, a block's name. Of
@@ -128,6 +129,12 @@ made 0
 wants movf F3.0 w; movwf FSR; bcf STATUS 7; btfsc F3.1 0; bsf STATUS 7; movf INDF w; movwf F3.2; incf FSR f; movf INDF w
 wants movwf F3.3
 end
+case a copy that reads table 5 passes its parameters on as the index, and returns the byte
+read 5
+blocks 2
+made 1
+wants label L0; movf F1.0 w; movwf M0; movf F1.1 w; movwf M1; table 5 main; movwf M0; return
+end
 case a shift by nine moves a byte and a bit
 do leave; set F3.2 9; set F3.3 0; shl uint F3.0 F3.0 F3.2
 select 0
@@ -147,7 +154,7 @@ end
 
 #[test]
 fn operations_have_the_code_of_the_table(rt: HostRuntime) -> Result<(), Fail> {
-    assert_eq!(rt; check(&rt, rt.alloc(), CODE)?, (15, 51));
+    assert_eq!(rt; check(&rt, rt.alloc(), CODE)?, (16, 55));
     Ok(())
 }
 

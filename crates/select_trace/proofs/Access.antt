@@ -126,7 +126,7 @@ module _ (s : Site) where
   abbrev pub loaded : Registers → ℕ → Registers
   loaded r x = record r { w = x; z = truth (nat_eq x 0) }
 
-  truth_small : (b : Bool) → truth b < 2
+  pub truth_small : (b : Bool) → truth b < 2
   truth_small true = omega arith
   truth_small false = omega arith
 

@@ -78,7 +78,7 @@ soon_left s f loops r n (PutBit a b ∷ c) l = absurd l
 soon_left s f loops r n (PutBack a b ∷ c) l = absurd l
 soon_left s f loops r n (LoadFrom a b d e ∷ c) l = absurd l
 soon_left s f loops r n (StoreTo a b d e ∷ c) l = absurd l
-soon_left s f loops r n (Reading a ∷ c) l = absurd l
+soon_left s f loops r n (Reading a ∷ c) l = l
 soon_left s f loops r n (Over ∷ c) l = absurd l
 
 pub soon_to : (s : Site) (f : ℕ) (loops : List ℕ) (r : Registers) (n k : ℕ) (c : List Task) → n ≡ k → Soon s f loops r n c → Soon s f loops r k c

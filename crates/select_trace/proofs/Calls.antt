@@ -8,8 +8,8 @@ use Rattle.core_code.specs.Bytes as bytes
 use Rattle.core_code.specs.Bytes.{Held}
 use Rattle.core_code.specs.Cost.{restoring, least_call, least_leave}
 use Rattle.core_code.specs.Machine as core
-use Rattle.core_code.specs.Machine.{Task, Over, Waiting, InLoop, InCall, InHandler, tasks, can_pass, may_call, is_entry, is_copy, opened}
-use Rattle.core_code.specs.Tree.{Tree, trees_of, list_of}
+use Rattle.core_code.specs.Machine.{Task, Do, Reading, Over, Waiting, InLoop, InCall, InHandler, tasks, can_pass, may_call, is_entry, is_copy, opened}
+use Rattle.core_code.specs.Tree.{Tree, Leave, trees_of, list_of}
 use Rattle.sym_code.specs.Cost.{sure_prices, most_prices, instruction_cost}
 use Rattle.sym_code.specs.Effect.{Thread, Memory, Quiet, Ends, Leaves, Stuck, effect_of, root_of, is_in_page, call, jump_to}
 use Rattle.sym_code.specs.Layout.{shown}
@@ -36,23 +36,24 @@ use Rattle.select_trace.proofs.Sites.{Site, layout, show}
 use Rattle.select_trace.proofs.Machines.{at, lower, Calm, inside_as, cost_at, ends_goes, leaves_goes}
 use Rattle.select_trace.proofs.Live.{IsUser, passes, is_live, below, Chain, chain_user, called_user, main_root, user_below, main_not_isr}
 use Rattle.select_trace.proofs.Memory.{Agree, agree_fewer, agree_opened, or_swap}
-use Rattle.select_trace.proofs.Blocks.{block, parts, ending, body_of, whole, front_lands, next_lands}
+use Rattle.select_trace.proofs.Blocks.{block, parts, ending, body_of, whole, called_ends, front_lands, next_lands}
 use Rattle.select_trace.proofs.Relation.{place, Left, Here, Frames, AreBytes, least_at, most_at, stop, further, Went, weaken, After}
 use Rattle.select_trace.proofs.Steps.{thread, machine, Fit, stands_at, stays, dear, is_counted, opens_at, open_word, word_to, word_quiet, effect_word}
 use Rattle.select_trace.proofs.Control.{left_to, left_goes, parts_left, when_after}
+use Rattle.select_trace.proofs.TableReads.{index_goes}
 
 list_back : (ts : List Tree) → list_of (trees_of ts) ≡ ts
 list_back [] = refl
 list_back (t ∷ ts) = ap (λ l. t ∷ l) (list_back ts)
 
 -- the code of a body, at the front of its block
-pub body_left : (s : Site) (f : ℕ) → IsUser s f → Left s f [] 0 (tasks [] (s.q.body f) [])
-body_left s f u =
+pub body_left : (s : Site) (f : ℕ) → IsUser s f → s.q.reads f ≡ None → Left s f [] 0 (tasks [] (s.q.body f) [])
+body_left s f u no_table =
     let ts = trees_of (s.q.body f) in
     let e = list_back (s.q.body f) in
-    let h : Has (block s f) 0 (parts s f [] 0 [] ts (length (s.q.body f))) = subst (λ b. Has b 0 (parts s f [] 0 [] ts (length (s.q.body f)))) (sym (whole s f u)) (has_self (parts s f [] 0 [] ts (length (s.q.body f)))) in
+    let h : Has (block s f) 0 (parts s f [] 0 [] ts (length (s.q.body f))) = subst (λ b. Has b 0 (parts s f [] 0 [] ts (length (s.q.body f)))) (sym (whole s f u no_table)) (has_self (parts s f [] 0 [] ts (length (s.q.body f)))) in
     subst (λ l. Left s f [] 0 (tasks [] l [])) e
-    (parts_left s f [] ts [] 0 [] (body_of s f u).bytes (subst (λ l. Has (block s f) 0 (parts s f [] 0 [] ts (length l))) (sym e) h) tt)
+    (parts_left s f [] ts [] 0 [] (body_of s f u no_table).bytes (subst (λ l. Has (block s f) 0 (parts s f [] 0 [] ts (length l))) (sym e) h) tt)
 
 inside_root : (i : Bool) → is_inside (root_of i) ≡ i
 inside_root true = refl
@@ -88,20 +89,6 @@ fewer_none f pr b x q = or_drop (nat_eq x f) (passes pr x) (b x) q
 main_ends : (s : Site) (f : ℕ) → f ≡ 0 → ending s f ≡ endings.Halt
 main_ends s f e = ap (ending s) e
 
-is_number_is : (o : Option ℕ) (f : ℕ) → is_number o f ≡ is_copy o f
-is_number_is None f = refl
-is_number_is (Some x) f = refl
-
-called_ends : (s : Site) (f : ℕ) → is_entry s.q f ≡ false → ending s f ≡ endings.Return
-called_ends s f e =
-    let h = or_none (nat_eq f 0) (is_copy s.q.handler f) e in
-    if_false (nat_eq f 0) endings.Halt (if is_number (handler_at s.copies) f then endings.Restore else endings.Return) h.0
-    ∙ if_false (is_number (handler_at s.copies) f) endings.Restore endings.Return (is_number_is (handler_at s.copies) f ∙ ap (λ o. is_copy o f) (sym s.chosen.handler) ∙ h.1)
-  where
-    or_none : (a b : Bool) → (a || b) ≡ false → (a ≡ false) × (b ≡ false)
-    or_none true b e = absurd (cc)
-    or_none false b e = (refl, e)
-
 handler_ends : (s : Site) (f : ℕ) → s.q.handler ≡ Some f → s.q.root f ≡ Isr → ending s f ≡ endings.Restore
 handler_ends s f e r =
     let ne : f ≢ 0 = (λ z. main_not_isr (s.q.root f) (ap s.q.root z ∙ main_root s) r) in
@@ -121,43 +108,79 @@ module _ (s : Site) (t : Machine) (wc : World Held) (calm : Calm s wc) where
       if_true (is_in_page s.g (position (names.Copy f) n) r target) (call s.g i (position (names.Copy f) n) (thread s f n ps r) target) Stuck (in_page (position (names.Copy f) n) r target)
       ∙ if_true (nat_lt (length ps) (s.g.limit i)) (jump_to (record (thread s f n ps r) { stack = place s f (n + 1) ∷ ps }) (Some (place s h 0))) Stuck lt
 
-  pub call_goes : (f : ℕ) (pr : Option ℕ) (st : List Waiting) (loops : List ℕ) (ps : List Position) (cm : bytes.Memory) (m : Memory) → Fit s t wc f pr st loops ps cm m
-      → (h n : ℕ) (r : Registers) (c : List Task) → Fits r → Has (block s f) n (call_code h) → Left s f loops (n + 1) c → After s (least_call (s.q.reads h)) 12 (core.call s.q h c f pr st cm wc) (at s t (thread s f n ps r) m wc)
-  call_goes f pr st loops ps cm m fit h n r c fits hs l =
-      let d = machine h None (tasks [] (s.q.body h) []) (InCall f c ∷ st) (opened pr h cm) wc in
-      let v = at s t (thread s f n ps r) m wc in
-      subst (λ (o : Option (List ℕ)). After s (least_call o) 12 (core.when (may_call s.q f pr h) (core.called s.q o h (InCall f c ∷ st) (opened pr h cm) wc)) v) (sym (s.chosen.no_tables h))
-      (when_after s 1 12 (may_call s.q f pr h) (core.Goes d) v (λ ca.
-      let u = chain_user s f st fit.chain in
-      let e1 : (s.q.calls f h && same_root (s.q.root f) (s.q.root h) && not (is_entry s.q h)) ≡ true = and_left _ _ ca in
-      let e2 : (s.q.calls f h && same_root (s.q.root f) (s.q.root h)) ≡ true = and_left _ _ e1 in
-      let cf : s.q.calls f h ≡ true = and_left _ _ e2 in
-      let ro : s.q.root f ≡ s.q.root h = same_roots _ _ (and_right (s.q.calls f h) _ e2) in
-      let ne : is_entry s.q h ≡ false = not_false _ (and_right (s.q.calls f h && same_root (s.q.root f) (s.q.root h)) _ e1) in
-      let cp : can_pass pr h ≡ true = and_right (s.q.calls f h && same_root (s.q.root f) (s.q.root h) && not (is_entry s.q h)) _ ca in
-      let uh = called_user s f h cf in
-      let up = s.chosen.levels.calls f h cf in
-      let top = s.chosen.levels.within h (user_below s h uh) in
-      let rh : s.q.root h ≡ root_of wc.inside = sym ro ∙ fit.root in
-      let lv = fit.level in
-      let lim : s.g.limit (is_inside (s.q.root h)) ≡ s.g.limit wc.inside = ap s.g.limit (ap is_inside rh ∙ inside_root wc.inside) in
-      let lt : nat_lt (length ps) (s.g.limit wc.inside) ≡ true = of_lt _ _ (omega (arith, up, top, lv, lim)) in
-      let ps' = place s f (suc n) ∷ ps in
-      let fit' : Fit s t wc h None (InCall f c ∷ st) [] ps' (opened pr h cm) m = record {
-        inside = fit.inside;
-        control = fit.control;
-        agree = agree_fewer s (is_live f (Some h) (below st)) (is_live h None (below (InCall f c ∷ st))) (opened pr h cm) m (λ x q. or_swap (nat_eq x h) (nat_eq x f) (below st x) q) (agree_opened s f pr h (below st) cm m cp fit.agree);
-        bytes = fit.bytes;
-        passing = tt;
-        chain = (cf, ro, ne, fit.chain);
-        root = rh;
-        level = omega (arith, up, lv);
-        frames = (loops, suc n, refl, next_lands s f u n (syms.Call (targets.Block (names.Copy h))) hs.0 refl, left_to s f loops (n + 1) (suc n) c (omega arith) l, fit.level, fit.frames);
-      } in
-      weaken s v d 1 (s.price (names.Copy f) n + 0) 1 12 (omega arith) (dear s f u n 12 (call_code h) hs refl (omega arith))
-      (word_quiet s t wc calm f ps u n r m (syms.Call (targets.Block (names.Copy h))) (thread s h 0 ps' r) None d 0 0 hs.0 refl refl
-      (call_is wc.inside f n ps r m h lt ∙ ap (λ k. Quiet (thread s h 0 (place s f k ∷ ps) r) None) (omega arith)) (front_lands s h uh)
-      (left_goes s t wc calm h None (InCall f c ∷ st) [] ps' (opened pr h cm) m fit' 0 r (tasks [] (s.q.body h) []) fits (body_left s h uh)))))
+  -- the copy that is called, with its caller below it
+  module _ (f : ℕ) (pr : Option ℕ) (st : List Waiting) (loops : List ℕ) (ps : List Position) (cm : bytes.Memory) (m : Memory) (fit : Fit s t wc f pr st loops ps cm m) (h n : ℕ) (r : Registers) (c : List Task) (hs : Has (block s f) n (call_code h)) (l : Left s f loops (n + 1) c) where
+    user : IsUser s f
+    user = chain_user s f st fit.chain
+
+    abbrev may : Type 0
+    may = may_call s.q f pr h ≡ true
+
+    calls_it : may → s.q.calls f h ≡ true
+    calls_it ca = and_left _ _ (and_left _ _ (and_left _ _ ca))
+
+    roots_same : may → s.q.root f ≡ s.q.root h
+    roots_same ca = same_roots _ _ (and_right (s.q.calls f h) _ (and_left _ _ (and_left _ _ ca)))
+
+    no_entry : may → is_entry s.q h ≡ false
+    no_entry ca = not_false _ (and_right (s.q.calls f h && same_root (s.q.root f) (s.q.root h)) _ (and_left _ _ ca))
+
+    abbrev behind_it : List Position
+    behind_it = place s f (suc n) ∷ ps
+
+    called_fit : may → Fit s t wc h None (InCall f c ∷ st) [] behind_it (opened pr h cm) m
+    called_fit ca =
+        let cf = calls_it ca in
+        let ro = roots_same ca in
+        let cp : can_pass pr h ≡ true = and_right (s.q.calls f h && same_root (s.q.root f) (s.q.root h) && not (is_entry s.q h)) _ ca in
+        let up = s.chosen.levels.calls f h cf in
+        let lv = fit.level in
+        record {
+          inside = fit.inside;
+          control = fit.control;
+          agree = agree_fewer s (is_live f (Some h) (below st)) (is_live h None (below (InCall f c ∷ st))) (opened pr h cm) m (λ x q. or_swap (nat_eq x h) (nat_eq x f) (below st x) q) (agree_opened s f pr h (below st) cm m cp fit.agree);
+          bytes = fit.bytes;
+          passing = tt;
+          chain = (cf, ro, no_entry ca, fit.chain);
+          root = sym ro ∙ fit.root;
+          level = omega (arith, up, lv);
+          frames = (loops, suc n, refl, next_lands s f user n (syms.Call (targets.Block (names.Copy h))) hs.0 refl, left_to s f loops (n + 1) (suc n) c (omega arith) l, fit.level, fit.frames);
+        }
+
+    -- the call, and then what the copy does
+    call_to : may → (d : core.Machine) (lo hi : ℕ) → Went s (at s t (thread s h 0 behind_it r) m wc) d lo hi → Went s (at s t (thread s f n ps r) m wc) d (1 + lo) (3 + hi)
+    call_to ca d lo hi went =
+        let cf = calls_it ca in
+        let uh = called_user s f h cf in
+        let up = s.chosen.levels.calls f h cf in
+        let top = s.chosen.levels.within h (user_below s h uh) in
+        let rh : s.q.root h ≡ root_of wc.inside = sym (roots_same ca) ∙ fit.root in
+        let lv = fit.level in
+        let lim : s.g.limit (is_inside (s.q.root h)) ≡ s.g.limit wc.inside = ap s.g.limit (ap is_inside rh ∙ inside_root wc.inside) in
+        let lt : nat_lt (length ps) (s.g.limit wc.inside) ≡ true = of_lt _ _ (omega (arith, up, top, lv, lim)) in
+        let dr = dear s f user n 3 (call_code h) hs refl (omega arith) in
+        weaken s (at s t (thread s f n ps r) m wc) d (1 + lo) (s.price (names.Copy f) n + hi) (1 + lo) (3 + hi) (omega arith) (omega (arith, dr))
+        (word_quiet s t wc calm f ps user n r m (syms.Call (targets.Block (names.Copy h))) (thread s h 0 behind_it r) None d lo hi hs.0 refl refl
+        (call_is wc.inside f n ps r m h lt ∙ ap (λ k. Quiet (thread s h 0 (place s f k ∷ ps) r) None) (omega arith)) (front_lands s h uh) went)
+
+    pub call_goes : Fits r → After s (least_call (s.q.reads h)) 12 (core.call s.q h c f pr st cm wc) (at s t (thread s f n ps r) m wc)
+    call_goes fits = by (s.q.reads h) refl
+      where
+        v : Machine
+        v = at s t (thread s f n ps r) m wc
+
+        by : (o : Option (List ℕ)) → s.q.reads h ≡ o → After s (least_call o) 12 (core.when (may_call s.q f pr h) (core.called s.q o h (InCall f c ∷ st) (opened pr h cm) wc)) v
+        by None e =
+            let d = machine h None (tasks [] (s.q.body h) []) (InCall f c ∷ st) (opened pr h cm) wc in
+            when_after s 1 12 (may_call s.q f pr h) (core.Goes d) v (λ ca.
+            weaken s v d 1 3 1 12 (omega arith) (omega arith)
+            (call_to ca d 0 0
+            (left_goes s t wc calm h None (InCall f c ∷ st) [] behind_it (opened pr h cm) m (called_fit ca) 0 r (tasks [] (s.q.body h) []) fits (body_left s h (called_user s f h (calls_it ca)) e))))
+        by (Some list) e =
+            let d = machine h None (Reading list ∷ Do [] Leave ∷ []) (InCall f c ∷ st) (core.with_index s.q h (opened pr h cm)) wc in
+            when_after s 3 12 (may_call s.q f pr h) (core.Goes d) v (λ ca.
+            weaken s v d 3 11 3 12 (omega arith) (omega arith)
+            (call_to ca d 2 8 (index_goes s t wc calm h None (InCall f c ∷ st) behind_it (opened pr h cm) m (called_fit ca) list e r fits)))
 
   -- ---- ends
   halt_is : (f n : ℕ) (r : Registers) (m : Memory) → effect_of s.g false (position (names.Copy f) n) (thread s f n [] r) m (syms.Goto (targets.Label labels.Halt)) ≡ Ends (record (thread s f n [] r) { at = None })

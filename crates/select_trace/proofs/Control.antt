@@ -179,7 +179,7 @@ here_left s f loops n ps r (PutBit a b ∷ c) l = absurd l
 here_left s f loops n ps r (PutBack a b ∷ c) l = absurd l
 here_left s f loops n ps r (LoadFrom a b d e ∷ c) l = absurd l
 here_left s f loops n ps r (StoreTo a b d e ∷ c) l = absurd l
-here_left s f loops n ps r (Reading a ∷ c) l = absurd l
+here_left s f loops n ps r (Reading a ∷ c) l = (n, refl, refl, l)
 here_left s f loops n ps r (Over ∷ c) l = absurd l
 
 pub here_soon : (s : Site) (f : ℕ) (loops : List ℕ) (n : ℕ) (ps : List Position) (r : Registers) (c : List Task) → Soon s f loops r n c → Here s f loops (thread s f n ps r) c
@@ -191,7 +191,7 @@ here_soon s f loops n ps r (StoreTo a b d e ∷ c) l = (n, refl, refl, l)
 here_soon s f loops n ps r (Put a b ∷ c) l = absurd l
 here_soon s f loops n ps r (PutBit a b ∷ c) l = absurd l
 here_soon s f loops n ps r (PutBack a b ∷ c) l = absurd l
-here_soon s f loops n ps r (Reading a ∷ c) l = absurd l
+here_soon s f loops n ps r (Reading a ∷ c) l = (n, refl, refl, l)
 here_soon s f loops n ps r (Over ∷ c) l = absurd l
 
 -- operations one behind the other

@@ -1,5 +1,5 @@
 -- A step of byte code, from any states that stand together.
-use Rattle.std.proofs.Common.{◌≡◌, inl, inr, ℕ, zero, suc, ◌+◌, ◌/◌, ◌%◌, ◌<◌, ◌≤◌, Bool, true, false, nat_lt, if◌then◌else◌, List, [], ◌∷◌, length, Option, Some, None, refl, sym, ap, ◌∙◌, subst, arith}
+use Rattle.std.proofs.Common.{◌≡◌, inl, inr, ℕ, zero, suc, ◌+◌, ◌/◌, ◌%◌, ◌<◌, ◌≤◌, Bool, true, false, nat_eq, nat_lt, if◌then◌else◌, List, [], ◌∷◌, length, Option, Some, None, refl, sym, ap, ◌∙◌, subst, arith}
 use Rattle.std.proofs.lemmas.Nat.{or_lt}
 use Rattle.pic_world.specs.Control as control
 use Rattle.pic_world.specs.Control.{raised_by}
@@ -11,9 +11,10 @@ use Rattle.core_code.specs.Bytes as bytes
 use Rattle.core_code.specs.Bytes.{Held, Number, without_frame}
 use Rattle.core_code.specs.Cost.{one_if, is_kept, load_cost, cost_of, leaving, least_of, task_most, least_task, step_most, step_least, context_cost}
 use Rattle.core_code.specs.Machine as core
-use Rattle.core_code.specs.Machine.{Task, Do, Put, PutBit, PutBack, Join, LoadFrom, StoreTo, Reading, Over, Waiting, InHandler, tasks, operate, act, may_interrupt, core_step, put}
+use Rattle.core_code.specs.Machine.{Task, Do, Put, PutBit, PutBack, Join, LoadFrom, StoreTo, Reading, Over, Waiting, InHandler, tasks, operate, act, may_interrupt, is_copy, core_step, put}
 use Rattle.core_code.specs.Tree.{Tree, Set, Address, Copy, Load, Store, Unary, Binary, Convert, BitRead, BitWrite, Call, Leave, Many, If, Loop, Exit, Again}
-use Rattle.core_code.specs.declared.code.Byte.TheVariants.{Device}
+use Rattle.core_code.specs.Values.{number_in}
+use Rattle.core_code.specs.declared.code.Byte.TheVariants.{Device, Result}
 use Rattle.sym_code.specs.Cost.{Prices, sure_prices, most_prices, thread_cost, step_cost, step_cost_at}
 use Rattle.sym_code.specs.Effect.{Thread, Memory, Port, Rests, effect, effect_rest, effect_at, root_of}
 use Rattle.sym_code.specs.Layout.{shown}
@@ -24,7 +25,7 @@ use Rattle.sym_code.specs.Registers.{Registers, Fits}
 use Rattle.sym_code.specs.declared.code.BlockName.TheVariants as names
 use Rattle.select_wide.specs.Direct.{is_open}
 use Rattle.select_wide.specs.Links.{sets_bytes, ReachesLent}
-use Rattle.select_trace.proofs.Truths.{true_false, and_left, and_right, if_true, if_false}
+use Rattle.select_trace.proofs.Truths.{true_false, and_left, and_right, or_right, if_true, if_false, nat_same}
 use Rattle.select_trace.proofs.Placed.{same_roots}
 use Rattle.select_trace.proofs.Sites.{Site, layout, show, core_of}
 use Rattle.select_trace.proofs.Machines.{at, lower, Calm, inside_as, at_running, rests_still}
@@ -35,6 +36,7 @@ use Rattle.select_trace.proofs.Relation.{place, Left, FallsIn, Here, Frames, Are
 use Rattle.select_trace.proofs.Steps.{thread, machine, Fit}
 use Rattle.select_trace.proofs.Control.{here_left, join_goes, when_after}
 use Rattle.select_trace.proofs.Loops.{end_goes, falls_exit, falls_many}
+use Rattle.select_trace.proofs.TableReads.{reading_goes}
 use Rattle.select_trace.proofs.Calls.{body_left}
 use Rattle.select_trace.proofs.Bytes.{put_goes}
 use Rattle.select_trace.proofs.Bits.{put_bit_goes, put_back_goes}
@@ -114,7 +116,8 @@ module _ (s : Site) (values : ValuesGo s) where
         subst (λ (y : Thread). After s (one_if (nat_lt 0 k)) (load_cost object) (core.load_from (core_of s) to object offset k c f pr st cm wc) (at s t y m wc)) (same_thread th h.0 h.1 h.2 e) (load_from_goes s t wc calm f pr st loops ps cm m fit to object offset k h.0 th.registers c fits h.3 (lent.loads to object offset k c refl))
     task_goes loops th (StoreTo object offset from k ∷ c) known lent e fits fit h =
         subst (λ (y : Thread). After s (one_if (nat_lt 0 k)) 6 (core.store_to (core_of s) object offset from k c f pr st cm wc) (at s t y m wc)) (same_thread th h.0 h.1 h.2 e) (store_to_goes s t wc calm f pr st loops ps cm m fit object offset from k h.0 th.registers c fits h.3 (lent.stores object offset from k c refl))
-    task_goes loops th (Reading table ∷ c) known lent e fits fit h = absurd h
+    task_goes loops th (Reading list ∷ c) known lent e fits fit h =
+        subst (λ (y : Thread). After s 1 16 (core.has_read s.q (core.looked_up list (number_in cm (Result (s.q.root f) 0) 2)) c f pr st cm wc) (at s t y m wc)) (same_thread th h.0 h.1 h.2 e) (reading_goes s t wc calm f pr st loops ps cm m fit list h.0 th.registers c fits h.3)
     task_goes loops th (Over ∷ c) known lent e fits fit h =
         (rests_still s t wc calm th m (over_is th h.1 h.2 (over_outside loops fit h.0)), refl)
 
@@ -221,6 +224,9 @@ module _ (s : Site) (values : ValuesGo s) where
   unfolding step_cost
   enter_cost c t q = if_true (is_due (arrived s.o t.world)) c.enter (thread_cost s.g c (arrived s.o t.world).inside (running (settled s.o t)) t.memory (running (settled s.o t)).rest) q
 
+  is_handler : {o : Option ℕ} {h : ℕ} → Some h ≡ o → is_copy o h ≡ true
+  is_handler {o} {h} e = subst (λ x. is_copy x h ≡ true) e (nat_same h h refl)
+
   enter_goes : (d : core.Machine) (t : Machine) (o : Option ℕ) → s.q.handler ≡ o → Stands s d t → is_due (arrived s.o d.world) ≡ true
       → After s 1 100 (core.enter s.q o d.code d.copy d.passing d.stack d.memory (arrived s.o d.world)) t
   enter_goes d t None eq st due = tt
@@ -262,7 +268,7 @@ module _ (s : Site) (values : ValuesGo s) where
           root = rh ∙ ap root_of (sym (entered_inside wc));
           level = subst (λ (x : Thread). length x.stack ≤ s.chosen.level h) (sym ru) (omega arith);
           registers = subst (λ (x : Thread). Fits x.registers) (sym ru) (s.entries t.entries);
-          here = subst (λ (x : Thread). Here s h [] x (tasks [] (s.q.body h) [])) (sym ru) (here_left s h [] 0 [] r (tasks [] (s.q.body h) []) (body_left s h uh));
+          here = subst (λ (x : Thread). Here s h [] x (tasks [] (s.q.body h) [])) (sym ru) (here_left s h [] 0 [] r (tasks [] (s.q.body h) []) (body_left s h uh (s.chosen.entries h (or_right (nat_eq h 0) _ (is_handler (sym eq))))));
           frames = subst (λ l. Frames s h (InHandler d.copy d.passing d.code ∷ d.stack) [] (running u).stack l) (sym lu)
               (subst (λ (x : Thread). Frames s h (InHandler d.copy d.passing d.code ∷ d.stack) [] x.stack (Some t.main)) (sym ru) (
                 st.loops,

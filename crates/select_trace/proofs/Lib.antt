@@ -20,9 +20,10 @@ pub mod Testing
 pub mod Prices
 pub mod Control
 pub mod Loops
-pub mod Calls
 pub mod Stores
 pub mod Bytes
+pub mod TableReads
+pub mod Calls
 pub mod Bits
 pub mod Quiet
 pub mod Values
@@ -109,3 +110,4 @@ pub mod Objects
 pub mod Two
 pub mod Exact
 pub mod Whole
+pub mod Example

@@ -157,7 +157,7 @@ module _ (s : Site) (values : ValuesGo s) (t : Machine) (wc : World Held) (calm 
       (convert_goes from to place n r c fits h l)
   operate_goes before (BitRead to a number) n r c known fits sb h l = bit_read_goes s t wc calm f pr st loops ps cm m fit to a number n r c fits h l
   operate_goes before (BitWrite a number from) n r c known fits sb h l = bit_write_goes s t wc calm f pr st loops ps cm m fit a number from n r c fits h l
-  operate_goes before (Call h') n r c known fits sb h l = call_goes s t wc calm f pr st loops ps cm m fit h' n r c fits h l
+  operate_goes before (Call h') n r c known fits sb h l = call_goes s t wc calm f pr st loops ps cm m fit h' n r c h l fits
   operate_goes before Leave n r c known fits sb h l = leave_goes s t wc calm f pr st loops ps cm m (lower t) n r refl fits fit.inside fit.control fit.agree fit.bytes fit.chain fit.root fit.frames h
   operate_goes before (Many ts) n r c known fits sb h l = many_goes s t wc calm f pr st loops ps cm m fit ts n r c fits sb h l
   operate_goes before (If test size yea nay) n r c known fits sb h l =

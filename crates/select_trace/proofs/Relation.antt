@@ -26,6 +26,7 @@ use Rattle.select_code.specs.Pieces.{first_label, second_label}
 use Rattle.select_code.specs.Selected.{short_list}
 use Rattle.select_wide.specs.Direct.{is_open}
 use Rattle.select_wide.specs.Links.{sets_bytes}
+use Rattle.select_wide.specs.Readers.{read_place}
 use Rattle.select_wide.specs.Pointers.{load_byte_code, store_byte_code}
 use Rattle.select_trace.proofs.Standing.{Has}
 use Rattle.select_trace.proofs.Sites.{Site, layout, show}
@@ -70,7 +71,7 @@ Left s f loops n (PutBit to value ∷ c) = ⊥
 Left s f loops n (PutBack register value ∷ c) = ⊥
 Left s f loops n (LoadFrom to object offset k ∷ c) = ⊥
 Left s f loops n (StoreTo object offset from k ∷ c) = ⊥
-Left s f loops n (Reading bytes ∷ c) = ⊥
+Left s f loops n (Reading bytes ∷ c) = (s.q.reads f ≡ Some bytes) × (n ≡ read_place) × Left s f loops (n + 2) c
 Left s f loops n (Over ∷ c) = ⊥
 
 -- ---- pointers
@@ -109,7 +110,7 @@ Soon s f loops r n (StoreTo object offset from k ∷ c) = Storing s f loops r n 
 Soon s f loops r n (Put to held ∷ c) = ⊥
 Soon s f loops r n (PutBit to value ∷ c) = ⊥
 Soon s f loops r n (PutBack register value ∷ c) = ⊥
-Soon s f loops r n (Reading bytes ∷ c) = ⊥
+Soon s f loops r n (Reading bytes ∷ c) = Left s f loops n (Reading bytes ∷ c)
 Soon s f loops r n (Over ∷ c) = ⊥
 
 -- the byte in W is written
@@ -132,13 +133,12 @@ Now s f loops r n (Join ∷ c) = Soon s f loops r n (Join ∷ c)
 Now s f loops r n (LoadFrom to object offset k ∷ c) = Soon s f loops r n (LoadFrom to object offset k ∷ c)
 Now s f loops r n (StoreTo object offset from k ∷ c) = Soon s f loops r n (StoreTo object offset from k ∷ c)
 Now s f loops r n (PutBack register value ∷ c) = ⊥
-Now s f loops r n (Reading bytes ∷ c) = ⊥
+Now s f loops r n (Reading bytes ∷ c) = Soon s f loops r n (Reading bytes ∷ c)
 Now s f loops r n (Over ∷ c) = ⊥
 
 -- A thread is where these tasks are left to do.
 abbrev pub Here : Site → ℕ → List ℕ → Thread → List Task → Type 0
--- no copy reads a table
-Here s f loops th (Reading bytes ∷ c) = ⊥
+Here s f loops th (Reading bytes ∷ c) = (n : ℕ) × (th.rest ≡ None) × (th.at ≡ Some (place s f n)) × Now s f loops th.registers n (Reading bytes ∷ c)
 Here s f loops th (Over ∷ c) = (f ≡ 0) × (th.rest ≡ None) × (th.at ≡ None)
 Here s f loops th (PutBack register value ∷ c) = (n : ℕ) × (value < 256) × (th.rest ≡ Some (record { to = Port register; byte = value })) × (th.at ≡ Some (place s f n)) × (lands s.g.program (place s f n) ≡ true) × Left s f loops n c
 Here s f loops th [] = (n : ℕ) × (th.rest ≡ None) × (th.at ≡ Some (place s f n)) × Now s f loops th.registers n []

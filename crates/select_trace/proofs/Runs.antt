@@ -307,7 +307,7 @@ starts_stand s r m b = record {
   root = main_root s;
   level = omega arith;
   registers = b.registers;
-  here = here_left s 0 [] 0 [] r (tasks [] (s.q.body 0) []) (body_left s 0 (main_user s));
+  here = here_left s 0 [] 0 [] r (tasks [] (s.q.body 0) []) (body_left s 0 (main_user s) (s.chosen.entries 0 refl));
   frames = tt;
 }
 

@@ -4,21 +4,21 @@ use Rattle.std.proofs.lemmas.List.{take_more, append-nil, length-take, at_drop_m
 use Rattle.call_graph.specs.declared.types.FnCopy.{FnCopy}
 use Rattle.core_code.specs.declared.code.Body.{Body}
 use Rattle.sym_code.specs.declared.code.SymBlock.{SymBlock}
-use Rattle.select_wide.specs.Blocks.{body_at, block_at, blocks_from, views_of}
+use Rattle.select_wide.specs.Blocks.{body_at, block_with, blocks_with, views_of}
 
-blocks_more : (bodies : List Body) (list : List FnCopy) (n m : ℕ) (xs : List FnCopy) (x : FnCopy) → m ≡ n + length xs → blocks_from bodies list n (xs ++ x ∷ []) ≡ blocks_from bodies list n xs ++ block_at bodies list m x
-blocks_more bodies list n m [] x e = let z : n ≡ m = omega arith in append-nil (block_at bodies list n x) ∙ ap (λ k. block_at bodies list k x) z
-blocks_more bodies list n m (y ∷ xs) x e = let z : m ≡ n + 1 + length xs = omega arith in ap (λ l. block_at bodies list n y ++ l) (blocks_more bodies list (n + 1) m xs x z) ∙ sym (append_assoc (block_at bodies list n y) (blocks_from bodies list (n + 1) xs) (block_at bodies list m x))
+blocks_more : (readers : List (Option ℕ)) (bodies : List Body) (list : List FnCopy) (n m : ℕ) (xs : List FnCopy) (x : FnCopy) → m ≡ n + length xs → blocks_with readers bodies list n (xs ++ x ∷ []) ≡ blocks_with readers bodies list n xs ++ block_with readers bodies list m x
+blocks_more readers bodies list n m [] x e = let z : n ≡ m = omega arith in append-nil (block_with readers bodies list n x) ∙ ap (λ k. block_with readers bodies list k x) z
+blocks_more readers bodies list n m (y ∷ xs) x e = let z : m ≡ n + 1 + length xs = omega arith in ap (λ l. block_with readers bodies list n y ++ l) (blocks_more readers bodies list (n + 1) m xs x z) ∙ sym (append_assoc (block_with readers bodies list n y) (blocks_with readers bodies list (n + 1) xs) (block_with readers bodies list m x))
 
-blocks_taken : (bodies : List Body) (list : List FnCopy) (xs : List FnCopy) (i : ℕ) (d : FnCopy) → i < length xs → blocks_from bodies list 0 (take (i + 1) xs) ≡ blocks_from bodies list 0 (take i xs) ++ block_at bodies list i (get_or xs i d)
-blocks_taken bodies list xs i d lt =
+blocks_taken : (readers : List (Option ℕ)) (bodies : List Body) (list : List FnCopy) (xs : List FnCopy) (i : ℕ) (d : FnCopy) → i < length xs → blocks_with readers bodies list 0 (take (i + 1) xs) ≡ blocks_with readers bodies list 0 (take i xs) ++ block_with readers bodies list i (get_or xs i d)
+blocks_taken readers bodies list xs i d lt =
     let n : length (take i xs) ≡ i = omega (arith, length-take i xs) in
     let z : i ≡ 0 + length (take i xs) = omega arith in
-    ap (blocks_from bodies list 0) (take_more xs i d lt) ∙ blocks_more bodies list 0 i (take i xs) (get_or xs i d) z
+    ap (blocks_with readers bodies list 0) (take_more xs i d lt) ∙ blocks_more readers bodies list 0 i (take i xs) (get_or xs i d) z
 
 -- one copy more
-pub blocks_step : (bodies : List Body) (list : List FnCopy) (xs : List FnCopy) (i : ℕ) (d : FnCopy) (old new : List SymBlock) → i < length xs → views_of old ≡ blocks_from bodies list 0 (take i xs) → views_of new ≡ views_of old ++ block_at bodies list i (get_or xs i d) → views_of new ≡ blocks_from bodies list 0 (take (i + 1) xs)
-blocks_step bodies list xs i d old new lt before put = put ∙ ap (λ l. l ++ block_at bodies list i (get_or xs i d)) before ∙ sym (blocks_taken bodies list xs i d lt)
+pub blocks_step : (readers : List (Option ℕ)) (bodies : List Body) (list : List FnCopy) (xs : List FnCopy) (i : ℕ) (d : FnCopy) (old new : List SymBlock) → i < length xs → views_of old ≡ blocks_with readers bodies list 0 (take i xs) → views_of new ≡ views_of old ++ block_with readers bodies list i (get_or xs i d) → views_of new ≡ blocks_with readers bodies list 0 (take (i + 1) xs)
+blocks_step readers bodies list xs i d old new lt before put = put ∙ ap (λ l. l ++ block_with readers bodies list i (get_or xs i d)) before ∙ sym (blocks_taken readers bodies list xs i d lt)
 
 -- one block more
 pub views_put : (bs : List SymBlock) (b : SymBlock) → views_of (bs ++ b ∷ []) ≡ views_of bs ++ (b.name, b.list.items) ∷ []

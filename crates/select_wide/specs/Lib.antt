@@ -7,6 +7,7 @@ pub mod Moves
 pub mod Shifts
 pub mod Calls
 pub mod Selection
+pub mod Readers
 pub mod Blocks
 pub mod Direct
 pub mod Links

@@ -13,7 +13,7 @@ use Rattle.c_typed.specs.declared.calls.Helper.{Helper}
 use Rattle.call_graph.specs.Numbers.{handler_at, copy_of}
 use Rattle.call_graph.specs.declared.types.FnCopy.{FnCopy}
 use Rattle.core_code.specs.Bytes.{Object, Held, Unset, Number, Part, Fixed, FrameOf}
-use Rattle.core_code.specs.Machine.{Program, Task, LoadFrom, StoreTo, core_moment}
+use Rattle.core_code.specs.Machine.{Program, Task, LoadFrom, StoreTo, is_entry, core_moment}
 use Rattle.core_code.specs.Runs as core
 use Rattle.core_code.specs.Tree as trees
 use Rattle.core_code.specs.Tree.{Tree, Trees, Leave, trees_of}
@@ -41,6 +41,7 @@ use Rattle.math_helpers.specs.Routines.{helper_code}
 use Rattle.math_helpers.specs.Shape.{frame_size, is_straight, sum_from, ArePriced}
 use Rattle.select_wide.specs.Blocks.{is_user, body_at, code_by}
 use Rattle.select_wide.specs.Direct.{is_open}
+use Rattle.select_wide.specs.Readers.{reader_code, read_place}
 
 -- ---- what is given
 -- a number fits into a byte, and a pointer points into an object that is there, or just past its end
@@ -63,7 +64,7 @@ abbrev mutual
   all_set_bytes trees.NoTree = true
   all_set_bytes (trees.AndTree part parts) = sets_bytes part && all_set_bytes parts
 
--- The body of a copy that is no helper: it is that of its number, and ends by leaving.
+-- The body of a copy that is no helper and reads no table: it is that of its number, and ends by leaving.
 pub record IsBody (q : Program) (bodies : List Body) (c : ℕ) : Type 0 where
   pub body : Body
   pub there : body_at bodies c ≡ Some body
@@ -72,6 +73,23 @@ pub record IsBody (q : Program) (bodies : List Body) (c : ℕ) : Type 0 where
   pub front : List Tree
   pub leaves : q.body c ≡ front ++ Leave ∷ []
   pub bytes : all_set_bytes (trees_of (q.body c)) ≡ true
+
+abbrev pub is_inside : Root → Bool
+is_inside Main = false
+is_inside Isr = true
+
+-- A copy that reads a table of these bytes, in the place of a body: the block that does it, with what the read costs together with the
+-- selects of its page. Its first two parameter bytes are the index. The words that read are called, so behind so many calls there is
+-- room for one more on the return stack.
+pub record IsReader (q : Program) (g : Setting) (price : ℕ → ℕ) (level c : ℕ) (table_bytes : List ℕ) : Type 0 where
+  pub table : ℕ
+  pub block : g.program.block (Copy c) ≡ reader_code c (q.root c) table
+  pub there : g.program.tables table ≡ Some table_bytes
+  pub small : All (λ byte. byte < 256) table_bytes
+  pub index : 2 ≤ q.variable_bytes c
+  pub in_frame : 2 ≤ q.frame_bytes c
+  pub room : level < g.limit (is_inside (q.root c))
+  pub cost : price read_place ≤ 14
 
 -- ---- prices
 -- a byte of this frame, of so many bytes, or one that stands in every bank
@@ -106,10 +124,6 @@ pub record AreDear (l : DataLayout) (price : ℕ → ℕ) (list : List Sym) : Ty
   pub near : (n : ℕ) (part : List Sym) → take (length part) (drop n list) ≡ part → is_straight part ≡ true → (c : ℕ) → AreNear c (frame l c).size part
       → sum_from price n part ≤ length part + 2
 
-abbrev pub is_inside : Root → Bool
-is_inside Main = false
-is_inside Isr = true
-
 -- Calls go up by levels, and so few of them wait at a time as the limit says.
 pub record HasLevels (q : Program) (copies : List FnCopy) (limit : Bool → ℕ) (level : ℕ → ℕ) : Type 0 where
   pub calls : (c d : ℕ) → q.calls c d ≡ true → level c < level d
@@ -119,8 +133,8 @@ pub record HasLevels (q : Program) (copies : List FnCopy) (limit : Bool → ℕ)
 -- ---- a program of symbolic code that was selected for one of byte code
 pub record IsSelected (q : Program) (copies : List FnCopy) (bodies : List Body) (reaches : ℕ → ℕ → Bool) (g : Setting) (price sure : BlockName → ℕ → ℕ) : Type 0 where
   -- each body has its block, and each helper its routine
-  pub bodies_there : (c : ℕ) (copy : FnCopy) → slice_get copies c ≡ Some copy → is_user copy.function ≡ true → IsBody q bodies c
-  pub blocks : (c : ℕ) (copy : FnCopy) → slice_get copies c ≡ Some copy → is_user copy.function ≡ true → g.program.block (Copy c) ≡ code_by copies c (body_at bodies c)
+  pub bodies_there : (c : ℕ) (copy : FnCopy) → slice_get copies c ≡ Some copy → is_user copy.function ≡ true → q.reads c ≡ None → IsBody q bodies c
+  pub blocks : (c : ℕ) (copy : FnCopy) → slice_get copies c ≡ Some copy → is_user copy.function ≡ true → q.reads c ≡ None → g.program.block (Copy c) ≡ code_by copies c (body_at bodies c)
   pub routines : (c : ℕ) (copy : FnCopy) (h : Helper) → slice_get copies c ≡ Some copy → copy.function ≡ callee.Helper h → g.program.block (Copy c) ≡ helper_code h copy.root c
   pub roots : (c : ℕ) (copy : FnCopy) → slice_get copies c ≡ Some copy → q.root c ≡ copy.root
   -- main's copy is the first; what is called is a function's copy, each helper that is used has one, and the handler is a function
@@ -129,8 +143,8 @@ pub record IsSelected (q : Program) (copies : List FnCopy) (bodies : List Body) 
   pub routine_there : (c : ℕ) (op : BinOp) (ty : IntTy) (h : Helper) → q.helped c op ty ≡ true → int_helper op false ty ≡ Some h → (d : ℕ) × (copy_of copies (q.root c) h ≡ Some d)
   pub handler_there : (c : ℕ) (copy : FnCopy) → handler_at copies ≡ Some c → slice_get copies c ≡ Some copy → is_user copy.function ≡ true
   pub handler : q.handler ≡ handler_at copies
-  -- each copy has a body: no code is selected for the read of a table
-  pub no_tables : (c : ℕ) → q.reads c ≡ None
+  -- main and the handler have bodies
+  pub entries : (c : ℕ) → is_entry q c ≡ true → q.reads c ≡ None
   pub same_handler : g.program.handler ≡ q.handler
   pub no_selects : g.banked ≡ false
   -- the first bytes
@@ -145,6 +159,8 @@ pub record IsSelected (q : Program) (copies : List FnCopy) (bodies : List Body) 
   -- the return stack suffices
   pub level : ℕ → ℕ
   pub levels : HasLevels q copies g.limit level
+  -- each copy that reads a table has the block that does it
+  pub readers : (c : ℕ) (copy : FnCopy) → slice_get copies c ≡ Some copy → is_user copy.function ≡ true → (table_bytes : List ℕ) → q.reads c ≡ Some table_bytes → IsReader q g (price (Copy c)) (level c) c table_bytes
   -- what instructions cost
   pub prices : (c : ℕ) (copy : FnCopy) → slice_get copies c ≡ Some copy → is_user copy.function ≡ true → AreDear g.program.layout (price (Copy c)) (g.program.block (Copy c))
   pub routine_prices : (c : ℕ) (copy : FnCopy) (h : Helper) → slice_get copies c ≡ Some copy → copy.function ≡ callee.Helper h → ArePriced (price (Copy c)) (helper_code h copy.root c)

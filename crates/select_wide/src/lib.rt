@@ -1,7 +1,8 @@
 //! Instruction selection for all core code.
 //!
-//! In: the bodies of a program's function copies, and the copies. Out: a block of symbolic instructions for each copy that
-//! is no helper. Control and operations on single bytes are those of the crate below; here is what has several bytes.
+//! In: the bodies of a program's function copies, the copies, and which of them read tables in program memory. Out: a block of
+//! symbolic instructions for each copy that is no helper. Control and operations on single bytes are those of the crate below;
+//! here is what has several bytes, and the block of a copy that reads a table.
 //! The promise: each operation appends the list that the definitions in specs/ give for it.
 //!
 //! Words at most, with the selects of banks and pages, for values of 2 and of 4 bytes:
@@ -16,6 +17,7 @@
 //!   load, store                             12, 18
 //!   widening by 1, 2, 3 bytes                6, 7, 8
 //!   address of a byte                        6
+//!   block of a copy that reads a table      13
 #![tactic(auto)]
 
 mod calls;
@@ -24,9 +26,10 @@ mod moves;
 mod operands;
 mod pieces;
 mod pointers;
+mod readers;
 mod selection;
 mod shifts;
 mod single;
 mod sums;
 
-pub use selection::{handler_at, select};
+pub use selection::{handler_at, select, select_with_tables};

@@ -5,9 +5,10 @@ ghost use Rattle.c_ints.specs.Range.{bytes_of};
 ghost use Rattle.core_code.specs.View.{tree_of, trees_in};
 ghost use Rattle.sym_code.specs.declared.code.BlockName.TheVariants.{Copy};
 ghost use Rattle.call_graph.specs.Numbers.{handler_at};
-ghost use Rattle.select_wide.specs.Blocks.{is_user, body_at, is_number, ending_at, block_code, code_by, block_at, blocks_from, views_of};
+ghost use Rattle.select_wide.specs.Blocks.{is_user, body_at, is_number, ending_at, block_code, code_by, code_with, block_with, blocks_with, blocks_from, views_of};
 ghost use Rattle.select_wide.specs.Calls.{helped_code};
 ghost use Rattle.core_code.specs.Operands.{number_behind, number_left};
+ghost use Rattle.select_wide.specs.Readers.{table_at};
 ghost use Rattle.select_wide.specs.Selection.{way_of, shifted_code, binary_code, wide_code};
 
 use crate::calls::{copy_of, put_copy_call};
@@ -15,6 +16,7 @@ use crate::comparisons::{put_equality, put_order};
 use crate::moves::{is_same, is_same_root};
 use crate::operands::{Operands, Way};
 use crate::pointers::{put_address, put_load, put_store_all};
+use crate::readers::{reader_of, table_at};
 use crate::shifts::put_shift;
 use crate::single::{is_signed, put_unary, put_widening};
 use crate::sums::{put_bits, put_difference, put_sum};
@@ -279,22 +281,41 @@ fn is_user(function: FnId) -> bool
     }
 }
 
-// The block of the copy with this number. Where there is no body it has no instructions.
-fn make_block(
+// The code of the copy with this number from its body. Where there is no body it has no instructions.
+fn body_block(
     alloc: Global,
     bodies: &[Body],
     list: &[FnCopy],
+    copy: u16,
+) -> Result<SymBlock, AllocError>
+    requires { length list.now ≤ 65536 }
+    ensures name { IfOk result (λ block. block.name ≡ Copy copy) }
+    ensures code { IfOk result (λ block. block.list.items ≡ code_by list.now copy (body_at bodies.now copy)) }
+{
+    match body_of(bodies, copy) {
+        Some(body) => block_of(alloc, copy, body, list),
+        None => Ok(SymBlock::new(alloc, BlockName::Copy(copy))),
+    }
+}
+
+// The block of the copy with this number, which reads a table, or has a body.
+fn make_block(
+    alloc: Global,
+    table: Option<u16>,
+    bodies: &[Body],
+    list: &[FnCopy],
     number: usize,
+    root: Root,
 ) -> Result<SymBlock, AllocError>
     requires copies { length list.now ≤ 65536 }
     requires number { number < 65536 }
     ensures name { IfOk result (λ block. block.name ≡ Copy number) }
-    ensures code { IfOk result (λ block. block.list.items ≡ code_by list.now number (body_at bodies.now number)) }
+    ensures code { IfOk result (λ block. block.list.items ≡ code_with bodies.now list.now number root table) }
 {
     let copy = number as u16;
-    match body_of(bodies, copy) {
-        Some(body) => block_of(alloc, copy, body, list),
-        None => Ok(SymBlock::new(alloc, BlockName::Copy(copy))),
+    match table {
+        Some(table) => reader_of(alloc, copy, root, table),
+        None => body_block(alloc, bodies, list, copy),
     }
 }
 
@@ -302,6 +323,7 @@ fn make_block(
 #[tactic(auto, using(crate::proofs::Blocks::views_put))]
 fn put_block(
     alloc: Global,
+    readers: &[Option<u16>],
     bodies: &[Body],
     list: &[FnCopy],
     number: usize,
@@ -310,33 +332,62 @@ fn put_block(
 ) -> Result<(), AllocError>
     requires copies { length list.now ≤ 65536 }
     requires number { number < 65536 }
-    ensures { OnOk result (views_of blocks.new.items ≡ views_of blocks.old.items ++ block_at bodies.now list.now number copy) }
+    ensures { OnOk result (views_of blocks.new.items ≡ views_of blocks.old.items ++ block_with readers.now bodies.now list.now number copy) }
 {
     if is_user(copy.function) {
-        blocks.push(make_block(alloc, bodies, list, number)?)?;
+        let table = table_at(readers, number);
+        blocks.push(make_block(alloc, table, bodies, list, number, copy.root)?)?;
     }
     Ok(())
 }
 
-fn blocks_of(alloc: Global, bodies: &[Body], list: &[FnCopy]) -> Result<Vec<SymBlock>, AllocError>
+fn blocks_of(
+    alloc: Global,
+    readers: &[Option<u16>],
+    bodies: &[Body],
+    list: &[FnCopy],
+) -> Result<Vec<SymBlock>, AllocError>
     requires { length list.now ≤ 65536 }
-    ensures { IfOk result (λ blocks. views_of blocks.items ≡ blocks_from bodies.now list.now 0 list.now) }
+    ensures { IfOk result (λ blocks. views_of blocks.items ≡ blocks_with readers.now bodies.now list.now 0 list.now) }
 {
     let mut blocks = Vec::new(alloc);
     for number in 0..list.len() {
-        put_block(alloc, bodies, list, number, list[number], &mut blocks)?;
+        put_block(
+            alloc,
+            readers,
+            bodies,
+            list,
+            number,
+            list[number],
+            &mut blocks,
+        )?;
     }
     Ok(blocks)
 }
 
-/// The blocks of all copies that are no helpers, in the order of the copies, each from the body with its number. The
-/// copies are those of the program: each copy that is no helper has a body, and each operation for a helper has that
-/// helper's copy under the root of its body. For what is missing there is no instruction.
+/// The blocks of all copies that are no helpers, in the order of the copies. A copy for which `readers` has a table reads a byte of
+/// it, under its root: its first two parameter bytes are the index. Each other one has the code of the body with its number; the last
+/// entries of `readers` may be missing. The copies are those of the program: each copy that is no helper and reads no table has a body,
+/// and each operation for a helper has that helper's copy under the root of its body. For what is missing there is no instruction.
+pub fn select_with_tables(
+    alloc: Global,
+    p: &CoreProgram,
+    copies: &Copies,
+    readers: &[Option<u16>],
+) -> Result<SymProgram, AllocError>
+    // The name of a block has room for the number of each copy.
+    requires { length copies.now.list.items ≤ 65536 }
+    ensures blocks { IfOk result (λ code. views_of code.blocks.items ≡ blocks_with readers.now p.now.bodies.items copies.now.list.items 0 copies.now.list.items) }
+{
+    let blocks = blocks_of(alloc, readers, &p.bodies, &copies.list)?;
+    Ok(SymProgram { blocks })
+}
+
+/// The same where no copy reads a table.
 pub fn select(alloc: Global, p: &CoreProgram, copies: &Copies) -> Result<SymProgram, AllocError>
     // The name of a block has room for the number of each copy.
     requires { length copies.now.list.items ≤ 65536 }
     ensures blocks { IfOk result (λ code. views_of code.blocks.items ≡ blocks_from p.now.bodies.items copies.now.list.items 0 copies.now.list.items) }
 {
-    let blocks = blocks_of(alloc, &p.bodies, &copies.list)?;
-    Ok(SymProgram { blocks })
+    select_with_tables(alloc, p, copies, &[])
 }
