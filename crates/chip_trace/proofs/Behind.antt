@@ -110,6 +110,7 @@ module _ (g : Setting) (h : Ground) (c : chip.Setting) (hd : ℕ) (x : IsImage g
             stands = record {
               index = st.index;
               ahead = st.ahead;
+              spent = st.spent;
               early = st.early;
               thread = st.thread;
               memory = st.memory;
@@ -121,6 +122,7 @@ module _ (g : Setting) (h : Ground) (c : chip.Setting) (hd : ℕ) (x : IsImage g
               entries = st.entries;
               later = st.later;
               acts = st.acts;
+              enough = st.enough;
               cheap = st.cheap;
               account = st.account;
               since = st.since;

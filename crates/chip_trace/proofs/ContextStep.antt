@@ -1,5 +1,5 @@
 -- The words that save main's context and give it back, at a boundary where flags were raised.
-use Rattle.std.proofs.Common.{◌≡◌, ◌≢◌, ℕ, zero, suc, ◌+◌, ◌/◌, ◌%◌, ◌*◌, ◌<◌, ◌≤◌, ◌⊎◌, inl, inr, Bool, true, false, List, [], ◌++◌, length, Option, Some, None, refl, sym, ap, ◌∙◌, subst, arith, append-nil}
+use Rattle.std.proofs.Common.{◌≡◌, ◌≢◌, ℕ, zero, suc, ◌+◌, ◌-◌, ◌/◌, ◌%◌, ◌*◌, ◌<◌, ◌≤◌, ◌⊎◌, inl, inr, Bool, true, false, List, [], ◌++◌, length, take, Option, Some, None, refl, sym, ap, ◌∙◌, subst, arith, append-nil}
 use Rattle.std.specs.Prelude.{not, ◌&&◌, nat_eq, nat_lt, slice_set, if◌then◌else◌, slice_index}
 use Rattle.std.proofs.lemmas.Bool.{ne_eqb, eqb-true, eqb-false, ltb-true, ltb-false}
 use Rattle.std.proofs.lemmas.List.{length-set}
@@ -13,7 +13,7 @@ use Rattle.pic_chip.specs.State.{State}
 use Rattle.pic_world.specs.Control as control
 use Rattle.pic_world.specs.Control.{Control, raised_by}
 use Rattle.pic_world.specs.World.{Schedule, Outside}
-use Rattle.sym_code.specs.Cost.{least_prices}
+use Rattle.sym_code.specs.Cost.{least_prices, times_in}
 use Rattle.sym_code.specs.Effect.{Setting, Thread}
 use Rattle.sym_code.specs.Layout.{owner, Nobody}
 use Rattle.sym_code.specs.Machine.{Machine, Entry, Goes, Stops, Still, Made, made, made_write, checked, moved, act, settled, sym_step_at, sym_step, sym_run, lands_at, value_by, read_by, is_forbidden}
@@ -28,8 +28,8 @@ use Rattle.chip_trace.proofs.Runs.{inside_steps, due_steps, enters, isr_leaves, 
 use Rattle.chip_trace.proofs.Sound.{IsGood, is_out, is_copy, stand_block}
 use Rattle.chip_trace.specs.Entries.{found}
 use Rattle.chip_trace.proofs.Stands.{Trail, Stays, IsMain, Mode, InMain, Saving, Selecting, InHandler, Leaving, IsEntered, IsLeft, IsSaved, IsSelected, Vector, main_words, saved, given, like, cell, status, saving_ins, restoring_ins, ram_1, ram_2, ram_3, ram_4, IsThere, IsSince}
-use Rattle.chip_trace.proofs.MainStep.{dear_prices, St, IsClean, Stepped, not_stuck}
-use Rattle.chip_trace.proofs.Trails.{context_apart, mains_spared, same_in_use, seen_as}
+use Rattle.chip_trace.proofs.MainStep.{dear_prices, pays, St, IsClean, Stepped, not_stuck}
+use Rattle.chip_trace.proofs.Trails.{context_apart, mains_spared, take_long, on_take, take_on, at_back, main_long}
 use Rattle.pic_isa.specs.declared.Ins.{Ins}
 use Rattle.pic_chip.specs.Changes.{pushed, popped}
 use Rattle.pic_chip.specs.Interrupts.{enter}
@@ -78,9 +78,9 @@ module _ (g : Setting) (h : Ground) (image input : List ℕ) (hd : ℕ) (x : IsI
     abbrev Spares : List ℕ → Type 0
     Spares ram = (b : ℕ) → is_handlers b (owner g.program.layout b) ≡ false → slice_index ram b ≡ slice_index S.ram b
 
-    pub since_in : (control.is_due t.world.control ≡ true) ⊎ (t.world.inside ≡ true) → st.ahead + st.idle ≤ debt
+    pub since_in : (control.is_due t.world.control ≡ true) ⊎ (t.world.inside ≡ true) → st.spent + st.idle ≤ debt
     since_in q = by st.since q where
-      by : IsSince g h image hd x.vector debt st.ahead st.idle t st.thread st.memory → ((control.is_due t.world.control ≡ true) ⊎ (t.world.inside ≡ true)) → st.ahead + st.idle ≤ debt
+      by : IsSince g h image hd x.vector debt st.spent st.idle t st.thread st.memory → ((control.is_due t.world.control ≡ true) ⊎ (t.world.inside ≡ true)) → st.spent + st.idle ≤ debt
       by (inl le) q = le
       by (inr p) (inl on) = let f = sym on ∙ p.1 in absurd (cc)
       by (inr p) (inr is) = let f = sym is ∙ p.0 in absurd (cc)
@@ -107,6 +107,7 @@ module _ (g : Setting) (h : Ground) (image input : List ℕ) (hd : ℕ) (x : IsI
             stands = subst (λ z. St g h image input hd x watch halt_is e t0 start from to s runs (suc n) z debt trail) (sym there) (record {
               index = st.index;
               ahead = st.ahead;
+              spent = st.spent;
               early = t;
               thread = st.thread;
               memory = st.memory;
@@ -118,6 +119,7 @@ module _ (g : Setting) (h : Ground) (image input : List ℕ) (hd : ℕ) (x : IsI
               entries = st.entries;
               later = st.later;
               acts = st.acts;
+              enough = st.enough;
               cheap = let q = st.cheap in omega arith;
               account = let q = st.account in omega arith;
               since = inl (since_in (inr inside'));
@@ -330,7 +332,7 @@ module _ (g : Setting) (h : Ground) (image input : List ℕ) (hd : ℕ) (x : IsI
             banks = (omega arith, omega arith, omega arith);
             pages = (omega arith, omega arith);
           } in
-          let words' = main_words g h image hd x.vector st.thread in
+          let words' = main_words g h image hd x.vector trail.context in
           let stack' : IsOn S.stack 0 words' = subst (λ (z : State). IsOn z.stack 0 words') (sym is) en.stack in
           let depth' : S.pushes ≡ S.pops + length words' = subst (λ (z : State). z.pushes ≡ z.pops + length words') (sym is) en.depth in
           let at' : IsAt g h (at_front g.program hd (found a pg)) words' T' = record { pc = target; sees = seen; stack = stack'; depth = depth' } in
@@ -432,12 +434,15 @@ module _ (g : Setting) (h : Ground) (image input : List ℕ) (hd : ℕ) (x : IsI
         let T' : State = popped (record S { intcon = set_bit 7 S.intcon }) in
         let T_is : perform (execute image input) S ≡ T' = performs image input S isa.Retfie dec ∙ sym (pop_done S S.w (set_bit 7 S.intcon) st.ranged.stack) in
         let t2 = record t { world = left t.world } in
-        let words' = main_words g h image hd x.vector st.thread in
+        let words' = main_words g h image hd x.vector k in
         let stack' : IsOn S.stack 0 words' = subst (λ (z : State). IsOn z.stack 0 words') (sym is) lf.stack in
         let depth' : S.pushes ≡ S.pops + length words' = subst (λ (z : State). z.pushes ≡ z.pops + length words') (sym is) lf.depth in
-        let lw = words_length g h image input hd x st.thread.stack [] in
         let gd = st.good.deep in let dp = x.depth has in
+        let ml = main_long g h image input hd x st.thread k lf.held (omega arith) in
+        let ml0 = ml.0 in let ml1 = ml.1 in let kw = rk.stack in
         let spot_small = spot_below st.there in
+        let back_price : ℕ = times_in g.program.block lf.place.block lf.place.index + 100 in
+        let paid = pays g lf.place in
         let count = lf.ranged.count in
         let m : List ℕ = slice_set a.ram 88 (swap (cell a 88)) in
         let w1 : S.w ≡ k.w = ap (λ (z : State). z.w) is ∙ ap swap (set_here a.ram 88 (swap (cell a 88)) (omega arith)) ∙ ap (λ v. swap (swap v)) lf.saved.w ∙ swap_twice k.w rk.w in
@@ -454,19 +459,17 @@ module _ (g : Setting) (h : Ground) (image input : List ℕ) (hd : ℕ) (x : IsI
           fsr = ap (λ (z : State). z.fsr) is ∙ lf.saved.fsr;
           pclath = ap (λ (z : State). z.pclath) is ∙ (let q = lf.saved.pclath in let q2 = rk.pclath in omega arith);
         } in
-        let sees : Sees T' lowr = seen_as k T' lowr has_k lf.held.at.sees in
-        let at' : IsAt g h st.thread [] T' = record {
-          pc = stack'.0 ∙ (omega arith);
-          sees = sees;
-          stack = on_pop S.stack (spot g h st.thread.at % 8192) (words g h st.thread.stack []) (omega arith) stack';
-          depth = omega arith;
-        } in
+        let many : ℕ = k.pushes - k.pops in
+        let hdp = lf.held.at.depth in
+        let hpc = lf.held.at.pc in
+        let on : IsOn T'.stack 0 (take many k.stack) = on_pop S.stack (k.pc % 8192) (take many k.stack) (omega arith) stack' in
         let back' : IsBack k T' = record {
           registers = has_k;
-          pc = at'.pc ∙ sym lf.held.at.pc;
-          depth = let d1 = at'.depth in let d2 = lf.held.at.depth in omega arith;
-          stack = λ j lt. let d2 = lf.held.at.depth in same_in_use (words g h st.thread.stack []) T'.stack k.stack j at'.stack lf.held.at.stack (omega arith);
+          pc = stack'.0 ∙ (omega arith);
+          depth = omega arith;
+          stack = λ j lt. let z : 0 + j ≡ j = omega arith in sym (ap (slice_index T'.stack) z) ∙ take_on many k.stack T'.stack 0 j (omega arith) on (omega arith);
         } in
+        let at' : IsAt g h st.thread [] T' = at_back g h image input hd x st.thread k T' lf.held.at back' in
         let control' : control_of (perform (execute image input) S) ≡ control.left (control_of S) = ap control_of (performs image input S isa.Retfie dec) ∙ control_left input S.pc S in
         let goes : (s' : Schedule) (more : ℕ) → sym_step_at g e (over input s') (raised more t) ≡ Goes (raised more t2) = λ s' more.
         inside_steps g e input t0 (over input s') (raised more t) lf.inside ∙ isr_leaves g e input t0 (over input s') (raised more t) lf.inside lf.leaves
@@ -487,19 +490,21 @@ module _ (g : Setting) (h : Ground) (image input : List ℕ) (hd : ℕ) (x : IsI
           stands = subst (λ z. St g h image input hd x watch halt_is e t0 start from to s runs (suc n) z debt trail) (sym there) (record {
             index = suc st.index;
             ahead = st.ahead;
+            spent = st.spent;
             early = t2;
             thread = st.thread;
             memory = st.memory;
             lo = st.lo + 1;
-            hi = st.hi + 101;
+            hi = st.hi + back_price;
             done = 100;
             idle = st.idle;
-            comes = comes_silent g e input t0 least_prices dear_prices s st.index t t2 st.lo st.hi 1 101 refl goes
+            comes = comes_silent g e input t0 least_prices (dear_prices g) s st.index t t2 st.lo st.hi 1 back_price refl goes
                 (λ more. isr_cost g e input t0 least_prices (raised more t) lf.inside ∙ leave_cost g e input t0 least_prices t.isr t.memory lf.place 1 lf.rest lf.at lf.leaves refl)
-                (λ more. isr_cost g e input t0 dear_prices (raised more t) lf.inside ∙ leave_cost g e input t0 dear_prices t.isr t.memory lf.place 101 lf.rest lf.at lf.leaves refl) keeps st.comes;
+                (λ more. isr_cost g e input t0 (dear_prices g) (raised more t) lf.inside ∙ leave_cost g e input t0 (dear_prices g) t.isr t.memory lf.place back_price lf.rest lf.at lf.leaves refl) keeps st.comes;
             entries = st.entries;
             later = st.later;
             acts = st.acts;
+            enough = st.enough;
             cheap = let q = st.cheap in omega arith;
             account = let q = st.account in omega arith;
             since = inl (since_in (inr lf.inside));
@@ -590,13 +595,20 @@ module _ (g : Setting) (h : Ground) (image input : List ℕ) (hd : ℕ) (x : IsI
           let onn = saves_on input 0 entered_state entered_state (omega arith) like0 in
           let saved_state = perform (row input entered_state.pc (saving_ins 0)) entered_state in
           let perform_is : perform (execute image input) entered_state ≡ saved_state = performs image input entered_state (saving_ins 0) dec in
-          let words' = main_words g h image hd x.vector st.thread in
-          let lw = words_length g h image input hd x st.thread.stack [] in
+          let k = trail.context in
+          let words' = main_words g h image hd x.vector k in
+          let many : ℕ = k.pushes - k.pops in
           let gd = st.good.deep in let dp = x.depth has in
+          let ml = main_long g h image input hd x st.thread k a.held (omega arith) in
+          let ml0 = ml.0 in let ml1 = ml.1 in let kw = a.held.ranged.stack in
           let small' = spot_below st.there in
-          let pcs : S.pc ≡ spot g h st.thread.at % 8192 = a.at.pc ∙ (let q = small' in omega arith) in
-          let stack' : IsOn entered_state.stack 0 words' = subst (λ (z : State). IsOn z.stack 0 words') entered_is (pcs, (on_push S.pc S.stack (words g h st.thread.stack []) (omega arith) a.at.stack).1) in
-          let depth' : entered_state.pushes ≡ entered_state.pops + length words' = subst (λ (z : State). z.pushes ≡ z.pops + length words') entered_is (let q = a.at.depth in omega arith) in
+          let hpc = a.held.at.pc in let bpc = a.back.pc in
+          let hdp = a.held.at.depth in let bdp = a.back.depth in
+          let pcs : S.pc ≡ k.pc % 8192 = omega arith in
+          let long' = take_long many k.stack (omega arith) in
+          let lies : IsOn S.stack 0 (take many k.stack) = on_take many k.stack S.stack 0 (omega arith) (λ j lt. let z : 0 + j ≡ j = omega arith in ap (slice_index S.stack) z ∙ a.back.stack j (omega arith)) in
+          let stack' : IsOn entered_state.stack 0 words' = subst (λ (z : State). IsOn z.stack 0 words') entered_is (pcs, (on_push S.pc S.stack (take many k.stack) (omega arith) lies).1) in
+          let depth' : entered_state.pushes ≡ entered_state.pops + length words' = subst (λ (z : State). z.pushes ≡ z.pops + length words') entered_is (omega arith) in
           let sees' : Sees entered_state lowr = subst (λ (z : State). Sees z lowr) entered_is (record { w = a.at.sees.w; z = a.at.sees.z; dc = a.at.sees.dc; c = a.at.sees.c; fsr = a.at.sees.fsr; bank = a.at.sees.bank; page = a.at.sees.page; banks = a.at.sees.banks; pages = a.at.sees.pages }) in
           let ranged' : IsRanged entered_state = entered_ranged input x.small S st.ranged in
           let entered' : IsEntered g h image hd x.vector t2 st.thread trail.context entered_state = record {
@@ -632,6 +644,7 @@ module _ (g : Setting) (h : Ground) (image input : List ℕ) (hd : ℕ) (x : IsI
             stands = subst (λ z. St g h image input hd x watch halt_is e t0 start from to s (suc runs) (suc n) z debt trail) (sym there) (record {
               index = suc st.index;
               ahead = st.ahead;
+              spent = st.spent;
               early = t2;
               thread = st.thread;
               memory = st.memory;
@@ -639,12 +652,13 @@ module _ (g : Setting) (h : Ground) (image input : List ℕ) (hd : ℕ) (x : IsI
               hi = st.hi + 100;
               done = 1;
               idle = st.idle;
-              comes = comes_silent g e input t0 least_prices dear_prices s st.index t t2 st.lo st.hi 1 100 refl goes
+              comes = comes_silent g e input t0 least_prices (dear_prices g) s st.index t t2 st.lo st.hi 1 100 refl goes
                   (λ more. due_cost g e input t0 least_prices (raised more t) a.inside (raised_due more t.world.control on))
-                  (λ more. due_cost g e input t0 dear_prices (raised more t) a.inside (raised_due more t.world.control on)) keeps st.comes;
+                  (λ more. due_cost g e input t0 (dear_prices g) (raised more t) a.inside (raised_due more t.world.control on)) keeps st.comes;
               entries = omega arith;
               later = st.later;
               acts = st.acts;
+              enough = st.enough;
               cheap = let q = st.cheap in omega arith;
               account = let q = st.account in omega arith;
               since = inl (since_in (inl on));

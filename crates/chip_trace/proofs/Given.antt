@@ -24,6 +24,7 @@ use Rattle.chip_trace.proofs.Relations.{Ground, IsBelow}
 use Rattle.chip_trace.proofs.Runs.{over, raised, Extends, settled_is}
 use Rattle.chip_trace.proofs.Schedules.{goes_on as schedule_goes_on}
 use Rattle.chip_trace.proofs.Stands.{Mode, InMain, Saving, Selecting, InHandler, Leaving, saved, given, main_words}
+use Rattle.chip_trace.proofs.Trails.{main_long}
 use Rattle.pic_world.specs.declared.Cell.{Cell}
 use Rattle.chip_trace.proofs.Effects.{writes_silently}
 use Rattle.chip_trace.proofs.Past.{ahead_outside, watched_somebody}
@@ -128,18 +129,18 @@ module _ (g : Setting) (h : Ground) (c : chip.Setting) (hd : ℕ) (x : IsImage g
     depth_by : (h' : Ground) (x' : IsImage g h' c.image c.inputs hd) (t : Machine) (u : Thread) (v s : State) (done : ℕ) → length u.stack ≤ g.limit false → Mode g h' c.image hd x'.vector t u v s done → (s.pops ≤ s.pushes) × (s.pushes ≤ s.pops + 8)
     depth_by h' x' t u v s done le (InMain q a) = let d = a.at.depth in let l = words_length g h' c.image c.inputs hd x' u.stack [] in let k = x'.main_depth in (omega arith, omega arith)
     depth_by h' x' t u v s done le (Saving has k a lo hi q en is) =
-        let d = en.depth in let l = words_length g h' c.image c.inputs hd x' u.stack [] in let z = x'.depth has in
+        let d = en.depth in let z = x'.depth has in let l = (main_long g h' c.image c.inputs hd x' u v en.held (omega arith)).1 in
         let p : s.pushes ≡ a.pushes = ap (λ (y : State). y.pushes) is ∙ (saved_stack k a).0 in
         let p2 : s.pops ≡ a.pops = ap (λ (y : State). y.pops) is ∙ (saved_stack k a).1 in (omega arith, omega arith)
     depth_by h' x' t u v s done le (Selecting has j p a lj q en sel is) =
-        let d = en.depth in let l = words_length g h' c.image c.inputs hd x' u.stack [] in let z = x'.depth has in
+        let d = en.depth in let z = x'.depth has in let l = (main_long g h' c.image c.inputs hd x' u v en.held (omega arith)).1 in
         let p1 : s.pushes ≡ a.pushes = ap (λ (y : State). y.pushes) is in
         let p2 : s.pops ≡ a.pops = ap (λ (y : State). y.pops) is in (omega arith, omega arith)
     depth_by h' x' t u v s done le (InHandler has q a) =
-        let d = a.at.depth in let l = words_length g h' c.image c.inputs hd x' u.stack [] in let z = x'.depth has in
-        let w = words_length g h' c.image c.inputs hd x' t.isr.stack (main_words g h' c.image hd x'.vector u) in let b = a.good.deep in (omega arith, omega arith)
+        let d = a.at.depth in let z = x'.depth has in let l = (main_long g h' c.image c.inputs hd x' u v a.held (omega arith)).1 in
+        let w = words_length g h' c.image c.inputs hd x' t.isr.stack (main_words g h' c.image hd x'.vector v) in let b = a.good.deep in (omega arith, omega arith)
     depth_by h' x' t u v s done le (Leaving has k a lk q lf is) =
-        let d = lf.depth in let l = words_length g h' c.image c.inputs hd x' u.stack [] in let z = x'.depth has in
+        let d = lf.depth in let z = x'.depth has in let l = (main_long g h' c.image c.inputs hd x' u v lf.held (omega arith)).1 in
         let p : s.pushes ≡ a.pushes = ap (λ (y : State). y.pushes) is ∙ (given_stack h'.restore k a).0 in
         let p2 : s.pops ≡ a.pops = ap (λ (y : State). y.pops) is ∙ (given_stack h'.restore k a).1 in (omega arith, omega arith)
 
@@ -172,5 +173,5 @@ module _ (g : Setting) (h : Ground) (c : chip.Setting) (hd : ℕ) (x : IsImage g
         let st = y.1.stands in
         let n : k + 1 ≡ suc k = omega arith in
         ap (λ z. slice_index (moment c z).state.ram b) n
-        ∙ kept_on g h c hd x halt_is ranges_is start only main_is first started N running k 100 A y.0 (st.ahead + st.idle) ge lt y.1 (inl (omega arith)) b q)
+        ∙ kept_on g h c hd x halt_is ranges_is start only main_is first started N running k 100 A y.0 (st.spent + st.idle) ge lt y.1 (inl (omega arith)) b q)
         (cases_lt k A)

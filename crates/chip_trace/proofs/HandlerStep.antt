@@ -11,7 +11,7 @@ use Rattle.pic_world.specs.World.{World, Schedule, Outside}
 use Rattle.pic_world.proofs.Masks.{or_nothing}
 use Rattle.pic_world.specs.declared.Cell.{Cell}
 use Rattle.pic_world.specs.declared.Event.{Event as Shown}
-use Rattle.sym_code.specs.Cost.{Prices, least_prices, cost_by}
+use Rattle.sym_code.specs.Cost.{Prices, least_prices, cost_by, times_in}
 use Rattle.sym_code.specs.Effect.{Setting, Thread, Write, written, Rest, Loud, Effect, Stuck, Quiet, Reads, Writes, Leaves, Ends, Rests, effect, effect_rest}
 use Rattle.sym_code.specs.Layout.{owner, Owner, Watched, Nobody}
 use Rattle.sym_code.specs.Machine.{Machine, Entry, Stops, Made, made, made_write, checked, moved, settled, sym_step_at, sym_run, lands_at, value_by, read_by, is_forbidden}
@@ -22,15 +22,15 @@ use Rattle.chip_trace.proofs.Effects.{reads_silently, writes_silently}
 use Rattle.chip_trace.proofs.Fetch.{LockedAt, locked_at, Ordinary}
 use Rattle.chip_trace.proofs.Image.{IsImage, after, elsewhere, observed_long, put_written, put_apart, words_length, same_length}
 use Rattle.chip_trace.proofs.Locked.{Locked, LockedIf, LockedRead, LockedBy}
-use Rattle.chip_trace.proofs.Past.{IsNear, near, near_apart, IsForeign, IsSomebodys, somebody_apart, somebodys, foreign, gie, ahead_past, ahead_outside, MadeIf, made_case, is_event, longer, inside, good, read_long, read_control, read_inside, silent_somebody, watched_somebody}
+use Rattle.chip_trace.proofs.Past.{IsNear, near, near_apart, IsForeign, IsSomebodys, somebody_apart, somebodys, foreign, gie, ahead_past, spent_past, ahead_outside, MadeIf, made_case, is_event, longer, inside, good, read_long, read_control, read_inside, silent_somebody, watched_somebody}
 use Rattle.pic_chip.proofs.Ranges.{executed_ranged}
 use Rattle.pic_chip.proofs.Stack.{IsOn}
 use Rattle.chip_trace.proofs.Relations.{Ground, words, spot}
 use Rattle.chip_trace.proofs.Runs.{inside_steps, isr_makes, isr_made, isr_cost, comes_silent, over, raised, Extends, exactly, Comes, settled_is, raised_none, step_from, cost_from, makes, same_made, one_cost, rest_cost, comes_loud}
 use Rattle.chip_trace.proofs.Sound.{IsGood, IsSound, IsLeft as IsLeftOver, is_out, sound}
 use Rattle.chip_trace.proofs.Stands.{Trail, Stays, InHandler, Leaving, IsHandling, IsSaved, main_words, IsSince}
-use Rattle.chip_trace.proofs.Trails.{traced_past, spared_apart}
-use Rattle.chip_trace.proofs.MainStep.{dear_prices, St, IsClean, IsCleanThen, Stepped, not_stuck}
+use Rattle.chip_trace.proofs.Trails.{main_long, traced_past, spared_apart}
+use Rattle.chip_trace.proofs.MainStep.{dear_prices, pays, St, IsClean, IsCleanThen, Stepped, not_stuck}
 use Rattle.pic_world.specs.Control.{is_enabled}
 use Rattle.pic_world.specs.declared.Root.TheVariants.{Main, Isr}
 use Rattle.sym_code.specs.Layout.{Constant, Of}
@@ -64,7 +64,7 @@ module _ (g : Setting) (h : Ground) (image input : List ℕ) (hd : ℕ) (x : IsI
     d = after image input ranges c S c.handling
 
     abbrev below : List ℕ
-    below = main_words g h image hd x.vector st.thread
+    below = main_words g h image hd x.vector trail.context
 
     abbrev Result : Type 0
     Result = Stepped g h image input hd x watch halt_is e t0 start from to s runs (suc n) c true S (observed watch d) debt trail
@@ -83,13 +83,13 @@ module _ (g : Setting) (h : Ground) (image input : List ℕ) (hd : ℕ) (x : IsI
 
     deep : length (words g h t.isr.stack below) ≤ 8
     deep =
-        let l = words_length g h image input hd x t.isr.stack below in let k = words_length g h image input hd x st.thread.stack [] in
-        let p = st.good.deep in let q = a.good.deep in let z = x.depth has in omega arith
+        let l = words_length g h image input hd x t.isr.stack below in let p = st.good.deep in let q = a.good.deep in let z = x.depth has in
+        let k = (main_long g h image input hd x st.thread trail.context a.held (omega arith)).1 in omega arith
 
     room : length t.isr.stack < g.limit true → length (words g h t.isr.stack below) ≤ 7
     room lt =
-        let l = words_length g h image input hd x t.isr.stack below in let k = words_length g h image input hd x st.thread.stack [] in
-        let p = st.good.deep in let z = x.depth has in omega arith
+        let l = words_length g h image input hd x t.isr.stack below in let p = st.good.deep in let z = x.depth has in
+        let k = (main_long g h image input hd x st.thread trail.context a.held (omega arith)).1 in omega arith
 
     own : (k : ℕ) → reads_silently true (owner g.program.layout k) ≡ true → slice_index S.ram k ≡ t.memory k
     own k q =
@@ -116,9 +116,9 @@ module _ (g : Setting) (h : Ground) (image input : List ℕ) (hd : ℕ) (x : IsI
     lands_on y l is r m true q = q
     lands_on y l is r m false q = absurd (goes_on (acts_on y l is ∙ ap (λ z. moved t (checked g.program z)) m ∙ ap (λ b. moved t (if b then Some r else None)) q))
 
-    since_in : st.ahead + st.idle ≤ debt
+    since_in : st.spent + st.idle ≤ debt
     since_in = by st.since where
-      by : IsSince g h image hd x.vector debt st.ahead st.idle t st.thread st.memory → st.ahead + st.idle ≤ debt
+      by : IsSince g h image hd x.vector debt st.spent st.idle t st.thread st.memory → st.spent + st.idle ≤ debt
       by (inl le) = le
       by (inr p) = let f = sym a.inside ∙ p.0 in absurd (cc)
 
@@ -128,6 +128,9 @@ module _ (g : Setting) (h : Ground) (image input : List ℕ) (hd : ℕ) (x : IsI
 
       pub handler_touches : TouchesThere g.program image S
       handler_touches f q = lock.touched (λ stuck. goes_on (acts_on Stuck refl stuck)) f (sym (ap file_in lock.decoded) ∙ q)
+
+      abbrev price_here : ℕ
+      price_here = times_in g.program.block p.block p.index
 
       is_ordinary : (y : Effect) → effect g true t.isr t.memory ≡ y → y ≢ Stuck → Ordinary lock.ins
       is_ordinary y is ne = by lock.ordinary where
@@ -157,8 +160,8 @@ module _ (g : Setting) (h : Ground) (image input : List ℕ) (hd : ℕ) (x : IsI
       -- what stands behind an instruction that makes something
       behind_it : (y : Effect) (r : Made) (index lo hi : ℕ) → IsNear g.program.layout true r.write → effect g true t.isr t.memory ≡ y → y ≢ Stuck → lands_at g.program r.thread.at ≡ true → IsGood g true r.thread → r.thread.rest ≡ None
           → r.world.inside ≡ t.world.inside → is_enabled r.world.control ≡ false → IsForeign g.program.layout r.write → IsSomebodys g.program.layout r.write
-          → ((l : ℕ) → length r.world.trace < l → s l ≡ 0) → Locked g h o below S T t.world EV r → lo ≤ st.lo + 1 → hi ≡ st.hi + 1
-          → Comes g e input t0 least_prices dear_prices s index (record t { isr = r.thread; memory = written r.write t.memory; world = r.world }) lo hi
+          → ((l : ℕ) → length r.world.trace < l → s l ≡ 0) → Locked g h o below S T t.world EV r → lo ≤ st.lo + 1 → st.hi + 1 ≤ hi
+          → Comes g e input t0 least_prices (dear_prices g) s index (record t { isr = r.thread; memory = written r.write t.memory; world = r.world }) lo hi
           → Result
       behind_it y r index lo hi close is ne ok good' rest' in' off' far whose later' k cheap' dear' comes =
           let p' = somewhere r.thread ok in
@@ -178,6 +181,7 @@ module _ (g : Setting) (h : Ground) (image input : List ℕ) (hd : ℕ) (x : IsI
             stands = subst (λ z. St g h image input hd x watch halt_is e t0 start from to s runs (suc n) z debt trail) (sym there) (record {
               index = index;
               ahead = st.ahead;
+              spent = st.spent;
               early = record t { isr = r.thread; memory = written r.write t.memory; world = r.world };
               thread = st.thread;
               memory = written r.write st.memory;
@@ -189,6 +193,7 @@ module _ (g : Setting) (h : Ground) (image input : List ℕ) (hd : ℕ) (x : IsI
               entries = st.entries;
               later = later';
               acts = ahead_past g x.outside st.ahead t.main t.memory st.thread st.memory r.write st.main_good far st.acts;
+              enough = let q = spent_past g x.outside (dear_prices g) st.ahead t.main t.memory st.thread st.memory r.write st.main_good far st.acts in let z = st.enough in omega arith;
               cheap = let q = st.cheap in omega arith;
               account = let q = st.account in omega arith;
               since = inl since_in;
@@ -233,20 +238,20 @@ module _ (g : Setting) (h : Ground) (image input : List ℕ) (hd : ℕ) (x : IsI
           let ok = lands_on y mk is r m (lands_at g.program r.thread.at) refl in
           let t2 = record t { isr = r.thread; memory = written r.write t.memory; world = r.world } in
           let one : length r.world.trace ≡ L + 1 = subst (MadeIf (λ z. length z.world.trace ≡ L + 1)) m (longer o t.memory t.world y ev) in
-          behind_it y r (suc st.index) (st.lo + 1) (st.hi + 1) (subst (MadeIf (λ z. IsNear g.program.layout true z.write)) m (near o t.memory t.world g true t.isr y so)) is ne ok (subst (MadeIf (λ z. IsGood g true z.thread)) m (good o t.memory t.world g true t.isr y so)) (rest' r m)
+          behind_it y r (suc st.index) (st.lo + 1) (st.hi + price_here) (subst (MadeIf (λ z. IsNear g.program.layout true z.write)) m (near o t.memory t.world g true t.isr y so)) is ne ok (subst (MadeIf (λ z. IsGood g true z.thread)) m (good o t.memory t.world g true t.isr y so)) (rest' r m)
           (subst (MadeIf (λ z. z.world.inside ≡ t.world.inside)) m (inside o t.memory t.world y))
           (subst (MadeIf (λ z. is_enabled z.world.control ≡ false)) m (gie o t.memory t.world g t.isr a.inside a.gie y))
           (subst (MadeIf (λ z. IsForeign g.program.layout z.write)) m (foreign o t.memory t.world g t.isr y so))
           (subst (MadeIf (λ z. IsSomebodys g.program.layout z.write)) m (somebodys o t.memory t.world g true t.isr y so))
-          (λ l lt. st.later l (omega arith)) (k ok) (omega arith) refl
-          (comes_loud g e input t0 least_prices dear_prices s (suc st.index) L t2 (st.lo + 1) (st.hi + 1) (omega arith) st.later (λ s' more zeros.
+          (λ l lt. st.later l (omega arith)) (k ok) (omega arith) (let z = pays g p in omega arith)
+          (comes_loud g e input t0 least_prices (dear_prices g) s (suc st.index) L t2 (st.lo + 1) (st.hi + price_here) (omega arith) st.later (λ s' more zeros.
           let b = st.comes s' 0 more in
           let b0 : settled (over input s') (sym_run g e (over input s') st.index t0) ≡ t = b.0 ∙ raised_none t in
           let mine : made (over input s') t.memory t.world y ≡ Some r = same_made g e input t0 s s' t.memory t.world y ∙ m in
-          let price = λ (pr : Prices). λ (w : pr.word p.block p.index ≡ 1). isr_cost g e input t0 pr t a.inside ∙ one_cost g e input t0 pr true t.isr t.memory p y 1 a.rest at is mk w in (
+          let price = λ (pr : Prices). λ (v' : ℕ). λ (w : pr.word p.block p.index ≡ v'). isr_cost g e input t0 pr t a.inside ∙ one_cost g e input t0 pr true t.isr t.memory p y v' a.rest at is mk w in (
             step_from g e input t0 s' st.index t t2 b0 (inside_steps g e input t0 (over input s') t a.inside ∙ isr_made g e input t0 (over input s') t y r mk a.inside is mine ok),
-            cost_from g e input t0 least_prices s' st.index st.lo 1 t b0 b.1 (price least_prices refl),
-            cost_from g e input t0 dear_prices s' st.index st.hi 1 t b0 b.2 (price dear_prices refl),
+            cost_from g e input t0 least_prices s' st.index st.lo 1 t b0 b.1 (price least_prices 1 refl),
+            cost_from g e input t0 (dear_prices g) s' st.index st.hi price_here t b0 b.2 (price (dear_prices g) price_here refl),
           )))
 
       -- two events
@@ -273,16 +278,16 @@ module _ (g : Setting) (h : Ground) (image input : List ℕ) (hd : ℕ) (x : IsI
         one_more = read_long o t.memory t.world b
 
         second : (s' : Schedule) → Extends s L 0 s' → s' (L + 1) ≡ 0 → (settled (over input s') (sym_run g e (over input s') (suc st.index) t0) ≡ t2)
-            × (cost_by g least_prices e (over input s') (suc st.index) t0 ≡ st.lo + 1) × (cost_by g dear_prices e (over input s') (suc st.index) t0 ≡ st.hi + 1)
+            × (cost_by g least_prices e (over input s') (suc st.index) t0 ≡ st.lo + 1) × (cost_by g (dear_prices g) e (over input s') (suc st.index) t0 ≡ st.hi + price_here)
         second s' more zero' =
             let r = st.comes s' 0 more in
             let r0 : settled (over input s') (sym_run g e (over input s') st.index t0) ≡ t = r.0 ∙ raised_none t in
-            let price = λ (pr : Prices). λ (w : pr.word p.block p.index ≡ 1). isr_cost g e input t0 pr t a.inside ∙ one_cost g e input t0 pr true t.isr t.memory p (Reads b k) 1 a.rest at is refl w in
+            let price = λ (pr : Prices). λ (v' : ℕ). λ (w : pr.word p.block p.index ≡ v'). isr_cost g e input t0 pr t a.inside ∙ one_cost g e input t0 pr true t.isr t.memory p (Reads b k) v' a.rest at is refl w in
             let run : sym_run g e (over input s') (suc st.index) t0 ≡ t2 =
             step_from g e input t0 s' st.index t t2 r0 (inside_steps g e input t0 (over input s') t a.inside ∙ isr_made g e input t0 (over input s') t (Reads b k) r1 refl a.inside is (same_made g e input t0 s s' t.memory t.world (Reads b k)) half) in (
               ap (settled (over input s')) run ∙ settled_is input s' t2 ∙ ap (λ v. raised (s' v) t2) one_more ∙ ap (λ v. raised v t2) zero' ∙ raised_none t2,
-              cost_from g e input t0 least_prices s' st.index st.lo 1 t r0 r.1 (price least_prices refl),
-              cost_from g e input t0 dear_prices s' st.index st.hi 1 t r0 r.2 (price dear_prices refl),
+              cost_from g e input t0 least_prices s' st.index st.lo 1 t r0 r.1 (price least_prices 1 refl),
+              cost_from g e input t0 (dear_prices g) s' st.index st.hi price_here t r0 r.2 (price (dear_prices g) price_here refl),
             )
 
         module _ (left : u.rest ≡ Some z) where
@@ -331,17 +336,17 @@ module _ (g : Setting) (h : Ground) (image input : List ℕ) (hd : ℕ) (x : IsI
               let long : length r.world.trace ≡ length w1.trace + 1 = subst (MadeIf (λ v. length v.world.trace ≡ length w1.trace + 1)) m (longer o t.memory w1 y2 refl) in
               let ins : r.world.inside ≡ w1.inside = subst (MadeIf (λ v. v.world.inside ≡ w1.inside)) m (inside o t.memory w1 y2) in
               let om = one_more in
-              behind_it (Reads b k) r (suc (suc st.index)) (st.lo + 1 + 0) (st.hi + 1 + 0) (subst (MadeIf (λ v. IsNear g.program.layout true v.write)) m (near o t.memory w1 g true u y2 sound_then)) is (λ q. absurd (cc)) ok good' (ap (λ (v : Thread). v.rest) th) (ins ∙ read_inside o t.memory t.world b)
+              behind_it (Reads b k) r (suc (suc st.index)) (st.lo + 1 + 0) (st.hi + price_here + 0) (subst (MadeIf (λ v. IsNear g.program.layout true v.write)) m (near o t.memory w1 g true u y2 sound_then)) is (λ q. absurd (cc)) ok good' (ap (λ (v : Thread). v.rest) th) (ins ∙ read_inside o t.memory t.world b)
               (subst (MadeIf (λ v. is_enabled v.world.control ≡ false)) m (gie o t.memory w1 g u inside_then off_then y2))
               (subst (MadeIf (λ v. IsForeign g.program.layout v.write)) m (foreign o t.memory w1 g u y2 sound_then))
               (subst (MadeIf (λ v. IsSomebodys g.program.layout v.write)) m (somebodys o t.memory w1 g true u y2 sound_then))
-              (λ l lt. st.later l (omega arith)) (k' ok) (omega arith) (omega arith)
-              (comes_loud g e input t0 least_prices dear_prices s (suc (suc st.index)) L t3 (st.lo + 1 + 0) (st.hi + 1 + 0) (omega arith) st.later (λ s' more zeros.
+              (λ l lt. st.later l (omega arith)) (k' ok) (omega arith) (let z = pays g p in omega arith)
+              (comes_loud g e input t0 least_prices (dear_prices g) s (suc (suc st.index)) L t3 (st.lo + 1 + 0) (st.hi + price_here + 0) (omega arith) st.later (λ s' more zeros.
               let q = second s' more (zeros (L + 1) (omega arith) (omega arith)) in
               let free = λ (pr : Prices). isr_cost g e input t0 pr t2 inside_then ∙ rest_cost g e input t0 pr true u t.memory z left in (
                 step_from g e input t0 s' (suc st.index) t2 t3 q.0 (inside_steps g e input t0 (over input s') t2 inside_then ∙ isr_made g e input t0 (over input s') t2 y2 r refl inside_then writes_rest m ok),
                 cost_from g e input t0 least_prices s' (suc st.index) (st.lo + 1) 0 t2 q.0 q.1 (free least_prices),
-                cost_from g e input t0 dear_prices s' (suc st.index) (st.hi + 1) 0 t2 q.0 q.2 (free dear_prices),
+                cost_from g e input t0 (dear_prices g) s' (suc st.index) (st.hi + price_here) 0 t2 q.0 q.2 (free (dear_prices g)),
               )))
 
       -- no event
@@ -350,12 +355,12 @@ module _ (g : Setting) (h : Ground) (image input : List ℕ) (hd : ℕ) (x : IsI
           let r : Made = record { thread = u; write = wr; world = t.world } in
           let ok = lands_on (Quiet u wr) refl is r refl (lands_at g.program u.at) refl in
           let t2 = record t { isr = u; memory = written wr t.memory } in
-          let price = λ (pr : Prices). λ (w : pr.word p.block p.index ≡ 1). λ (more : ℕ). isr_cost g e input t0 pr (raised more t) a.inside ∙ one_cost g e input t0 pr true t.isr t.memory p (Quiet u wr) 1 a.rest at is refl w in
-          behind_it (Quiet u wr) r (suc st.index) (st.lo + 1) (st.hi + 1) (near o t.memory t.world g true t.isr (Quiet u wr) so) is (λ q. absurd (cc)) ok so.1 so.2 refl a.gie (foreign o t.memory t.world g t.isr (Quiet u wr) so) (somebodys o t.memory t.world g true t.isr (Quiet u wr) so)
-          st.later (k ok) (omega arith) refl
-          (comes_silent g e input t0 least_prices dear_prices s st.index t t2 st.lo st.hi 1 1 refl
+          let price = λ (pr : Prices). λ (v' : ℕ). λ (w : pr.word p.block p.index ≡ v'). λ (more : ℕ). isr_cost g e input t0 pr (raised more t) a.inside ∙ one_cost g e input t0 pr true t.isr t.memory p (Quiet u wr) v' a.rest at is refl w in
+          behind_it (Quiet u wr) r (suc st.index) (st.lo + 1) (st.hi + price_here) (near o t.memory t.world g true t.isr (Quiet u wr) so) is (λ q. absurd (cc)) ok so.1 so.2 refl a.gie (foreign o t.memory t.world g t.isr (Quiet u wr) so) (somebodys o t.memory t.world g true t.isr (Quiet u wr) so)
+          st.later (k ok) (omega arith) (let z = pays g p in omega arith)
+          (comes_silent g e input t0 least_prices (dear_prices g) s st.index t t2 st.lo st.hi 1 price_here refl
           (λ s' more. inside_steps g e input t0 (over input s') (raised more t) a.inside ∙ isr_made g e input t0 (over input s') (raised more t) (Quiet u wr) (record { thread = u; write = wr; world = (raised more t).world }) refl a.inside is refl ok)
-          (price least_prices refl) (price dear_prices refl) (λ p q f. f) st.comes)
+          (price least_prices 1 refl) (price (dear_prices g) price_here refl) (λ p q f. f) st.comes)
 
       -- the handler ends
       leaves : effect g true t.isr t.memory ≡ Leaves → IsSound g true t.isr Leaves → (T ≡ record S { pc = h.restore }) × (EV ≡ []) → Result
@@ -379,6 +384,7 @@ module _ (g : Setting) (h : Ground) (image input : List ℕ) (hd : ℕ) (x : IsI
             stands = subst (λ z. St g h image input hd x watch halt_is e t0 start from to s runs (suc n) z debt trail) (sym there) (record {
               index = st.index;
               ahead = st.ahead;
+              spent = st.spent;
               early = t;
               thread = st.thread;
               memory = st.memory;
@@ -390,6 +396,7 @@ module _ (g : Setting) (h : Ground) (image input : List ℕ) (hd : ℕ) (x : IsI
               entries = st.entries;
               later = st.later;
               acts = st.acts;
+              enough = st.enough;
               cheap = let q = st.cheap in omega arith;
               account = let q = st.account in omega arith;
               since = inl since_in;

@@ -3,6 +3,7 @@ pub mod Effects
 pub mod Sound
 pub mod Past
 pub mod Addresses
+pub mod Words
 pub mod Relations
 pub mod Operands
 pub mod Rows
@@ -14,8 +15,10 @@ pub mod Lock
 pub mod Stands
 pub mod Context
 pub mod Fetch
+pub mod Reading
 pub mod Image
 pub mod Trails
+pub mod Among
 pub mod Rested
 pub mod MainStep
 pub mod Resting
@@ -29,6 +32,8 @@ pub mod Whole
 pub mod Given
 pub mod Blocks
 pub mod Placing
+pub mod Listing
+pub mod Looked
 pub mod Quick
 pub mod Vectors
 pub mod Final

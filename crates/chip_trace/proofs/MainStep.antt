@@ -1,6 +1,6 @@
 -- An instruction of main, at a boundary where flags were raised and no interrupt is due.
 use Rattle.std.proofs.Common.{◌≡◌, ◌≢◌, ℕ, suc, ◌+◌, ◌/◌, ◌%◌, ◌<◌, ◌≤◌, ◌⊎◌, inl, inr, Bool, true, false, List, [], ◌∷◌, ◌++◌, length, map, Option, Some, None, refl, sym, ap, ◌∙◌, subst, arith, append-nil, length-append}
-use Rattle.std.specs.Prelude.{not, ◌&&◌, if◌then◌else◌, slice_index}
+use Rattle.std.specs.Prelude.{not, ◌&&◌, if◌then◌else◌, slice_get, slice_index}
 use Rattle.std.proofs.lemmas.Bool.{ne_eqb}
 use Rattle.std.proofs.lemmas.List.{map-append}
 use Rattle.pic_chip.specs.Act.{perform, accesses}
@@ -14,13 +14,14 @@ use Rattle.pic_world.specs.World.{World, Schedule, Outside, Ended, noted, event_
 use Rattle.pic_world.proofs.Masks.{or_nothing}
 use Rattle.pic_world.specs.declared.Event.{Event as Shown}
 use Rattle.pic_world.specs.declared.Event.TheVariants as events
-use Rattle.sym_code.specs.Cost.{Prices, least_prices, most_prices, cost_by}
+use Rattle.sym_code.specs.Cost.{Prices, least_prices, most_prices, cost_by, time_at, times_in}
 use Rattle.sym_code.specs.Effect.{Setting, Thread, Write, written, Rest, Loud, Effect, Stuck, Quiet, Reads, Writes, Leaves, Ends, Rests, effect, effect_at, effect_rest}
 use Rattle.sym_code.specs.Layout.{owner, Nobody}
 use Rattle.sym_code.specs.Machine.{Machine, Entry, Stops, Made, made, made_write, checked, moved, settled, sym_step_at, sym_step, sym_run, lands_at, value_by, read_by, is_forbidden}
 use Rattle.sym_code.specs.Programs.{Position, lands}
 use Rattle.sym_code.specs.Registers.{page}
-use Rattle.sym_code.specs.declared.code.BlockName.{BlockName}
+use Rattle.sym_code.specs.declared.code.Sym.{Sym}
+use Rattle.sym_code.specs.declared.code.Sym.TheVariants as syms
 use Rattle.chip_trace.specs.Arriving.{is_kept}
 use Rattle.chip_trace.specs.Context.{is_handlers}
 use Rattle.chip_trace.specs.Keeping.{file_in, TouchesThere}
@@ -32,21 +33,26 @@ use Rattle.pic_chip.proofs.Ranges.{executed_ranged}
 use Rattle.pic_chip.proofs.Stack.{IsOn}
 use Rattle.chip_trace.proofs.Relations.{Ground, IsAt, IsBelow, Sees, words, spot}
 use Rattle.chip_trace.proofs.Rested.{rested, words_at, image_at}
-use Rattle.chip_trace.proofs.Runs.{over, raised, Extends, exactly, Comes, settled_is, raised_none, step_from, cost_from, off_steps, main_makes, main_made, main_ends, makes, same_made, main_cost, one_cost, rest_cost, end_cost, comes_main, comes_loud}
+use Rattle.chip_trace.proofs.Runs.{over, raised, Extends, exactly, Comes, spent_of, settled_is, raised_none, step_from, cost_from, off_steps, main_makes, main_made, main_ends, makes, same_made, main_cost, one_cost, rest_cost, end_cost, comes_main, comes_loud}
 use Rattle.chip_trace.proofs.Sound.{IsGood, IsSound, IsLeft, is_out, sound}
 use Rattle.chip_trace.proofs.Stands.{Stands, Trail, Onward, Further, Anew, Rested, IsMain, InMain, IsThere, IsSince}
 use Rattle.chip_trace.proofs.Trails.{back_here, from_here, further, traced_here}
 
--- each instruction is one where no table is read
-abbrev pub one_each : BlockName → ℕ → ℕ
-one_each name n = 1
+-- at most, an instruction is as many of the chip's as it may take
+abbrev pub dear_prices : Setting → Prices
+dear_prices g = most_prices (times_in g.program.block)
 
-abbrev pub dear_prices : Prices
-dear_prices = most_prices one_each
+-- that is one at least
+pub pays : (g : Setting) (p : Position) → 1 ≤ times_in g.program.block p.block p.index
+pays g p = by (slice_get (g.program.block p.block) p.index) where
+  by : (o : Option Sym) → 1 ≤ time_at o
+  by None = omega arith
+  by (Some (syms.Table table root)) = omega arith
+  by (Some s) = omega arith
 
 module _ (g : Setting) (h : Ground) (image input : List ℕ) (hd : ℕ) (x : IsImage g h image input hd) (watch : Watch) (halt_is : watch.halt ≡ h.halt) (e : Entry) (t0 : Machine) (start from to : ℕ) where
   abbrev pub St : Schedule → ℕ → ℕ → Moment → ℕ → Trail → Type 0
-  St s runs n c debt trail = Stands g h image hd x.vector e input t0 least_prices dear_prices s start from to runs n c debt trail
+  St s runs n c debt trail = Stands g h image hd x.vector e input t0 least_prices (dear_prices g) s start from to runs n c debt trail
 
   -- no step of the early run is stuck that comes after so many instructions, while the trace is no longer
   abbrev pub IsClean : Schedule → ℕ → ℕ → Type 0
@@ -70,7 +76,7 @@ module _ (g : Setting) (h : Ground) (image input : List ℕ) (hd : ℕ) (x : IsI
     pub image_then : IsImage g ground image input hd
     pub halt_then : watch.halt ≡ ground.halt
     pub below_then : (end : ℕ) → IsBelow g h end → IsBelow g ground end
-    pub stands : Stands g ground image hd image_then.vector e input t0 least_prices dear_prices s start from to runs n d debt trail_then
+    pub stands : Stands g ground image hd image_then.vector e input t0 least_prices (dear_prices g) s start from to runs n d debt trail_then
 
   -- the early run isn't stuck there
   pub not_stuck : (s : Schedule) (n long k : ℕ) (u : Machine) → IsClean s n long → cost_by g least_prices e (over input s) k t0 ≤ n → settled (over input s) (sym_run g e (over input s) k t0) ≡ u
@@ -115,9 +121,12 @@ module _ (g : Setting) (h : Ground) (image input : List ℕ) (hd : ℕ) (x : IsI
       abbrev t1 : Machine
       t1 = record t { main = st.thread; memory = st.memory }
 
+      abbrev whole : ℕ
+      whole = spent_of g (dear_prices g) st.ahead t.main t.memory st.thread st.memory st.acts
+
       reached : (s' : Schedule) → Extends s L 0 s' → (settled (over input s') (sym_run g e (over input s') (st.index + st.ahead) t0) ≡ t1)
-          × (cost_by g least_prices e (over input s') (st.index + st.ahead) t0 ≡ st.lo + st.ahead) × (cost_by g dear_prices e (over input s') (st.index + st.ahead) t0 ≡ st.hi + st.ahead)
-      reached s' more = comes_main g e input t0 least_prices dear_prices (λ p. refl) (λ p. refl) s s' st.index st.ahead t st.lo st.hi st.thread st.memory a.inside off_early st.comes more st.acts
+          × (cost_by g least_prices e (over input s') (st.index + st.ahead) t0 ≡ st.lo + st.ahead) × (cost_by g (dear_prices g) e (over input s') (st.index + st.ahead) t0 ≡ st.hi + whole)
+      reached s' more = comes_main g e input t0 least_prices (dear_prices g) (λ p. refl) s s' st.index st.ahead t st.lo st.hi st.thread st.memory a.inside off_early st.comes more st.acts
 
       main_goes : sym_step_at g e o t1 ≢ Stops
       main_goes =
@@ -146,7 +155,7 @@ module _ (g : Setting) (h : Ground) (image input : List ℕ) (hd : ℕ) (x : IsI
         last_case (inl le) = le
         last_case (inr q) = let k : is_resting y ≡ true = ap is_resting (sym is ∙ q) in absurd (cc)
 
-        idle_case : IsSince g h image hd x.vector debt st.ahead st.idle t st.thread st.memory → st.idle ≤ debt
+        idle_case : IsSince g h image hd x.vector debt st.spent st.idle t st.thread st.memory → st.idle ≤ debt
         idle_case (inl le) = omega arith
         idle_case (inr p) = last_case p.2
 
@@ -164,6 +173,13 @@ module _ (g : Setting) (h : Ground) (image input : List ℕ) (hd : ℕ) (x : IsI
 
         pub main_touches : TouchesThere g.program image S
         main_touches f q = lock.touched (λ stuck. main_goes (main_acts Stuck refl stuck)) f (sym (ap file_in lock.decoded) ∙ q)
+
+        abbrev price_here : ℕ
+        price_here = times_in g.program.block p.block p.index
+
+        -- the acts and this instruction
+        paid : st.hi + st.spent + 1 ≤ st.hi + whole + price_here
+        paid = let z = st.enough in let y = pays g p in omega arith
 
         is_ordinary : (y : Effect) → effect g false st.thread st.memory ≡ y → y ≢ Stuck → Ordinary lock.ins
         is_ordinary y is ne = by lock.ordinary where
@@ -193,8 +209,8 @@ module _ (g : Setting) (h : Ground) (image input : List ℕ) (hd : ℕ) (x : IsI
 
         -- what stands behind an event
         behind_event : (y : Effect) (r : Made) (index lo hi : ℕ) → IsNear g.program.layout false r.write → effect g false st.thread st.memory ≡ y → y ≢ Stuck → is_resting y ≡ false → lands_at g.program r.thread.at ≡ true → IsGood g false r.thread → r.thread.rest ≡ None
-            → r.world.inside ≡ t.world.inside → L < length r.world.trace → Locked g h o [] S T t.world EV r → lo ≤ st.lo + st.ahead + 1 → hi ≡ st.hi + st.ahead + 1
-            → Comes g e input t0 least_prices dear_prices s index (record t { main = r.thread; memory = written r.write st.memory; world = r.world }) lo hi
+            → r.world.inside ≡ t.world.inside → L < length r.world.trace → Locked g h o [] S T t.world EV r → lo ≤ st.lo + st.ahead + 1 → st.hi + st.spent + 1 ≤ hi
+            → Comes g e input t0 least_prices (dear_prices g) s index (record t { main = r.thread; memory = written r.write st.memory; world = r.world }) lo hi
             → Stepped s runs (suc n) c false S (observed watch d) debt trail
         behind_event y r index lo hi close is ne re ok good' rest' in' long k cheap' dear' comes =
             let p' = somewhere r.thread ok in
@@ -218,6 +234,7 @@ module _ (g : Setting) (h : Ground) (image input : List ℕ) (hd : ℕ) (x : IsI
               stands = subst (λ z. St s runs (suc n) z debt (from_here T)) (sym there) (record {
                 index = index;
                 ahead = 0;
+                spent = 0;
                 early = record t { main = r.thread; memory = written r.write st.memory; world = r.world };
                 thread = r.thread;
                 memory = written r.write st.memory;
@@ -229,6 +246,7 @@ module _ (g : Setting) (h : Ground) (image input : List ℕ) (hd : ℕ) (x : IsI
                 entries = st.entries;
                 later = λ l lt. st.later l (omega arith);
                 acts = (refl, refl);
+                enough = omega arith;
                 cheap = let q = st.cheap in omega arith;
                 account = let q = st.account in omega arith;
                 since = inl (omega arith);
@@ -259,15 +277,15 @@ module _ (g : Setting) (h : Ground) (image input : List ℕ) (hd : ℕ) (x : IsI
             let ok = main_lands y mk is r m (lands_at g.program r.thread.at) refl in
             let t2 = record t { main = r.thread; memory = written r.write st.memory; world = r.world } in
             let one : length r.world.trace ≡ L + 1 = subst (MadeIf (λ z. length z.world.trace ≡ L + 1)) m (longer o st.memory t.world y ev) in
-            behind_event y r (suc (st.index + st.ahead)) (st.lo + st.ahead + 1) (st.hi + st.ahead + 1) (subst (MadeIf (λ z. IsNear g.program.layout false z.write)) m (near o st.memory t.world g false st.thread y so)) is ne re ok (subst (MadeIf (λ z. IsGood g false z.thread)) m (good o st.memory t.world g false st.thread y so)) (rest' r m)
-            (subst (MadeIf (λ z. z.world.inside ≡ t.world.inside)) m (inside o st.memory t.world y)) (omega arith) (k ok) (omega arith) refl
-            (comes_loud g e input t0 least_prices dear_prices s (suc (st.index + st.ahead)) L t2 (st.lo + st.ahead + 1) (st.hi + st.ahead + 1) (omega arith) st.later (λ s' more zeros.
+            behind_event y r (suc (st.index + st.ahead)) (st.lo + st.ahead + 1) (st.hi + whole + price_here) (subst (MadeIf (λ z. IsNear g.program.layout false z.write)) m (near o st.memory t.world g false st.thread y so)) is ne re ok (subst (MadeIf (λ z. IsGood g false z.thread)) m (good o st.memory t.world g false st.thread y so)) (rest' r m)
+            (subst (MadeIf (λ z. z.world.inside ≡ t.world.inside)) m (inside o st.memory t.world y)) (omega arith) (k ok) (omega arith) paid
+            (comes_loud g e input t0 least_prices (dear_prices g) s (suc (st.index + st.ahead)) L t2 (st.lo + st.ahead + 1) (st.hi + whole + price_here) (omega arith) st.later (λ s' more zeros.
             let b = reached s' more in
             let mine : made (over input s') st.memory t.world y ≡ Some r = same_made g e input t0 s s' st.memory t.world y ∙ m in
-            let price = λ (pr : Prices). λ (w : pr.word p.block p.index ≡ 1). main_cost g e input t0 pr t1 a.inside off_early ∙ one_cost g e input t0 pr false st.thread st.memory p y 1 st.rest at is mk w in (
+            let price = λ (pr : Prices). λ (v' : ℕ). λ (w : pr.word p.block p.index ≡ v'). main_cost g e input t0 pr t1 a.inside off_early ∙ one_cost g e input t0 pr false st.thread st.memory p y v' st.rest at is mk w in (
               step_from g e input t0 s' (st.index + st.ahead) t1 t2 b.0 (off_steps g e input t0 (over input s') t1 off_early ∙ main_made g e input t0 (over input s') t1 y r mk a.inside is mine ok),
-              cost_from g e input t0 least_prices s' (st.index + st.ahead) (st.lo + st.ahead) 1 t1 b.0 b.1 (price least_prices refl),
-              cost_from g e input t0 dear_prices s' (st.index + st.ahead) (st.hi + st.ahead) 1 t1 b.0 b.2 (price dear_prices refl),
+              cost_from g e input t0 least_prices s' (st.index + st.ahead) (st.lo + st.ahead) 1 t1 b.0 b.1 (price least_prices 1 refl),
+              cost_from g e input t0 (dear_prices g) s' (st.index + st.ahead) (st.hi + whole) price_here t1 b.0 b.2 (price (dear_prices g) price_here refl),
             )))
 
         -- two events
@@ -297,15 +315,15 @@ module _ (g : Setting) (h : Ground) (image input : List ℕ) (hd : ℕ) (x : IsI
           first_made s' = same_made g e input t0 s s' st.memory t.world (Reads b k)
 
           second : (s' : Schedule) → Extends s L 0 s' → s' (L + 1) ≡ 0 → (settled (over input s') (sym_run g e (over input s') (suc (st.index + st.ahead)) t0) ≡ t2)
-              × (cost_by g least_prices e (over input s') (suc (st.index + st.ahead)) t0 ≡ st.lo + st.ahead + 1) × (cost_by g dear_prices e (over input s') (suc (st.index + st.ahead)) t0 ≡ st.hi + st.ahead + 1)
+              × (cost_by g least_prices e (over input s') (suc (st.index + st.ahead)) t0 ≡ st.lo + st.ahead + 1) × (cost_by g (dear_prices g) e (over input s') (suc (st.index + st.ahead)) t0 ≡ st.hi + whole + price_here)
           second s' more zero' =
               let r = reached s' more in
-              let price = λ (pr : Prices). λ (w : pr.word p.block p.index ≡ 1). main_cost g e input t0 pr t1 a.inside off_early ∙ one_cost g e input t0 pr false st.thread st.memory p (Reads b k) 1 st.rest at is refl w in
+              let price = λ (pr : Prices). λ (v' : ℕ). λ (w : pr.word p.block p.index ≡ v'). main_cost g e input t0 pr t1 a.inside off_early ∙ one_cost g e input t0 pr false st.thread st.memory p (Reads b k) v' st.rest at is refl w in
               let run : sym_run g e (over input s') (suc (st.index + st.ahead)) t0 ≡ t2 =
               step_from g e input t0 s' (st.index + st.ahead) t1 t2 r.0 (off_steps g e input t0 (over input s') t1 off_early ∙ main_made g e input t0 (over input s') t1 (Reads b k) r1 refl a.inside is (first_made s') half) in (
                 ap (settled (over input s')) run ∙ settled_is input s' t2 ∙ ap (λ v. raised (s' v) t2) one_more ∙ ap (λ v. raised v t2) zero' ∙ raised_none t2,
-                cost_from g e input t0 least_prices s' (st.index + st.ahead) (st.lo + st.ahead) 1 t1 r.0 r.1 (price least_prices refl),
-                cost_from g e input t0 dear_prices s' (st.index + st.ahead) (st.hi + st.ahead) 1 t1 r.0 r.2 (price dear_prices refl),
+                cost_from g e input t0 least_prices s' (st.index + st.ahead) (st.lo + st.ahead) 1 t1 r.0 r.1 (price least_prices 1 refl),
+                cost_from g e input t0 (dear_prices g) s' (st.index + st.ahead) (st.hi + whole) price_here t1 r.0 r.2 (price (dear_prices g) price_here refl),
               )
 
           module _ (left : u.rest ≡ Some z) where
@@ -345,14 +363,14 @@ module _ (g : Setting) (h : Ground) (image input : List ℕ) (hd : ℕ) (x : IsI
                 let long : length r.world.trace ≡ length w1.trace + 1 = subst (MadeIf (λ v. length v.world.trace ≡ length w1.trace + 1)) m (longer o st.memory w1 (Writes z.to z.byte u') refl) in
                 let ins : r.world.inside ≡ w1.inside = subst (MadeIf (λ v. v.world.inside ≡ w1.inside)) m (inside o st.memory w1 (Writes z.to z.byte u')) in
                 let om = one_more in
-                behind_event (Reads b k) r (suc (suc (st.index + st.ahead))) (st.lo + st.ahead + 1 + 0) (st.hi + st.ahead + 1 + 0)
-                (subst (MadeIf (λ z. IsNear g.program.layout false z.write)) m (near o st.memory w1 g false u (Writes z.to z.byte u') (subst (IsLeft g.program.layout) left gd.left, record { deep = gd.deep; at = gd.at; stack = gd.stack; left = tt; low = gd.low }, refl))) is (λ q. absurd (cc)) refl ok good' (ap (λ (v : Thread). v.rest) th) (ins ∙ read_inside o st.memory t.world b) (omega arith) (k' ok) (omega arith) (omega arith)
-                (comes_loud g e input t0 least_prices dear_prices s (suc (suc (st.index + st.ahead))) L t3 (st.lo + st.ahead + 1 + 0) (st.hi + st.ahead + 1 + 0) (omega arith) st.later (λ s' more zeros.
+                behind_event (Reads b k) r (suc (suc (st.index + st.ahead))) (st.lo + st.ahead + 1 + 0) (st.hi + whole + price_here + 0)
+                (subst (MadeIf (λ z. IsNear g.program.layout false z.write)) m (near o st.memory w1 g false u (Writes z.to z.byte u') (subst (IsLeft g.program.layout) left gd.left, record { deep = gd.deep; at = gd.at; stack = gd.stack; left = tt; low = gd.low }, refl))) is (λ q. absurd (cc)) refl ok good' (ap (λ (v : Thread). v.rest) th) (ins ∙ read_inside o st.memory t.world b) (omega arith) (k' ok) (omega arith) (let z = paid in omega arith)
+                (comes_loud g e input t0 least_prices (dear_prices g) s (suc (suc (st.index + st.ahead))) L t3 (st.lo + st.ahead + 1 + 0) (st.hi + whole + price_here + 0) (omega arith) st.later (λ s' more zeros.
                 let q = second s' more (zeros (L + 1) (omega arith) (omega arith)) in
                 let free = λ (pr : Prices). main_cost g e input t0 pr t2 inside_then off_then ∙ rest_cost g e input t0 pr false u st.memory z left in (
                   step_from g e input t0 s' (suc (st.index + st.ahead)) t2 t3 q.0 (off_steps g e input t0 (over input s') t2 off_then ∙ main_made g e input t0 (over input s') t2 (Writes z.to z.byte u') r refl inside_then writes_rest m ok),
                   cost_from g e input t0 least_prices s' (suc (st.index + st.ahead)) (st.lo + st.ahead + 1) 0 t2 q.0 q.1 (free least_prices),
-                  cost_from g e input t0 dear_prices s' (suc (st.index + st.ahead)) (st.hi + st.ahead + 1) 0 t2 q.0 q.2 (free dear_prices),
+                  cost_from g e input t0 (dear_prices g) s' (suc (st.index + st.ahead)) (st.hi + whole + price_here) 0 t2 q.0 q.2 (free (dear_prices g)),
                 )))
 
         -- no event
@@ -377,6 +395,7 @@ module _ (g : Setting) (h : Ground) (image input : List ℕ) (hd : ℕ) (x : IsI
               stands = subst (λ z. St s runs (suc n) z debt (further trail T)) (sym there) (record {
                 index = st.index;
                 ahead = suc st.ahead;
+                spent = st.spent + price_here;
                 early = t;
                 thread = u;
                 memory = written wr st.memory;
@@ -388,8 +407,9 @@ module _ (g : Setting) (h : Ground) (image input : List ℕ) (hd : ℕ) (x : IsI
                 entries = st.entries;
                 later = st.later;
                 acts = (st.thread, st.memory, wr, st.acts, is, refl, ok, st.rest, p, at);
+                enough = let q = st.enough in omega arith;
                 cheap = let q = st.cheap in omega arith;
-                account = let q = st.account in omega arith;
+                account = let q = st.account in let y = pays g p in omega arith;
                 since = inr (a.inside, off_early, inl (idle_little (Quiet u wr) refl is));
                 main_good = st.main_good;
                 good = so.1;
@@ -452,28 +472,30 @@ module _ (g : Setting) (h : Ground) (image input : List ℕ) (hd : ℕ) (x : IsI
               image_then = x1;
               halt_then = halt_is;
               below_then = λ end b. record { code = b.code; start = b.start };
-              stands = subst (λ z. Stands g h1 image hd x1.vector e input t0 least_prices dear_prices s start from to runs (suc n) z debt (from_here T)) (sym there) (record {
+              stands = subst (λ z. Stands g h1 image hd x1.vector e input t0 least_prices (dear_prices g) s start from to runs (suc n) z debt (from_here T)) (sym there) (record {
                 index = suc (st.index + st.ahead);
                 ahead = 0;
+                spent = 0;
                 early = t2;
                 thread = v;
                 memory = st.memory;
                 lo = st.lo + st.ahead + 1;
-                hi = st.hi + st.ahead + 1;
+                hi = st.hi + whole + price_here;
                 done = 100;
                 idle = st.idle;
-                comes = comes_loud g e input t0 least_prices dear_prices s (suc (st.index + st.ahead)) L t2 (st.lo + st.ahead + 1) (st.hi + st.ahead + 1) (omega arith) st.later (λ s' more zeros.
+                comes = comes_loud g e input t0 least_prices (dear_prices g) s (suc (st.index + st.ahead)) L t2 (st.lo + st.ahead + 1) (st.hi + whole + price_here) (omega arith) st.later (λ s' more zeros.
                     let b = reached s' more in
-                    let price = λ (pr : Prices). λ (w : pr.word p.block p.index ≡ 1). main_cost g e input t0 pr t1 a.inside off_early ∙ end_cost g e input t0 pr st.thread st.memory p v 1 st.rest at f w in (
+                    let price = λ (pr : Prices). λ (v' : ℕ). λ (w : pr.word p.block p.index ≡ v'). main_cost g e input t0 pr t1 a.inside off_early ∙ end_cost g e input t0 pr st.thread st.memory p v v' st.rest at f w in (
                       step_from g e input t0 s' (st.index + st.ahead) t1 t2 b.0 (off_steps g e input t0 (over input s') t1 off_early ∙ main_ends g e input t0 (over input s') t1 v a.inside f),
-                      cost_from g e input t0 least_prices s' (st.index + st.ahead) (st.lo + st.ahead) 1 t1 b.0 b.1 (price least_prices refl),
-                      cost_from g e input t0 dear_prices s' (st.index + st.ahead) (st.hi + st.ahead) 1 t1 b.0 b.2 (price dear_prices refl),
+                      cost_from g e input t0 least_prices s' (st.index + st.ahead) (st.lo + st.ahead) 1 t1 b.0 b.1 (price least_prices 1 refl),
+                      cost_from g e input t0 (dear_prices g) s' (st.index + st.ahead) (st.hi + whole) price_here t1 b.0 b.2 (price (dear_prices g) price_here refl),
                     ));
                 entries = st.entries;
                 later = λ l lt. st.later l (omega arith);
                 acts = (refl, refl);
+                enough = omega arith;
                 cheap = let q = st.cheap in omega arith;
-                account = let q = st.account in omega arith;
+                account = let q = st.account in let z = paid in omega arith;
                 since = inl (omega arith);
                 main_good = good';
                 good = good';

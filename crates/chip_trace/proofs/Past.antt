@@ -8,6 +8,7 @@ use Rattle.pic_world.specs.World.{World, Outside, Happening, ReadOf, WriteOf, no
 use Rattle.pic_world.specs.declared.Cell.{Cell}
 use Rattle.pic_world.specs.declared.Cell.TheVariants.{Device}
 use Rattle.pic_world.specs.declared.Root.TheVariants.{Main, Isr}
+use Rattle.sym_code.specs.Cost.{Prices}
 use Rattle.sym_code.specs.Effect.{Setting, Loud, Port, Shared, Thread, Memory, Write, with_byte, written, Effect, Stuck, Quiet, Reads, Writes, Leaves, Ends, Rests, effect}
 use Rattle.sym_code.specs.Layout.{DataLayout, Owner, Watched, Constant, Of, Nobody, owner}
 use Rattle.sym_code.specs.Machine.{Made, made, value_by, read_by, wrote_by, write_by, is_forbidden, itself}
@@ -16,7 +17,7 @@ use Rattle.sym_code.specs.declared.code.BlockName.TheVariants.{Copy}
 use Rattle.std.specs.Prelude.{slice_get}
 use Rattle.chip_trace.specs.Arriving.{keeps_out, is_kept}
 use Rattle.chip_trace.proofs.Effects.{reads_silently, writes_silently, effect_same}
-use Rattle.chip_trace.proofs.Runs.{Ahead}
+use Rattle.chip_trace.proofs.Runs.{Ahead, spent_of}
 use Rattle.chip_trace.proofs.Sound.{IsLoud, IsOwn, IsGood, IsSound, sound}
 
 -- ---- writes
@@ -100,6 +101,13 @@ module _ (g : Setting) (outside : (copy n : ℕ) (s : Sym) → slice_get (g.prog
       let oq : writes_silently false (owner g.program.layout q.number) ≡ true = subst (IsOwn g false) iq own in
       differ (reads_silently false (owner g.program.layout p.number)) (subst (λ z. reads_silently false (owner g.program.layout z) ≡ true) (sym eq) (reads_what_it_writes false (owner g.program.layout q.number) oq)) fp in
       (v, written x n, y, ahead_past j th m v n x d f a.3, e, ap (written x) a.5 ∙ swapped x y n ne, a.6, a.7, a.8, a.9)
+
+  -- and cost what they cost
+  pub spent_past : (price : Prices) (j : ℕ) (th : Thread) (m : Memory) (u : Thread) (k : Memory) (x : Option Write) (d : IsGood g false th) (f : IsForeign g.program.layout x) (a : Ahead g j th m u k)
+      → spent_of g price j th (written x m) u (written x k) (ahead_past j th m u k x d f a) ≡ spent_of g price j th m u k a
+  unfolding ahead_past
+  spent_past price zero th m u k x d f a = refl
+  spent_past price (suc j) th m u k x d f a = ap (λ z. z + price.word a.8.block a.8.index) (spent_past price j th m a.0 a.1 x d f a.3)
 
   pub ahead_outside : (j : ℕ) (th : Thread) (m : Memory) (u : Thread) (k : Memory) (b : ℕ) → IsGood g false th → writes_silently false (owner g.program.layout b) ≡ false → Ahead g j th m u k → k b ≡ m b
   ahead_outside zero th m u k b d s a = ap (λ (z : Memory). z b) a.1

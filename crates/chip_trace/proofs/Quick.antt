@@ -21,9 +21,9 @@ use Rattle.sym_code.specs.Registers.{Registers}
 use Rattle.sym_code.specs.declared.code.BlockName.TheVariants.{Copy}
 use Rattle.chip_trace.specs.Arriving.{slack, IsQuiet, ComesTo, IsMet, IsRunning, IsStarted, early, outside_at}
 use Rattle.chip_trace.proofs.Image.{IsImage, same_length, observed_long}
-use Rattle.chip_trace.proofs.MainStep.{dear_prices, one_each}
+use Rattle.chip_trace.proofs.MainStep.{dear_prices}
 use Rattle.chip_trace.proofs.Relations.{Ground, IsPlaced}
-use Rattle.chip_trace.proofs.Runs.{over, raised, raised_none, Extends, exactly, settled_is, off_steps, main_rests, main_cost, comes_main}
+use Rattle.chip_trace.proofs.Runs.{over, raised, raised_none, Extends, exactly, settled_is, off_steps, main_rests, main_cost, comes_main, spent_of}
 use Rattle.chip_trace.proofs.Sound.{IsSound, sound}
 use Rattle.chip_trace.proofs.Schedules.{nothing_arrives, goes_on as schedule_goes_on}
 use Rattle.chip_trace.proofs.Stands.{Mode, InMain, Saving, Selecting, InHandler, Leaving, IsSince}
@@ -44,14 +44,6 @@ use Rattle.sym_code.specs.declared.code.Sym.TheVariants as syms
 use Rattle.chip_trace.proofs.Past.{watched_somebody}
 use Rattle.chip_trace.proofs.Whole.{e, outside_is, one_on}
 use Rattle.chip_trace.proofs.Given.{A, E, R, M, first_machine, S, At, stands, met_by, met_at_index}
-
--- ---- code that stands in an image reads no table
-once : (g : Setting) (h : Ground) (image : List ℕ) → IsPlaced g h image → times_in g.program.block ≡ one_each
-once g h image placed = fun_ext (λ (name : BlockName). fun_ext (λ (n : ℕ). by name n (slice_get (g.program.block name) n) refl)) where
-  by : (name : BlockName) (n : ℕ) (o : Option Sym) → slice_get (g.program.block name) n ≡ o → time_at o ≡ 1
-  by name n None e = refl
-  by name n (Some (syms.Table table root)) e = absurd (placed.code (position name n) (syms.Table table root) e refl).2
-  by name n (Some s) e = refl
 
 -- ---- costs rise
 pub cost_rises : (g : Setting) (p : Prices) (e : Entry) (o : Outside) (t : Machine) (i d n : ℕ) → n ≡ d + i → cost_by g p e o i t ≤ cost_by g p e o n t
@@ -139,10 +131,10 @@ module _ (g : Setting) (h : Ground) (c : chip.Setting) (hd : ℕ) (x : IsImage g
     none_arrives n lt ln = nothing_arrives c.arrivals n (λ a q e. let z = quiet a q (omega arith) in absurd (omega arith))
 
     abbrev from' : ℕ
-    from' = X.stands.hi + X.stands.ahead + X.stands.done + X.stands.idle
+    from' = X.stands.hi + X.stands.spent + X.stands.done + X.stands.idle
 
     abbrev debt' : ℕ
-    debt' = X.stands.ahead + X.stands.idle
+    debt' = X.stands.spent + X.stands.idle
 
     -- counted from there on
     abbrev rebased : at' from' t t debt'
@@ -155,6 +147,7 @@ module _ (g : Setting) (h : Ground) (c : chip.Setting) (hd : ℕ) (x : IsImage g
       stands = record {
         index = X.stands.index;
         ahead = X.stands.ahead;
+        spent = X.stands.spent;
         early = X.stands.early;
         thread = X.stands.thread;
         memory = X.stands.memory;
@@ -166,6 +159,7 @@ module _ (g : Setting) (h : Ground) (c : chip.Setting) (hd : ℕ) (x : IsImage g
         entries = X.stands.entries;
         later = X.stands.later;
         acts = X.stands.acts;
+        enough = X.stands.enough;
         cheap = X.stands.cheap;
         account = omega arith;
         since = inl (omega arith);
@@ -183,8 +177,8 @@ module _ (g : Setting) (h : Ground) (c : chip.Setting) (hd : ℕ) (x : IsImage g
       };
     }
 
-    quiet_since : (n : ℕ) (kn : at' from' t n debt') → arriving c.arrivals n ≡ 0 → IsSince g kn.ground c.image hd kn.image_then.vector debt' kn.stands.ahead kn.stands.idle (raised (arriving c.arrivals n) kn.stands.early) kn.stands.thread kn.stands.memory
-    quiet_since n kn z = subst (λ u. IsSince g kn.ground c.image hd kn.image_then.vector debt' kn.stands.ahead kn.stands.idle u kn.stands.thread kn.stands.memory) (sym (ap (λ k. raised k kn.stands.early) z ∙ raised_none kn.stands.early)) kn.stands.since
+    quiet_since : (n : ℕ) (kn : at' from' t n debt') → arriving c.arrivals n ≡ 0 → IsSince g kn.ground c.image hd kn.image_then.vector debt' kn.stands.spent kn.stands.idle (raised (arriving c.arrivals n) kn.stands.early) kn.stands.thread kn.stands.memory
+    quiet_since n kn z = subst (λ u. IsSince g kn.ground c.image hd kn.image_then.vector debt' kn.stands.spent kn.stands.idle u kn.stands.thread kn.stands.memory) (sym (ap (λ k. raised k kn.stands.early) z ∙ raised_none kn.stands.early)) kn.stands.since
 
     after_t : (d n : ℕ) → n ≡ suc d + t → n ≤ N → at' from' t n debt'
     after_t zero zero is ln = absurd (omega arith)
@@ -199,7 +193,7 @@ module _ (g : Setting) (h : Ground) (c : chip.Setting) (hd : ℕ) (x : IsImage g
 
     -- ---- the first moment of the early run with that trace
     abbrev most : ℕ → ℕ
-    most k = cost_by g dear_prices ee O k start_machine
+    most k = cost_by g (dear_prices g) ee O k start_machine
 
     x_is : (settled O (sym_run g ee O X.stands.index start_machine) ≡ raised (far (suc N - t) t (suc N) (omega arith)).0 X.stands.early) × (most X.stands.index ≡ X.stands.hi)
     x_is =
@@ -217,13 +211,13 @@ module _ (g : Setting) (h : Ground) (c : chip.Setting) (hd : ℕ) (x : IsImage g
       before_x =
           ⊎_elim
           (λ lt. let a = shorter X.stands.index lt in let b = x_long in absurd (omega arith))
-          (λ ge. let r = cost_rises g dear_prices ee O start_machine i (X.stands.index - i) X.stands.index (omega arith) in let q = x_is.1 in omega arith)
+          (λ ge. let r = cost_rises g (dear_prices g) ee O start_machine i (X.stands.index - i) X.stands.index (omega arith) in let q = x_is.1 in omega arith)
           (cases_lt X.stands.index i)
 
       -- what is behind a moment costs too much
       behind_it : (k : ℕ) → X.stands.hi + (N - t) ≤ most k + 109 → j ≤ k
       behind_it k le' =
-          ⊎_elim (λ lt. let r = cost_rises g dear_prices ee O start_machine k (j - k) j (omega arith) in let b = before_x in absurd (omega arith)) (λ ge. ge) (cases_lt k j)
+          ⊎_elim (λ lt. let r = cost_rises g (dear_prices g) ee O start_machine k (j - k) j (omega arith) in let b = before_x in absurd (omega arith)) (λ ge. ge) (cases_lt k j)
 
       -- where moment t is the last one
       at_once : N ≡ t → IsMet g c ee rr mm N j
@@ -238,7 +232,7 @@ module _ (g : Setting) (h : Ground) (c : chip.Setting) (hd : ℕ) (x : IsImage g
           met_at_index g h c hd x halt_is ranges_is start only main_is first started N running 100 a0 y.0 j y.1
           (⊎_elim
           (λ lt. let q = shorter st.index lt in absurd (omega arith))
-          (λ ge. ⊎_elim (λ lt. omega arith) (λ ge2. let r = cost_rises g dear_prices ee O start_machine i (j - i) j (omega arith) in absurd (omega arith)) (cases_lt j i))
+          (λ ge. ⊎_elim (λ lt. omega arith) (λ ge2. let r = cost_rises g (dear_prices g) ee O start_machine i (j - i) j (omega arith) in absurd (omega arith)) (cases_lt j i))
           (cases_lt st.index i))
 
       module _ (d : ℕ) (later : N ≡ suc d + t) where
@@ -265,7 +259,7 @@ module _ (g : Setting) (h : Ground) (c : chip.Setting) (hd : ℕ) (x : IsImage g
         y_costs : most Y.stands.index ≡ Y.stands.hi
         y_costs = (Y.stands.comes (ss (suc N)) (arriving c.arrivals N) (subst (λ z. Extends (ss N) z (arriving c.arrivals N) (ss (suc N))) y_long (schedule_goes_on tr c.arrivals N))).2
 
-        by_index : (Y.stands.ahead + Y.stands.idle ≤ debt') → IsMet g c ee rr mm N j
+        by_index : (Y.stands.spent + Y.stands.idle ≤ debt') → IsMet g c ee rr mm N j
         by_index le' =
             let dl = done_little Y.ground Y.image_then Y.stands.early Y.stands.thread Y.trail.context (moment c N).state Y.stands.done Y.stands.mode in
             let ac = Y.stands.account in let yc = y_costs in
@@ -283,8 +277,8 @@ module _ (g : Setting) (h : Ground) (c : chip.Setting) (hd : ℕ) (x : IsImage g
               let z = none_arrives N (omega arith) (omega arith) in
               subst (λ m. Extends (ss N) (length Y.stands.early.world.trace) m (ss (suc N))) z (subst (λ z. Extends (ss N) z (arriving c.arrivals N) (ss (suc N))) y_long (schedule_goes_on tr c.arrivals N))
 
-          there : (settled O (sym_run g ee O k0 start_machine) ≡ u0) × (cost_by g least_prices ee O k0 start_machine ≡ Y.stands.lo + Y.stands.ahead) × (most k0 ≡ Y.stands.hi + Y.stands.ahead)
-          there = comes_main g ee c.inputs start_machine least_prices dear_prices (λ p. refl) (λ p. refl) (ss N) (ss (suc N)) Y.stands.index Y.stands.ahead Y.stands.early Y.stands.lo Y.stands.hi Y.stands.thread Y.stands.memory out off Y.stands.comes same_schedule Y.stands.acts
+          there : (settled O (sym_run g ee O k0 start_machine) ≡ u0) × (cost_by g least_prices ee O k0 start_machine ≡ Y.stands.lo + Y.stands.ahead) × (most k0 ≡ Y.stands.hi + spent_of g (dear_prices g) Y.stands.ahead Y.stands.early.main Y.stands.early.memory Y.stands.thread Y.stands.memory Y.stands.acts)
+          there = comes_main g ee c.inputs start_machine least_prices (dear_prices g) (λ p. refl) (ss N) (ss (suc N)) Y.stands.index Y.stands.ahead Y.stands.early Y.stands.lo Y.stands.hi Y.stands.thread Y.stands.memory out off Y.stands.comes same_schedule Y.stands.acts
 
           bytes_there : (k : ℕ) (cell : Cell) → (moment c N).met ≡ true → owner g.program.layout k ≡ Watched cell → slice_index (moment c N).state.ram k ≡ Y.stands.memory k
           bytes_there k cell m w = Y.stands.bytes k (watched_somebody cell (owner g.program.layout k) w)
@@ -298,7 +292,7 @@ module _ (g : Setting) (h : Ground) (c : chip.Setting) (hd : ℕ) (x : IsImage g
           by_ahead : Y.stands.idle ≤ debt' → IsMet g c ee rr mm N j
           by_ahead le' =
               let dm = done_main Y.ground Y.image_then Y.stands.early Y.stands.thread Y.trail.context (moment c N).state Y.stands.done out Y.stands.mode in
-              let ac = Y.stands.account in let tc = there.2 in
+              let ac = Y.stands.account in let tc = there.2 in let en = Y.stands.enough in
               met_there (behind_it k0 (omega arith))
 
           -- main has ended, and stays
@@ -343,7 +337,7 @@ module _ (g : Setting) (h : Ground) (c : chip.Setting) (hd : ℕ) (x : IsImage g
               (λ ge. met_there ge)
               (cases_lt k0 j)
 
-        by_since : IsSince g Y.ground c.image hd Y.image_then.vector debt' Y.stands.ahead Y.stands.idle Y.stands.early Y.stands.thread Y.stands.memory → IsMet g c ee rr mm N j
+        by_since : IsSince g Y.ground c.image hd Y.image_then.vector debt' Y.stands.spent Y.stands.idle Y.stands.early Y.stands.thread Y.stands.memory → IsMet g c ee rr mm N j
         by_since (inl le') = by_index le'
         by_since (inr p) = by_last p.2 where
           by_last : ((Y.stands.idle ≤ debt') ⊎ (effect g false Y.stands.thread Y.stands.memory ≡ Rests)) → IsMet g c ee rr mm N j
@@ -360,5 +354,4 @@ module _ (g : Setting) (h : Ground) (c : chip.Setting) (hd : ℕ) (x : IsImage g
     pace i j comes rich =
         let o = outside_is g h c hd x halt_is ranges_is start only main_is first started N N in
         paced i j (λ k lt. subst (λ z. length (sym_run g ee z k start_machine).world.trace < length (tr t)) o (comes.before k lt))
-        (subst (λ z. cost_by g dear_prices ee z j start_machine + slack ≤ cost_by g dear_prices ee z i start_machine + (N - t)) o
-        (subst (λ (price : BlockName → ℕ → ℕ). cost_by g (most_prices price) ee (outside_at g c N) j start_machine + slack ≤ cost_by g (most_prices price) ee (outside_at g c N) i start_machine + (N - t)) (once g h c.image x.placed) rich))
+        (subst (λ z. cost_by g (dear_prices g) ee z j start_machine + slack ≤ cost_by g (dear_prices g) ee z i start_machine + (N - t)) o rich)

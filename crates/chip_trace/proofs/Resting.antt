@@ -86,9 +86,10 @@ module _ (g : Setting) (h : Ground) (image input : List ℕ) (hd : ℕ) (x : IsI
           image_then = x1;
           halt_then = halt_is;
           below_then = λ end b. record { code = b.code; start = b.start };
-          stands = subst (λ z. Stands g h1 image hd x1.vector e input t0 least_prices dear_prices s start from to runs (suc n) z debt (from_here T)) (sym there) (record {
+          stands = subst (λ z. Stands g h1 image hd x1.vector e input t0 least_prices (dear_prices g) s start from to runs (suc n) z debt (from_here T)) (sym there) (record {
             index = st.index;
             ahead = st.ahead;
+            spent = st.spent;
             early = t;
             thread = st.thread;
             memory = st.memory;
@@ -100,6 +101,7 @@ module _ (g : Setting) (h : Ground) (image input : List ℕ) (hd : ℕ) (x : IsI
             entries = st.entries;
             later = st.later;
             acts = st.acts;
+            enough = st.enough;
             cheap = let q = st.cheap in omega arith;
             account = let q = st.account in omega arith;
             since = inr (a.inside, off_early, inr rests_there);

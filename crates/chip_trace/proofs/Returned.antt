@@ -59,7 +59,7 @@ module _ (g : Setting) (h : Ground) (c : chip.Setting) (hd : ℕ) (x : IsImage g
     -- ---- one moment further
     module _ (k debt : ℕ) (ge : a0 ≤ k) (lt : k < N) (kn : Then k debt) where
       abbrev pub owed : ℕ
-      owed = kn.stands.ahead + kn.stands.idle
+      owed = kn.stands.spent + kn.stands.idle
 
       abbrev pub next : Then (suc k) owed
       next = one_on g h c hd x halt_is ranges_is start only main_is first started N running k 100 a0 debt owed ge lt kn (inl (omega arith))

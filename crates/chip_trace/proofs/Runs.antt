@@ -42,6 +42,11 @@ Ahead g (suc j) th m th' m' =
     (u : Thread) × (n : Memory) × (x : Option Write) × Ahead g j th m u n × (effect g false u n ≡ Quiet th' x) × (m' ≡ written x n) × (lands_at g.program th'.at ≡ true) × (u.rest ≡ None)
     × (p : Position) × (u.at ≡ Some p)
 
+-- what these acts cost
+abbrev pub spent_of : (g : Setting) (price : Prices) (j : ℕ) (th : Thread) (m : Memory) (th' : Thread) (m' : Memory) → Ahead g j th m th' m' → ℕ
+spent_of g price zero th m th' m' a = 0
+spent_of g price (suc j) th m th' m' a = spent_of g price j th m a.0 a.1 a.3 + price.word a.8.block a.8.index
+
 -- ---- settled machines
 pub settled_is : (input : List ℕ) (s : Schedule) (t : Machine) → settled (over input s) t ≡ raised (s (length t.world.trace)) t
 unfolding arrived
@@ -262,13 +267,13 @@ module _ (g : Setting) (e : Entry) (input : List ℕ) (t0 : Machine) where
         )
 
     -- main's acts without an event, while no handler is due
-    pub comes_main : ((p : Position) → least.word p.block p.index ≡ 1) → ((p : Position) → most.word p.block p.index ≡ 1)
+    pub comes_main : ((p : Position) → least.word p.block p.index ≡ 1)
         → (s s' : Schedule) (i j : ℕ) (t : Machine) (lo hi : ℕ) (u : Thread) (m : Memory)
         → t.world.inside ≡ false → control.is_due t.world.control ≡ false → Comes g e input t0 least most s i t lo hi → Extends s (length t.world.trace) 0 s'
-        → Ahead g j t.main t.memory u m
+        → (a : Ahead g j t.main t.memory u m)
         → (settled (over input s') (sym_run g e (over input s') (i + j) t0) ≡ record t { main = u; memory = m })
-        × (cost_by g least e (over input s') (i + j) t0 ≡ lo + j) × (cost_by g most e (over input s') (i + j) t0 ≡ hi + j)
-    comes_main one two s s' i zero t lo hi u m out off c x a =
+        × (cost_by g least e (over input s') (i + j) t0 ≡ lo + j) × (cost_by g most e (over input s') (i + j) t0 ≡ hi + spent_of g most j t.main t.memory u m a)
+    comes_main one s s' i zero t lo hi u m out off c x a =
         let n : i + zero ≡ i = omega arith in
         let b = c s' 0 x in (
           ap (λ k. settled (over input s') (sym_run g e (over input s') k t0)) n ∙ b.0 ∙ raised_none t ∙ ap (λ z. record t { main = z; memory = t.memory }) (sym a.0)
@@ -276,14 +281,15 @@ module _ (g : Setting) (e : Entry) (input : List ℕ) (t0 : Machine) where
           ap (λ k. cost_by g least e (over input s') k t0) n ∙ (let q = b.1 in omega arith),
           ap (λ k. cost_by g most e (over input s') k t0) n ∙ (let q = b.2 in omega arith),
         )
-    comes_main one two s s' i (suc j) t lo hi u m out off c x a =
+    comes_main one s s' i (suc j) t lo hi u m out off c x a =
         let v = a.0 in let k = a.1 in let w = a.2 in
-        let before = comes_main one two s s' i j t lo hi v k out off c x a.3 in
+        let before = comes_main one s s' i j t lo hi v k out off c x a.3 in
         let t1 = record t { main = v; memory = k } in
         let t2 = record t { main = u; memory = m } in
         let n : i + suc j ≡ suc (i + j) = omega arith in
         let l1 : lo + j + 1 ≡ lo + suc j = omega arith in
-        let l2 : hi + j + 1 ≡ hi + suc j = omega arith in
+        let spent = spent_of g most j t.main t.memory v k a.3 in
+        let l2 : hi + spent + most.word a.8.block a.8.index ≡ hi + (spent + most.word a.8.block a.8.index) = omega arith in
         let goes : sym_step_at g e (over input s') t1 ≡ Goes t2 =
         off_steps (over input s') t1 off
         ∙ main_made (over input s') t1 (Quiet u w) (record { thread = u; write = w; world = t.world }) refl out a.4 refl a.6
@@ -296,7 +302,7 @@ module _ (g : Setting) (e : Entry) (input : List ℕ) (t0 : Machine) where
           ap (λ k. cost_by g least e (over input s') k t0) n
               ∙ cost_from least s' (i + j) (lo + j) 1 t1 before.0 before.1 (main_cost least t1 out off ∙ one_cost least false v k a.8 (Quiet u w) 1 a.7 a.9 a.4 refl (one a.8)) ∙ l1,
           ap (λ k. cost_by g most e (over input s') k t0) n
-              ∙ cost_from most s' (i + j) (hi + j) 1 t1 before.0 before.2 (main_cost most t1 out off ∙ one_cost most false v k a.8 (Quiet u w) 1 a.7 a.9 a.4 refl (two a.8)) ∙ l2,
+              ∙ cost_from most s' (i + j) (hi + spent) (most.word a.8.block a.8.index) t1 before.0 before.2 (main_cost most t1 out off ∙ one_cost most false v k a.8 (Quiet u w) (most.word a.8.block a.8.index) a.7 a.9 a.4 refl refl) ∙ l2,
         )
 
     -- a step with an event

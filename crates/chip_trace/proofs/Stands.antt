@@ -1,6 +1,6 @@
 -- How the chip stands at an early run: main may be some acts without an event ahead of it, and the context may be half saved or
 -- half restored.
-use Rattle.std.specs.Prelude.{◌≡◌, ◌≢◌, ℕ, zero, suc, ◌+◌, ◌*◌, ◌/◌, ◌%◌, ◌<◌, ◌≤◌, ◌⊎◌, Bool, true, false, nat_eq, List, [], ◌∷◌, length, map, Some, None, slice_index, slice_set}
+use Rattle.std.specs.Prelude.{◌≡◌, ◌≢◌, ℕ, zero, suc, ◌+◌, ◌-◌, ◌*◌, ◌/◌, ◌%◌, ◌<◌, ◌≤◌, ◌⊎◌, Bool, true, false, nat_eq, List, [], ◌∷◌, length, take, map, Some, None, slice_index, slice_set}
 use Rattle.pic_isa.specs.declared.Ins.{Ins}
 use Rattle.pic_isa.specs.declared.Ins.TheVariants as isa
 use Rattle.pic_isa.specs.Lookup.{row_of}
@@ -27,7 +27,7 @@ use Rattle.pic_chip.proofs.Ranges.{IsRanged}
 use Rattle.pic_chip.proofs.Stack.{IsOn}
 use Rattle.chip_trace.specs.Context.{HasRegisters, IsBack}
 use Rattle.chip_trace.proofs.Relations.{Sees, Ground, words, spot, IsAt, page_row}
-use Rattle.chip_trace.proofs.Runs.{Comes, Ahead}
+use Rattle.chip_trace.proofs.Runs.{Comes, Ahead, spent_of}
 use Rattle.chip_trace.proofs.Sound.{IsGood}
 use Rattle.chip_trace.specs.Entries.{found}
 use Rattle.chip_trace.proofs.StatusBits.{packed}
@@ -147,9 +147,9 @@ module _ (g : Setting) (h : Ground) (image : List ℕ) (hd : ℕ) (v : g.program
   abbrev pub pg : ℕ
   pg = g.page_of (Copy hd)
 
-  -- main's word and those below it
-  abbrev pub main_words : Thread → List ℕ
-  main_words u = spot g h u.at % 8192 ∷ words g h u.stack []
+  -- main's word and those below it, by the chip's state when main was to go on
+  abbrev pub main_words : State → List ℕ
+  main_words k = k.pc % 8192 ∷ take (k.pushes - k.pops) k.stack
 
   -- main's context is in its four bytes: k is the chip's state when the interrupt was taken
   pub record IsSaved (k : State) (ram : List ℕ) : Type 0 where
@@ -179,14 +179,14 @@ module _ (g : Setting) (h : Ground) (image : List ℕ) (hd : ℕ) (v : g.program
     pub held : IsHeld u k
     pub same : HasRegisters k s
     pub sees : Sees s u.registers
-    pub stack : IsOn s.stack 0 (main_words u)
-    pub depth : s.pushes ≡ s.pops + length (main_words u)
+    pub stack : IsOn s.stack 0 (main_words k)
+    pub depth : s.pushes ≡ s.pops + length (main_words k)
     pub ranged : IsRanged s
 
   pub record IsHandling (t : Machine) (u : Thread) (k s : State) : Type 0 where
     pub inside : t.world.inside ≡ true
     pub gie : is_enabled t.world.control ≡ false
-    pub at : IsAt g h t.isr (main_words u) s
+    pub at : IsAt g h t.isr (main_words k) s
     pub held : IsHeld u k
     pub saved : IsSaved k s.ram
     pub lands : lands_at g.program t.isr.at ≡ true
@@ -201,8 +201,8 @@ module _ (g : Setting) (h : Ground) (image : List ℕ) (hd : ℕ) (v : g.program
     pub rest : t.isr.rest ≡ None
     pub place : Position
     pub at : t.isr.at ≡ Some place
-    pub stack : IsOn s.stack 0 (main_words u)
-    pub depth : s.pushes ≡ s.pops + length (main_words u)
+    pub stack : IsOn s.stack 0 (main_words k)
+    pub depth : s.pushes ≡ s.pops + length (main_words k)
     pub held : IsHeld u k
     pub saved : IsSaved k s.ram
     pub ranged : IsRanged s
@@ -235,9 +235,9 @@ module _ (g : Setting) (h : Ground) (image : List ℕ) (hd : ℕ) (v : g.program
   abbrev pub IsThere : Thread → Bool → Type 0
   IsThere u ended = ((lands_at g.program u.at ≡ true) × (ended ≡ false)) ⊎ ((u.at ≡ None) × (ended ≡ true) × (page u.registers ≡ h.halt / 2048))
 
-  -- how long main is ahead, or how long it has rested, since the last arrival
+  -- what main has spent ahead, or how long it has rested, since the last arrival
   abbrev pub IsSince : ℕ → ℕ → ℕ → Machine → Thread → Memory → Type 0
-  IsSince debt ahead idle t u m = (ahead + idle ≤ debt) ⊎ ((t.world.inside ≡ false) × (control.is_due t.world.control ≡ false) × ((idle ≤ debt) ⊎ (effect g false u m ≡ Rests)))
+  IsSince debt spent idle t u m = (spent + idle ≤ debt) ⊎ ((t.world.inside ≡ false) × (control.is_due t.world.control ≡ false) × ((idle ≤ debt) ⊎ (effect g false u m ≡ Rests)))
 
   -- Until main has ended: from the trail's origin on, with the bytes that aren't main's as they are now, main's instructions since,
   -- none with an event, come to where main is.
@@ -258,6 +258,8 @@ module _ (g : Setting) (h : Ground) (image : List ℕ) (hd : ℕ) (v : g.program
   pub record Stands (e : Entry) (input : List ℕ) (t0 : Machine) (least most : Prices) (s : Schedule) (start from to runs n : ℕ) (c : Moment) (debt : ℕ) (trail : Trail) : Type 0 where
     pub index : ℕ
     pub ahead : ℕ
+    -- instructions of the chip for these acts
+    pub spent : ℕ
     pub early : Machine
     pub thread : Thread
     pub memory : Memory
@@ -269,9 +271,10 @@ module _ (g : Setting) (h : Ground) (image : List ℕ) (hd : ℕ) (v : g.program
     pub entries : early.entries ≡ runs
     pub later : (l : ℕ) → length early.world.trace < l → s l ≡ 0
     pub acts : Ahead g ahead early.main early.memory thread memory
+    pub enough : spent ≤ spent_of g most ahead early.main early.memory thread memory acts
     pub cheap : lo + ahead + start ≤ n
-    pub account : n + from ≤ hi + ahead + done + idle + to
-    pub since : IsSince debt ahead idle early thread memory
+    pub account : n + from ≤ hi + spent + done + idle + to
+    pub since : IsSince debt spent idle early thread memory
     pub main_good : IsGood g false early.main
     pub good : IsGood g false thread
     pub rest : thread.rest ≡ None

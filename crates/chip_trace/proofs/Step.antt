@@ -59,15 +59,16 @@ module _ (g : Setting) (h : Ground) (image input : List ℕ) (hd : ℕ) (x : IsI
   mode_raised mask t u k S done (InMain q a) = InMain q (record { inside = a.inside; at = at_raised mask u [] S a.at; held = a.held; back = back_raised mask k S a.back })
   mode_raised mask t u k S done (Saving has j a le lt q en is) = Saving has j a le lt q (entered_raised mask t u k a en) (ap (chip.raised mask) is)
   mode_raised mask t u k S done (Selecting has j p a le q en sel is) = Selecting has j p a le q (entered_raised mask t u k a en) sel (ap (chip.raised mask) is)
-  mode_raised mask t u k S done (InHandler has q a) = InHandler has q (record { inside = a.inside; gie = raised_enabled mask t.world.control ∙ a.gie; at = at_raised mask t.isr (main_words g h image hd x.vector u) S a.at; held = a.held; saved = a.saved; lands = a.lands; rest = a.rest; good = a.good })
+  mode_raised mask t u k S done (InHandler has q a) = InHandler has q (record { inside = a.inside; gie = raised_enabled mask t.world.control ∙ a.gie; at = at_raised mask t.isr (main_words g h image hd x.vector k) S a.at; held = a.held; saved = a.saved; lands = a.lands; rest = a.rest; good = a.good })
   mode_raised mask t u k S done (Leaving has j a le q lf is) = Leaving has j a le q (left_raised mask t u k a lf) (ap (chip.raised mask) is)
 
   pub arrives : (s s1 : Schedule) (mask runs n : ℕ) (c : Moment) (debt debt' : ℕ) (trail : Trail) (st : St g h image input hd x watch halt_is e t0 start from to s runs n c debt trail) → Extends s (length st.early.world.trace) mask s1
-      → ((l : ℕ) → length st.early.world.trace < l → s1 l ≡ 0) → IsSince g h image hd x.vector debt' st.ahead st.idle (raised mask st.early) st.thread st.memory
+      → ((l : ℕ) → length st.early.world.trace < l → s1 l ≡ 0) → IsSince g h image hd x.vector debt' st.spent st.idle (raised mask st.early) st.thread st.memory
       → St g h image input hd x watch halt_is e t0 start from to s1 runs n (record c { state = chip.raised mask c.state }) debt' trail
   arrives s s1 mask runs n c debt debt' trail st more later since = record {
     index = st.index;
     ahead = st.ahead;
+    spent = st.spent;
     early = raised mask st.early;
     thread = st.thread;
     memory = st.memory;
@@ -75,10 +76,11 @@ module _ (g : Setting) (h : Ground) (image input : List ℕ) (hd : ℕ) (x : IsI
     hi = st.hi;
     done = st.done;
     idle = st.idle;
-    comes = comes_raised g e input t0 least_prices dear_prices s s1 mask st.index st.early st.lo st.hi more st.comes;
+    comes = comes_raised g e input t0 least_prices (dear_prices g) s s1 mask st.index st.early st.lo st.hi more st.comes;
     entries = st.entries;
     later = later;
     acts = st.acts;
+    enough = st.enough;
     cheap = st.cheap;
     account = st.account;
     since = since;

@@ -1,5 +1,5 @@
 -- What is kept of moments before, where main's instructions and those of the handler come.
-use Rattle.std.proofs.Common.{◌≡◌, ◌≢◌, ℕ, zero, suc, ◌+◌, ◌/◌, ◌<◌, Bool, true, false, List, [], ◌∷◌, length, Option, Some, None, refl, sym, ap, ◌∙◌, arith}
+use Rattle.std.proofs.Common.{◌≡◌, ◌≢◌, ℕ, zero, suc, ◌+◌, ◌-◌, ◌/◌, ◌<◌, ◌≤◌, Bool, true, false, List, [], ◌∷◌, length, take, Option, Some, None, refl, sym, ap, ◌∙◌, arith}
 use Rattle.std.specs.Prelude.{slice_index}
 use Rattle.std.proofs.lemmas.Bool.{ne_eqb}
 use Rattle.pic_chip.specs.State.{State}
@@ -12,11 +12,11 @@ use Rattle.pic_chip.proofs.Stack.{IsOn}
 use Rattle.chip_trace.specs.Arriving.{is_kept}
 use Rattle.chip_trace.specs.Context.{HasRegisters, IsBack, is_context, is_handlers}
 use Rattle.chip_trace.proofs.Effects.{reads_silently}
-use Rattle.chip_trace.proofs.Image.{IsImage}
+use Rattle.chip_trace.proofs.Image.{IsImage, words_length}
 use Rattle.chip_trace.proofs.Past.{IsApart, IsForeign, IsSomebodys, apart_of, ahead_past, written_apart}
-use Rattle.chip_trace.proofs.Relations.{Ground, Sees, IsAt}
+use Rattle.chip_trace.proofs.Relations.{Ground, Sees, IsAt, words}
 use Rattle.chip_trace.proofs.Sound.{IsGood}
-use Rattle.chip_trace.proofs.Stands.{Trail, IsTraced}
+use Rattle.chip_trace.proofs.Stands.{Trail, IsHeld, IsTraced, main_words}
 
 -- ---- one state like another
 pub same_registers : (s : State) → HasRegisters s s
@@ -70,6 +70,25 @@ on_like (w ∷ ws) xs ys k same a =
     let e : k + 0 ≡ k = omega arith in
     (sym (ap (slice_index ys) e) ∙ same 0 (omega arith) ∙ ap (slice_index xs) e ∙ a.0, on_like ws xs ys (suc k) (λ j lt. let f : k + suc j ≡ suc k + j = omega arith in sym (ap (slice_index ys) f) ∙ same (suc j) (omega arith) ∙ ap (slice_index xs) f) a.1)
 
+-- ---- so many words of a stack
+pub take_long : (n : ℕ) (ys : List ℕ) → n ≤ length ys → length (take n ys) ≡ n
+take_long zero ys le = refl
+take_long (suc n) [] le = absurd (omega arith)
+take_long (suc n) (y ∷ ys) le = let e = take_long n ys (omega arith) in omega arith
+
+pub on_take : (n : ℕ) (ys xs : List ℕ) (k : ℕ) → n ≤ length ys → ((j : ℕ) → j < n → slice_index xs (k + j) ≡ slice_index ys j) → IsOn xs k (take n ys)
+on_take zero ys xs k le same = tt
+on_take (suc n) [] xs k le same = absurd (omega arith)
+on_take (suc n) (y ∷ ys) xs k le same =
+    let e : k ≡ k + 0 = omega arith in
+    (ap (slice_index xs) e ∙ same 0 (omega arith), on_take n ys xs (suc k) (omega arith) (λ j lt. let f : suc k + j ≡ k + suc j = omega arith in ap (slice_index xs) f ∙ same (suc j) (omega arith)))
+
+pub take_on : (n : ℕ) (ys xs : List ℕ) (k j : ℕ) → n ≤ length ys → IsOn xs k (take n ys) → j < n → slice_index xs (k + j) ≡ slice_index ys j
+take_on zero ys xs k j le on lt = absurd (omega arith)
+take_on (suc n) [] xs k j le on lt = absurd (omega arith)
+take_on (suc n) (y ∷ ys) xs k zero le on lt = let e : k + 0 ≡ k = omega arith in ap (slice_index xs) e ∙ on.0
+take_on (suc n) (y ∷ ys) xs k (suc j) le on lt = let e : k + suc j ≡ suc k + j = omega arith in ap (slice_index xs) e ∙ take_on n ys xs (suc k) j (omega arith) on.1 (omega arith)
+
 -- a thread's registers, of a state like one that has them
 pub seen_as : (k s : State) (r : Registers) → HasRegisters k s → Sees k r → Sees s r
 seen_as k s r a b = record {
@@ -100,6 +119,27 @@ main_reads : (o : Owner) → o ≡ Of Main → reads_silently false o ≡ true
 main_reads o e = ap (reads_silently false) e
 
 module _ (g : Setting) (h : Ground) (image input : List ℕ) (hd : ℕ) (x : IsImage g h image input hd) where
+  -- Where a thread stands as at one state, it stands at one that goes on as that.
+  pub at_back : (u : Thread) (k s : State) → IsAt g h u [] k → IsBack k s → IsAt g h u [] s
+  at_back u k s a b =
+      let ws = words g h u.stack [] in
+      let d1 = a.depth in let d2 = b.depth in
+      record {
+        pc = b.pc ∙ a.pc;
+        sees = seen_as k s u.registers b.registers a.sees;
+        stack = on_like ws k.stack s.stack 0 (λ j lt. let e : 0 + j ≡ j = omega arith in ap (slice_index s.stack) e ∙ b.stack j (omega arith) ∙ sym (ap (slice_index k.stack) e)) a.stack;
+        depth = omega arith;
+      }
+
+  -- as many words of main's are in use as calls wait, and one where it is
+  pub main_long : (u : Thread) (k : State) → IsHeld g h image hd x.vector u k → length u.stack ≤ 8 → (k.pushes - k.pops ≡ length u.stack) × (length (main_words g h image hd x.vector k) ≡ suc (length u.stack))
+  main_long u k held le =
+      let d = held.at.depth in let l = words_length g h image input hd x u.stack [] in
+      let n : k.pushes - k.pops ≡ length u.stack = omega arith in
+      let c = held.ranged.stack in
+      let t = take_long (k.pushes - k.pops) k.stack (omega arith) in
+      (n, omega arith)
+
   pub traced_here : (s : State) (ended : Bool) (u : Thread) (m : Memory) → IsGood g false u → (ended ≡ false → lands_at g.program u.at ≡ true) → (ended ≡ false → IsAt g h u [] s) → ((b : ℕ) → owner g.program.layout b ≢ Nobody → slice_index s.ram b ≡ m b)
       → IsTraced g h image hd x.vector (from_here s) ended u m
   traced_here s ended u m good lands at bytes = record {

@@ -264,6 +264,7 @@ module _ (g : Setting) (h : Ground) (c : chip.Setting) (hd : ℕ) (x : IsImage g
             record {
               index = 0;
               ahead = 0;
+              spent = 0;
               early = raised p t0;
               thread = t0.main;
               memory = memory_at;
@@ -279,6 +280,7 @@ module _ (g : Setting) (h : Ground) (c : chip.Setting) (hd : ℕ) (x : IsImage g
               entries = sym (entered_none at (omega arith));
               later = first_later traces c.arrivals at none;
               acts = (refl, refl);
+              enough = omega arith;
               cheap = omega arith;
               account = omega arith;
               since = inl (omega arith);
@@ -314,7 +316,7 @@ module _ (g : Setting) (h : Ground) (c : chip.Setting) (hd : ℕ) (x : IsImage g
       due_at n = control.is_due (control_of (chip_interrupts.raised (arriving c.arrivals n) (moment c n).state))
 
       module _ (n from to debt debt' : ℕ) (le : at ≤ n) (lt : n < N) (kn : Known from to n debt)
-          (since : IsSince g kn.ground c.image hd kn.image_then.vector debt' kn.stands.ahead kn.stands.idle (raised (arriving c.arrivals n) kn.stands.early) kn.stands.thread kn.stands.memory) where
+          (since : IsSince g kn.ground c.image hd kn.image_then.vector debt' kn.stands.spent kn.stands.idle (raised (arriving c.arrivals n) kn.stands.early) kn.stands.thread kn.stands.memory) where
         L_is : length (traces n) ≡ length kn.stands.early.world.trace
         L_is = same_length (traces n) kn.stands.early.world.trace kn.stands.shows.trace
 
@@ -383,20 +385,20 @@ module _ (g : Setting) (h : Ground) (c : chip.Setting) (hd : ℕ) (x : IsImage g
         L_same : length (traces n) ≡ length kn.stands.early.world.trace
         L_same = same_length (traces n) kn.stands.early.world.trace kn.stands.shows.trace
 
-        ready_now : St g kn.ground c.image c.inputs hd kn.image_then c.watch kn.halt_then e t0 at from to (P (suc n)) (length (at_entries n)) n (raised_at c n) (kn.stands.ahead + kn.stands.idle) kn.trail
+        ready_now : St g kn.ground c.image c.inputs hd kn.image_then c.watch kn.halt_then e t0 at from to (P (suc n)) (length (at_entries n)) n (raised_at c n) (kn.stands.spent + kn.stands.idle) kn.trail
         ready_now =
-            arrives g kn.ground c.image c.inputs hd kn.image_then c.watch kn.halt_then e t0 at from to (P n) (P (suc n)) (arriving c.arrivals n) (length (at_entries n)) n (moment c n) debt (kn.stands.ahead + kn.stands.idle) kn.trail kn.stands
+            arrives g kn.ground c.image c.inputs hd kn.image_then c.watch kn.halt_then e t0 at from to (P n) (P (suc n)) (arriving c.arrivals n) (length (at_entries n)) n (moment c n) debt (kn.stands.spent + kn.stands.idle) kn.trail kn.stands
             (subst (λ z. Extends (P n) z (arriving c.arrivals n) (P (suc n))) L_same (schedule_goes_on traces c.arrivals n))
             (λ j lj. let l = L_same in none_later traces c.arrivals n (λ i li. kn.stands.later i (omega arith)) j (omega arith)) (inl (omega arith))
 
         pub touches_on : TouchesThere g.program c.image (chip_interrupts.begun (arriving c.arrivals n) (moment c n).state)
-        touches_on = touches_now g kn.ground c.image c.inputs hd kn.image_then c.watch kn.halt_then e t0 at from to (P (suc n)) (length (at_entries n)) n (raised_at c n) (kn.stands.ahead + kn.stands.idle) kn.trail ready_now (clean_at n lt from to) only (due_at n) refl
+        touches_on = touches_now g kn.ground c.image c.inputs hd kn.image_then c.watch kn.halt_then e t0 at from to (P (suc n)) (length (at_entries n)) n (raised_at c n) (kn.stands.spent + kn.stands.idle) kn.trail ready_now (clean_at n lt from to) only (due_at n) refl
 
         pub stands_on : (end : ℕ) → IsBelow g h end → (moment c n).state.pc < end
-        stands_on end b = stands_below g kn.ground c.image c.inputs hd kn.image_then c.watch kn.halt_then e t0 at from to (P (suc n)) (length (at_entries n)) n (raised_at c n) (kn.stands.ahead + kn.stands.idle) kn.trail ready_now (clean_at n lt from to) only end (kn.below end b)
+        stands_on end b = stands_below g kn.ground c.image c.inputs hd kn.image_then c.watch kn.halt_then e t0 at from to (P (suc n)) (length (at_entries n)) n (raised_at c n) (kn.stands.spent + kn.stands.idle) kn.trail ready_now (clean_at n lt from to) only end (kn.below end b)
 
         pub below_on : (end : ℕ) → IsBelow g h end → (chip_interrupts.begun (arriving c.arrivals n) (moment c n).state).pc < end
-        below_on end b = below_now g kn.ground c.image c.inputs hd kn.image_then c.watch kn.halt_then e t0 at from to (P (suc n)) (length (at_entries n)) n (raised_at c n) (kn.stands.ahead + kn.stands.idle) kn.trail ready_now (clean_at n lt from to) only end (kn.below end b) (due_at n) refl
+        below_on end b = below_now g kn.ground c.image c.inputs hd kn.image_then c.watch kn.halt_then e t0 at from to (P (suc n)) (length (at_entries n)) n (raised_at c n) (kn.stands.spent + kn.stands.idle) kn.trail ready_now (clean_at n lt from to) only end (kn.below end b) (due_at n) refl
 
       -- ---- every moment from main's first one on
       pub known : (d n : ℕ) → n ≡ d + at → n ≤ N → (debt : ℕ) × Known 100 at n debt
@@ -407,4 +409,4 @@ module _ (g : Setting) (h : Ground) (c : chip.Setting) (hd : ℕ) (x : IsImage g
       known (suc d) (suc n) is le =
           let k = known d n (omega arith) (omega arith) in
           let st = k.1.stands in
-          (st.ahead + st.idle, one_on n 100 at k.0 (st.ahead + st.idle) (omega arith) (omega arith) k.1 (inl (omega arith)))
+          (st.spent + st.idle, one_on n 100 at k.0 (st.spent + st.idle) (omega arith) (omega arith) k.1 (inl (omega arith)))

@@ -4,3 +4,5 @@ pub mod Starting
 pub mod Keeping
 pub mod Within
 pub mod Context
+pub mod Reads
+pub mod Looking

@@ -10,17 +10,19 @@
 //! end of the code, and touches a core register, a device register that the code names, a byte of an object or a frame, or by its own
 //! operand one of 70h to 7Fh; where objects and frames end below 100h, RP1 and IRP are 0 before it. And the run from reset comes to main
 //! within 4,096 instructions; until then no device register is accessed and no interrupt is taken, and each static object then holds its
-//! first bytes.
+//! first bytes. A read of a table in program memory brings its byte, by itself: the runs above are of code that reads none.
 #![tactic(auto)]
 
 mod handler;
 mod start;
+mod tables;
 
 ghost use Rattle.chip_trace.specs.Arriving.{Arriving, Fitting};
 ghost use Rattle.chip_trace.specs.Within.{KeepingWithin};
 
 pub use handler::{context_returns, handler_keeps, main_goes_past, selects_hold_again};
 pub use start::main_is_met;
+pub use tables::table_is_read;
 
 /// An image whose start block has done its part follows the early run of its symbolic code, whenever interrupts arrive, with what the
 /// handler finds in the registers at its entries.

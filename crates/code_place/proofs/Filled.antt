@@ -9,7 +9,7 @@ use Rattle.sym_code.specs.declared.code.Target.{Target}
 use Rattle.code_place.specs.Image.{written, Holds}
 use Rattle.code_place.specs.Instructions.{words}
 use Rattle.code_place.specs.Marks.{target_by, AreMarks}
-use Rattle.code_place.specs.Places.{target_for, HoldsBlocks, IsErasedElsewhere}
+use Rattle.code_place.specs.Places.{target_for, HoldsBlocks, IsFree}
 use Rattle.sym_code.specs.Words.{words_in}
 use Rattle.code_place.specs.Sizes.{Stands, Fit}
 use Rattle.code_place.specs.declared.marks.Marks.{Marks}
@@ -40,7 +40,7 @@ next_after blocks at fit i b s t found here there =
     (subst Q there (subst P here (fit i b found))).2
 
 -- and before all that stand behind it
-starts_after : (blocks : List SymBlock) (at : List ℕ) → Fit blocks at → (j : ℕ) (b : SymBlock) (s : ℕ) → slice_get blocks j ≡ Some b → slice_get at j ≡ Some s → (i : ℕ) (c : SymBlock) (t : ℕ) → j < i → slice_get blocks i ≡ Some c → slice_get at i ≡ Some t → s + words_in b.list.items ≤ t
+pub starts_after : (blocks : List SymBlock) (at : List ℕ) → Fit blocks at → (j : ℕ) (b : SymBlock) (s : ℕ) → slice_get blocks j ≡ Some b → slice_get at j ≡ Some s → (i : ℕ) (c : SymBlock) (t : ℕ) → j < i → slice_get blocks i ≡ Some c → slice_get at i ≡ Some t → s + words_in b.list.items ≤ t
 starts_after blocks at fit j b s found here zero c t less there stands = absurd (omega (arith, less))
 starts_after blocks at fit j b s found here (suc i) c t less there stands =
     let one : i + 1 ≡ suc i = omega arith in
@@ -108,5 +108,5 @@ all_hold placed ys blocks at n image same ends filled k block start found here =
     let inside = slice_get_within blocks k block found in
     filled.holds k block start (omega (arith, long, ends, inside)) found here
 
-pub rest_erased : (placed : Placed) (blocks : List SymBlock) (at : List ℕ) (n : ℕ) (image : List ℕ) → Filled placed blocks at n image → IsErasedElsewhere blocks at image
+pub rest_erased : (placed : Placed) (blocks : List SymBlock) (at : List ℕ) (n : ℕ) (image : List ℕ) → Filled placed blocks at n image → (address : ℕ) → address < 8192 → IsFree blocks at address → slice_index image address ≡ 0x3fff
 rest_erased placed blocks at n image filled address below free = filled.erased address below (λ k block start less. free k block start)

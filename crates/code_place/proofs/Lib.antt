@@ -2,6 +2,7 @@ pub mod Apart
 pub mod Blocks
 pub mod Filled
 pub mod Layouts
+pub mod Listed
 pub mod Maps
 pub mod Marked
 pub mod Named
@@ -9,4 +10,5 @@ pub mod Places
 pub mod Placing
 pub mod Room
 pub mod Stands
+pub mod Tabled
 pub mod Written

@@ -1,5 +1,5 @@
 -- The instruction of the chip that a symbolic one stands for, where each byte and each target that it names has an address.
-use Rattle.std.specs.Prelude.{ℕ, ◌/◌, ◌%◌, nat_eq, Bool, List, [], ◌∷◌, ◌++◌, map, Option, unwrap_or, if◌then◌else◌}
+use Rattle.std.specs.Prelude.{ℕ, ◌+◌, ◌/◌, ◌%◌, nat_eq, Bool, List, [], ◌∷◌, ◌++◌, map, Option, unwrap_or, if◌then◌else◌}
 use Rattle.pic_isa.specs.Table.{word_of}
 use Rattle.pic_isa.specs.declared.Ins.{Ins}
 use Rattle.pic_isa.specs.declared.Ins.TheVariants as isa
@@ -16,6 +16,7 @@ use Rattle.sym_code.specs.declared.code.PlainOperation.{PlainOperation}
 use Rattle.sym_code.specs.declared.code.PlainOperation.TheVariants as plain_ops
 use Rattle.sym_code.specs.declared.code.Literal.{Literal}
 use Rattle.sym_code.specs.declared.code.Literal.TheVariants as values
+use Rattle.sym_code.specs.Programs.{own_place}
 use Rattle.sym_code.specs.Touching.{is_file}
 use Rattle.sym_code.specs.declared.code.BankBit.{BankBit}
 use Rattle.sym_code.specs.declared.code.BankBit.TheVariants as bank_bits
@@ -94,9 +95,13 @@ literal_of placed (values.High byte) = known (address_of placed byte) / 256
 abbrev pub reach : Option ℕ → ℕ
 reach target = known target % 2048
 
--- A read of a table is a call, but no table has an address: no code in which one is read is put anywhere.
-abbrev pub no_call : Ins
-no_call = isa.Call 0
+-- Of the words of a block that reads a table, those that read it are the last ten of 76.
+abbrev pub read_place : ℕ
+read_place = 66
+
+-- A read of a table is a call of these words, by where the block's own place is.
+abbrev pub read_call : Option ℕ → Ins
+read_call own = isa.Call ((known own + read_place) % 2048)
 
 abbrev pub rows : Placed → (Target → Option ℕ) → Sym → List Ins
 rows placed at (syms.Label label) = []
@@ -110,7 +115,7 @@ rows placed at (syms.Literal op value) = literal_row op (literal_of placed value
 rows placed at (syms.Plain op) = plain_row op ∷ []
 rows placed at (syms.Call target) = isa.Call (reach (at target)) ∷ []
 rows placed at (syms.Goto target) = isa.Goto (reach (at target)) ∷ []
-rows placed at (syms.Table table root) = no_call ∷ []
+rows placed at (syms.Table table root) = read_call (at own_place) ∷ []
 
 -- the words of a list, one behind the other
 abbrev pub words : Placed → (Target → Option ℕ) → List Sym → List ℕ

@@ -8,3 +8,4 @@ pub mod Pages
 pub mod Places
 pub mod Rows
 pub mod Sizes
+pub mod Tables

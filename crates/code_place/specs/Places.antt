@@ -4,7 +4,7 @@ use Rattle.std.specs.Prelude.{◌≡◌, ℕ, ◌+◌, ◌<◌, ◌≤◌, ◌�
 use Rattle.std.specs.Option.{option_or}
 use Rattle.pic_isa.specs.Table.{word_of}
 use Rattle.pic_map.specs.declared.Placed.{Placed}
-use Rattle.sym_code.specs.Programs.{same_name, same_label}
+use Rattle.sym_code.specs.Programs.{own_place, same_name, same_label}
 use Rattle.sym_code.specs.declared.code.BlockName.{BlockName}
 use Rattle.sym_code.specs.declared.code.BlockName.TheVariants as names
 use Rattle.sym_code.specs.declared.code.Label.{Label}
@@ -20,6 +20,7 @@ use Rattle.code_place.specs.Addresses.{address_of, file_address}
 use Rattle.code_place.specs.Image.{Holds}
 use Rattle.code_place.specs.Instructions.{rows, words}
 use Rattle.sym_code.specs.Words.{words_of_one, words_in}
+use Rattle.code_place.specs.declared.tables.TableAt.{TableAt}
 
 -- ---- labels and blocks
 abbrev pub label_of : Sym → Option Label
@@ -96,38 +97,50 @@ HoldsInstructions placed blocks at image = (k : ℕ) (block : SymBlock) (start :
 abbrev pub IsFree : List SymBlock → List ℕ → ℕ → Type 0
 IsFree blocks at address = (k : ℕ) (block : SymBlock) (start : ℕ) → slice_get blocks k ≡ Some block → slice_get at k ≡ Some start → (address < start) ⊎ (start + words_in block.list.items ≤ address)
 
--- all other words of the memory are as after an erase: every bit is 1 (Microchip data sheet DS39582, program memory)
-abbrev pub IsErasedElsewhere : List SymBlock → List ℕ → List ℕ → Type 0
-IsErasedElsewhere blocks at image = (address : ℕ) → address < 8192 → IsFree blocks at address → slice_index image address ≡ 0x3fff
-
 -- ---- names
 abbrev pub HasLiteral : Placed → Literal → Type 0
 HasLiteral placed (values.Number number) = Unit {0}
 HasLiteral placed (values.Low byte) = IsSome (address_of placed byte)
 HasLiteral placed (values.High byte) = IsSome (address_of placed byte)
 
--- what an instruction names has an address; a table has none
-abbrev pub HasAddress : Placed → (Target → Option ℕ) → Sym → Type 0
-HasAddress placed target (syms.Label label) = Unit {0}
-HasAddress placed target (syms.SelectBank bit on) = Unit {0}
-HasAddress placed target (syms.SelectPage bit to) = IsSome (target to)
-HasAddress placed target (syms.File op file into) = IsSome (file_address placed file)
-HasAddress placed target (syms.Movwf file) = IsSome (file_address placed file)
-HasAddress placed target (syms.Clrf file) = IsSome (file_address placed file)
-HasAddress placed target (syms.Bit op file b) = IsSome (file_address placed file)
-HasAddress placed target (syms.Literal op value) = HasLiteral placed value
-HasAddress placed target (syms.Plain op) = Unit {0}
-HasAddress placed target (syms.Call to) = IsSome (target to)
-HasAddress placed target (syms.Goto to) = IsSome (target to)
-HasAddress placed target (syms.Table table root) = ⊥
+-- the table is one of these, and the block's own place has an address
+abbrev pub HasTable : List TableAt → (Target → Option ℕ) → ℕ → Type 0
+HasTable [] target table = ⊥
+HasTable (x ∷ tables) target table = IsSome (target own_place) × IsSome (slice_get (x ∷ tables) table)
+
+-- what an instruction names has an address, where these are the tables
+abbrev pub HasAddressWith : List TableAt → Placed → (Target → Option ℕ) → Sym → Type 0
+HasAddressWith tables placed target (syms.Label label) = Unit {0}
+HasAddressWith tables placed target (syms.SelectBank bit on) = Unit {0}
+HasAddressWith tables placed target (syms.SelectPage bit to) = IsSome (target to)
+HasAddressWith tables placed target (syms.File op file into) = IsSome (file_address placed file)
+HasAddressWith tables placed target (syms.Movwf file) = IsSome (file_address placed file)
+HasAddressWith tables placed target (syms.Clrf file) = IsSome (file_address placed file)
+HasAddressWith tables placed target (syms.Bit op file b) = IsSome (file_address placed file)
+HasAddressWith tables placed target (syms.Literal op value) = HasLiteral placed value
+HasAddressWith tables placed target (syms.Plain op) = Unit {0}
+HasAddressWith tables placed target (syms.Call to) = IsSome (target to)
+HasAddressWith tables placed target (syms.Goto to) = IsSome (target to)
+HasAddressWith tables placed target (syms.Table table root) = HasTable tables target table
 
 -- the same of each instruction of a list
+abbrev pub HaveAddressesWith : List TableAt → Placed → (Target → Option ℕ) → List Sym → Type 0
+HaveAddressesWith tables placed target [] = Unit {0}
+HaveAddressesWith tables placed target (s ∷ list) = HasAddressWith tables placed target s × HaveAddressesWith tables placed target list
+
+abbrev pub BlocksHaveAddressesWith : List TableAt → Placed → List SymBlock → List ℕ → Type 0
+BlocksHaveAddressesWith tables placed blocks at =
+    (k : ℕ) (block : SymBlock) (start : ℕ) → slice_get blocks k ≡ Some block → slice_get at k ≡ Some start → HaveAddressesWith tables placed (target_for blocks at block start) block.list.items
+
+-- where there is no table
+abbrev pub HasAddress : Placed → (Target → Option ℕ) → Sym → Type 0
+HasAddress placed target s = HasAddressWith [] placed target s
+
 abbrev pub HaveAddresses : Placed → (Target → Option ℕ) → List Sym → Type 0
-HaveAddresses placed target [] = Unit {0}
-HaveAddresses placed target (s ∷ list) = HasAddress placed target s × HaveAddresses placed target list
+HaveAddresses placed target list = HaveAddressesWith [] placed target list
 
 abbrev pub BlocksHaveAddresses : Placed → List SymBlock → List ℕ → Type 0
-BlocksHaveAddresses placed blocks at = (k : ℕ) (block : SymBlock) (start : ℕ) → slice_get blocks k ≡ Some block → slice_get at k ≡ Some start → HaveAddresses placed (target_for blocks at block start) block.list.items
+BlocksHaveAddresses placed blocks at = BlocksHaveAddressesWith [] placed blocks at
 
 -- main's block and the label at which it halts have addresses
 abbrev pub HasEnds : List SymBlock → List ℕ → Type 0

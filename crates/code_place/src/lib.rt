@@ -1,10 +1,11 @@
 //! Where blocks of code stand: in the pages of program memory, in order, each whole in one page; and the image of a program
 //! whose blocks stand there.
 //!
-//! In: how many words each block is stated to have; and symbolic code, and where its static objects and frames stand. Out: the
-//! address of each block, or why they have no room; and the image of program memory.
+//! In: how many words each block is stated to have; and symbolic code, where its static objects and frames stand, and where its tables
+//! do. Out: the address of each block, or why they have no room; and the image of program memory.
 //! The promise: the addresses are those of the placing, and each error comes exactly where its cause holds. The words of each
-//! block are at its address, every other word is erased, and all that is named has the address of the first that has that name.
+//! block are at its address, in a block that reads a table the ten words for that are in their place, and the list of each table is at its
+//! address, one word a byte; every other word is erased. All that is named has the address of the first that has that name.
 #![tactic(auto)]
 
 ghost use Rattle.std.specs.Prelude.{◌≡◌, ℕ, ◌+◌, ◌%◌, ◌<◌, ◌≤◌, ◌^◌, length, slice_index, sum, IfOk, MatchOption};
@@ -16,12 +17,14 @@ mod address;
 mod assembly;
 mod fitting;
 mod marks;
+mod tables;
 mod words;
 
 pub use address::address_of;
 pub use assembly::{Assembled, assemble};
 pub use fitting::real_words;
 use std::alloc::{AllocError, Global};
+pub use tables::TableAt;
 
 // A call and a jump reach within a page of program memory (Microchip data sheet DS39582, PCL and PCLATH).
 const PAGE_WORDS: u64 = 2048;

@@ -1,24 +1,25 @@
 //! The instruction of the chip that a symbolic one stands for.
 
-ghost use Rattle.std.specs.Prelude.{◌≡◌, ◌<◌, ◌%◌, ℕ, true, length, map, Option, Some, None, IsSome};
+ghost use Rattle.std.specs.Prelude.{◌≡◌, ◌+◌, ◌<◌, ◌%◌, ℕ, true, length, map, Option, Some, None, IsSome};
 ghost use Rattle.std.specs.BTreeMap.{get};
 ghost use Rattle.pic_isa.specs.Table.{IsWellFormed};
 ghost use Rattle.sym_code.specs.WellFormed.{is_well_formed};
 ghost use Rattle.code_place.specs.Addresses as placing;
 ghost use Rattle.code_place.specs.Instructions as stated;
 ghost use Rattle.code_place.specs.Marks.{target_in};
-ghost use Rattle.code_place.specs.Places.{HasAddress, HasLiteral};
+ghost use Rattle.code_place.specs.Places.{HasAddressWith, HasLiteral};
 ghost use Rattle.code_place.specs.Rows.{list_of, MayBeWellFormed};
 ghost use Rattle.sym_code.specs.Words.{words_of_one};
 
 use crate::address::{address_of, file_address};
 use crate::marks::Marks;
+use crate::tables::{READ_PLACE, TableAt};
 use core_code::Byte;
 use pic_isa::Ins;
 use pic_map::Placed;
 use std::collections::BTreeMap;
 use sym_code::{
-    BankBit, BitOperation, FileOperation, Literal, LiteralOperation, Operand, PageBit,
+    BankBit, BitOperation, FileOperation, Label, Literal, LiteralOperation, Operand, PageBit,
     PlainOperation, Sym, Target, is_file,
 };
 
@@ -28,6 +29,7 @@ pub struct Scope<'a> {
     pub placed: &'a Placed,
     pub marks: &'a Marks,
     pub inner: &'a BTreeMap<usize, u16>,
+    pub tables: &'a [TableAt],
 }
 
 impl<'a> Scope<'a> {
@@ -70,7 +72,7 @@ impl<'a> Scope<'a> {
     /// The instruction that a symbolic one stands for, all that it names having an address. A label is none.
     pub fn row(&self, sym: Sym) -> Option<Ins>
         requires fits { is_well_formed sym ≡ true }
-        requires named { HasAddress self.now.placed.now (target_in self.now.marks.now self.now.inner.now) sym }
+        requires named { HasAddressWith self.now.tables.now self.now.placed.now (target_in self.now.marks.now self.now.inner.now) sym }
         ensures value { list_of result ≡ stated.rows self.now.placed.now (target_in self.now.marks.now self.now.inner.now) sym }
         ensures fit { MayBeWellFormed result }
         ensures count { length (list_of result) ≡ words_of_one sym }
@@ -91,10 +93,22 @@ impl<'a> Scope<'a> {
             Sym::Goto(target) => Some(Ins::Goto {
                 k: self.target(target) % 2048,
             }),
-            // No table has an address.
-            Sym::Table { .. } => unreachable!(),
+            Sym::Table { .. } => Some(Ins::Call {
+                k: read_field(self.target(OWN_PLACE)),
+            }),
         }
     }
+}
+
+// The label at the front of a block that reads a table.
+const OWN_PLACE: Target = Target::Label(Label::Inner(0));
+
+// The field of the call of the words that read a table, where the block's own place is at an address.
+fn read_field(own: u16) -> u16
+    ensures value { result ≡ (own + stated.read_place) % 2048 }
+    ensures range { result < 2048 }
+{
+    ((own as u32 + READ_PLACE as u32) % 2048) as u16
 }
 
 fn bit_set(f: u8, b: u8, on: bool) -> Ins

@@ -6,8 +6,10 @@ use Rattle.std.proofs.lemmas.List.Sums.{sum_by-cons}
 use Rattle.chip_trace.specs.Arriving.{is_near, is_small}
 use Rattle.code_place.specs.Addresses.{address_of, in_memory, object_byte, frame_byte, result_byte}
 use Rattle.code_place.specs.Image.{Holds}
-use Rattle.code_place.specs.Instructions.{file_row, bit_row, literal_row, plain_row, bank_row, page_row, bit_set, known, low, literal_of, reach, rows, no_call}
-use Rattle.code_place.specs.Places.{target_for, HoldsInstructions, IsErasedElsewhere, IsFree}
+use Rattle.code_place.specs.Instructions.{file_row, bit_row, literal_row, plain_row, bank_row, page_row, bit_set, known, low, literal_of, reach, rows, read_call}
+use Rattle.code_place.specs.Places.{target_for, HoldsInstructions, IsFree}
+use Rattle.code_place.specs.Tables.{IsErasedElsewhere}
+use Rattle.code_place.specs.declared.tables.TableAt.{TableAt}
 use Rattle.core_code.specs.declared.code.Byte.{Byte}
 use Rattle.core_code.specs.declared.code.Byte.TheVariants as bytes
 use Rattle.pic_chip.specs.Instructions.{is_modelled}
@@ -21,6 +23,7 @@ use Rattle.pic_map.specs.declared.ObjLine.{ObjLine}
 use Rattle.pic_map.specs.declared.Placed.{Placed}
 use Rattle.pic_world.specs.declared.Root.{Root}
 use Rattle.pic_world.specs.declared.Root.TheVariants.{Main, Isr}
+use Rattle.sym_code.specs.Programs.{own_place}
 use Rattle.sym_code.specs.Touching.{is_file}
 use Rattle.sym_code.specs.WellFormed.{is_well_formed, are_well_formed}
 use Rattle.sym_code.specs.Words.{words_of_one, words_in}
@@ -147,7 +150,7 @@ module _ (placed : Placed) where
   has_row target (syms.Label label) one fits small = absurd (omega (arith, one))
   has_row target (syms.SelectBank which on) one fits small = record { row = bank_row which on; is = refl; good = bank_good which on }
   has_row target (syms.SelectPage which to) one fits small = record { row = page_row which (known (target to)); is = refl; good = page_good which (known (target to)) }
-  has_row target (syms.Table table root) one fits small = record { row = no_call; is = refl; good = record { fits = omega arith; modelled = refl } }
+  has_row target (syms.Table table root) one fits small = record { row = read_call (target own_place); is = refl; good = record { fits = omega arith; modelled = refl } }
   has_row target (syms.File op y into) one fits small = record { row = file_row op (low placed y) (is_file into); is = refl; good = file_good op (low placed y) (is_file into) (omega arith) }
   has_row target (syms.Movwf y) one fits small = record { row = isa.Movwf (low placed y); is = refl; good = record { fits = omega arith; modelled = refl } }
   has_row target (syms.Clrf y) one fits small = record { row = isa.Clrf (low placed y); is = refl; good = record { fits = omega arith; modelled = refl } }
@@ -203,7 +206,7 @@ well_formed_at (x ∷ xs) zero s all is = ap is_well_formed (sym (some_is x s is
 well_formed_at (x ∷ xs) (suc i) s all is = well_formed_at xs i s (and_parts (is_well_formed x) (are_well_formed xs) all).1 is
 
 -- ---- the image
-module _ (placed : Placed) (made : List SymBlock) (at image : List ℕ) (words : HoldsInstructions placed made at image) (erased : IsErasedElsewhere made at image)
+module _ (placed : Placed) (made : List SymBlock) (at image : List ℕ) (words : HoldsInstructions placed made at image) (erased : IsErasedElsewhere made at [] image)
     (small : (k : ℕ) (block : SymBlock) → slice_get made k ≡ Some block → (i : ℕ) (s : Sym) → slice_get block.list.items i ≡ Some s → is_small s ≡ true) where
   covered : (k : ℕ) (block : SymBlock) (start a : ℕ) → slice_get made k ≡ Some block → slice_get at k ≡ Some start → start ≤ a → a < start + words_in block.list.items
       → is_modelled (row_of (slice_index image a)) ≡ true
@@ -223,6 +226,9 @@ module _ (placed : Placed) (made : List SymBlock) (at image : List ℕ) (words :
     false_true : false ≡ true → ⊥
     false_true e = absurd (cc)
 
+    no_table : (x : TableAt) → None ≡ Some x → ⊥
+    no_table x e = absurd (cc)
+
     erased_modelled : is_modelled (row_of 0x3fff) ≡ true
     erased_modelled = refl
 
@@ -236,4 +242,4 @@ module _ (placed : Placed) (made : List SymBlock) (at image : List ℕ) (words :
             | inr past ↦ inr past
           ]
         ]) in
-        absurd (false_true (sym e ∙ ap (λ (w : ℕ). is_modelled (row_of w)) (erased a lt free) ∙ erased_modelled))
+        absurd (false_true (sym e ∙ ap (λ (w : ℕ). is_modelled (row_of w)) (erased a lt free (λ k block start r x found here is has. absurd (no_table x has)) (λ t x has. absurd (no_table x has))) ∙ erased_modelled))

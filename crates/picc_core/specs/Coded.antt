@@ -1,5 +1,5 @@
 -- What is known of the code of a compiled program, from byte code on: what each pass promises of its part.
-use Rattle.std.specs.Prelude.{ℕ, ◌≡◌, Bool, List, map, Option, Some}
+use Rattle.std.specs.Prelude.{ℕ, ◌≡◌, Bool, List, [], map, Option, Some}
 use Rattle.std.specs.List.{All}
 use Rattle.c_typed.specs.Trees.{Program}
 use Rattle.call_graph.specs.Numbers.{handler_at}
@@ -13,8 +13,9 @@ use Rattle.sym_code.specs.declared.code.BlockName.TheVariants.{Copy}
 use Rattle.sym_code.specs.declared.code.Label.TheVariants.{Halt}
 use Rattle.sym_code.specs.declared.code.SymBlock.{SymBlock}
 use Rattle.code_place.specs.Layouts.{layout_of}
-use Rattle.code_place.specs.Places.{block_place, label_place, BlocksHaveAddresses, HoldsInstructions, IsErasedElsewhere, TargetsStand}
+use Rattle.code_place.specs.Places.{block_place, label_place, BlocksHaveAddresses, HoldsInstructions, TargetsStand}
 use Rattle.code_place.specs.Sizes.{Fit}
+use Rattle.code_place.specs.Tables.{IsErasedElsewhere}
 use Rattle.flow_facts.specs.Selects.{HasSelects}
 use Rattle.lean_pass.specs.Made.{IsLean}
 use Rattle.narrow_code.specs.Links.{is_lent}
@@ -71,7 +72,7 @@ pub record IsCoded (p : Program) (copies : List FnCopy) (placed : Placed) (at im
   pub fit : Fit made at
   pub named : BlocksHaveAddresses placed made at
   pub words : HoldsInstructions placed made at image
-  pub erased : IsErasedElsewhere made at image
+  pub erased : IsErasedElsewhere made at [] image
   pub targets : TargetsStand made at
   pub begins : block_place made at (Copy 0) ≡ Some main
   pub ends : label_place made at Halt ≡ Some halt

@@ -55,7 +55,7 @@ fn coded(
 {
     let core = lower(alloc, typed, copies)?;
     let program = symbolic_by(alloc, typed, &core, copies, placed, at, saving)?;
-    let made = assemble(alloc, &program, at, placed)?;
+    let made = assemble(alloc, &program, at, placed, &[])?;
     Ok(made)
 }
 

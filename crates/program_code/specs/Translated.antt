@@ -1,6 +1,6 @@
 -- What all passes together make of a typed program: its copies, byte code, blocks without and with selects, places, addresses, image and
 -- map, by what each pass promises of its part.
-use Rattle.std.specs.Prelude.{ℕ, ◌≡◌, ◌≤◌, List, length, map, Some}
+use Rattle.std.specs.Prelude.{ℕ, ◌≡◌, ◌≤◌, List, [], length, map, Some}
 use Rattle.std.specs.List.{AllPairs}
 use Rattle.c_typed.specs.Chains.{graph_of}
 use Rattle.c_typed.specs.Trees.{Program}
@@ -20,7 +20,8 @@ use Rattle.ram_place.specs.Placement.{IsPlacing, LiveFramesAreDisjoint, FramesAr
 use Rattle.sym_code.specs.declared.code.BlockName.TheVariants.{Copy}
 use Rattle.sym_code.specs.declared.code.Label.TheVariants.{Halt}
 use Rattle.sym_code.specs.declared.code.SymBlock.{SymBlock}
-use Rattle.code_place.specs.Places.{block_place, label_place, HoldsInstructions, IsErasedElsewhere, TargetsStand}
+use Rattle.code_place.specs.Places.{block_place, label_place, HoldsInstructions, TargetsStand}
+use Rattle.code_place.specs.Tables.{IsErasedElsewhere}
 use Rattle.program_code.specs.Passed.{IsPassed}
 use Rattle.program_code.specs.Stated.{IsPaged}
 
@@ -49,7 +50,7 @@ pub record IsImage (p : Program) (core : CoreProgram) (made : List SymBlock) (pl
   -- what objects begin with
   pub statics : map items_of core.statics.items ≡ first_bytes p
   pub words : HoldsInstructions placed made at image
-  pub erased : IsErasedElsewhere made at image
+  pub erased : IsErasedElsewhere made at [] image
   pub targets : TargetsStand made at
   pub main : block_place made at (Copy 0) ≡ Some content.main
   pub halt : label_place made at Halt ≡ Some content.halt

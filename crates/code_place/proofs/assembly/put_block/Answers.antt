@@ -8,7 +8,7 @@ pub row-requires-clause-fits : goal.row-requires-clause-fits
 row-requires-clause-fits c = well_formed_in _ _ _ _ c.deref-sym-items.ensures.value c.args.block.now.fits c.loop-sym-test.true
 
 pub row-requires-clause-named : goal.row-requires-clause-named
-row-requires-clause-named c = named_turn c.args.scope.placed.now (target_in c.args.scope.marks.now c.args.scope.inner.now) _ _ _ _ c.deref-sym-items.ensures.value c.loop-sym-test.true c.requires.named
+row-requires-clause-named c = named_turn c.args.scope.tables.now c.args.scope.placed.now (target_in c.args.scope.marks.now c.args.scope.inner.now) _ _ _ _ c.deref-sym-items.ensures.value c.loop-sym-test.true c.requires.named
 
 pub loop-sym-preserved : goal.loop-sym-preserved
 loop-sym-preserved c = block_more c.args.scope.placed.now (target_in c.args.scope.marks.now c.args.scope.inner.now) _ _ _ _ _ _ _ _ _ _ (list_of c.row.result) c.deref-sym-items.ensures.value c.loop-sym-test.true c.row.ensures.value c.loop-sym.invariant c.put_row-pc.ensures.image c.put_row-pc.ensures.behind

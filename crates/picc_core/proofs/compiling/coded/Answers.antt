@@ -1,4 +1,5 @@
 use Rattle.picc_core.proofs.Founding.{copies_low, statics_low, ready, stated, fit, named, ends}
+use Rattle.code_place.proofs.Tabled.{fit_without}
 use Rattle.picc_core.proofs.compiling.coded.Goals as goal
 
 pub lower-requires-clause-copies : goal.lower-requires-clause-copies
@@ -24,6 +25,9 @@ assemble-requires-clause-fit c =
 pub assemble-requires-clause-named : goal.assemble-requires-clause-named
 assemble-requires-clause-named c =
     named c.args.typed.now c.args.copies.now.list.items c.args.placed.now c.args.at.now c.requires c.in_ok-core.core c.in_ok-core.ensures.bodies c.in_ok-core.ensures.statics c.in_ok-program.program.blocks.items c.in_ok-program.ensures
+
+pub assemble-requires-clause-roomy : goal.assemble-requires-clause-roomy
+assemble-requires-clause-roomy c = fit_without c.args.placed.now c.in_ok-program.program.blocks.items c.args.at.now (assemble-requires-clause-named c)
 
 pub assemble-requires-clause-ends : goal.assemble-requires-clause-ends
 assemble-requires-clause-ends c =
