@@ -1,10 +1,9 @@
 #!/bin/sh
 # HEX files of picc on gpsim's models of the PIC16F877A and the PIC16F84 (the 84A is the same in faster silicon), which nobody of this
-# project wrote. examples/led.c: after 1,000 cycles PORTB's
-# latch holds 05h, and the program counter stands in the loop at the halt address of the map: at most two selects of the page, and a
-# jump back. Then each of examples/: the bytes that it writes to PORTB and PORTC, one behind the other, are those that `picc sim` prints
-# of the same file without input bytes and arrivals, as far as gpsim runs; and so `picc build84` and `picc sim84`. At last the commands of docs/tools.md, which shows what gpsim
-# 0.31.0 prints.
+# project wrote. examples/led.c: after 1,000 cycles PORTB's latch holds 05h, and the program counter stands in the loop at the halt
+# address of the map: at most two selects of the page, and a jump back. Then each of examples/: the bytes that it writes to PORTB and
+# PORTC, one behind the other, are those that `picc sim` prints of the same file without input bytes and arrivals, as far as gpsim runs;
+# and so of `picc build84` and `picc sim84`. At last the commands of docs/tools.md, which shows what gpsim 0.31.0 prints.
 set -u
 if ! command -v gpsim >/dev/null; then
     echo 'gpsim: skipped, since gpsim is not installed'
